@@ -1,0 +1,10 @@
+pub mod View
+pub mod Offset
+pub mod Order
+pub mod Reading
+pub mod Refusal
+pub mod OneByte
+pub mod Items
+pub mod Later
+pub mod ItemTurns
+pub mod Abbreviations

@@ -1,0 +1,20 @@
+-- What a reader holds: a byte order, the place of its first byte, and the bytes that are left (DWARF 5, 7.1 and 7.4).
+use Rattle.std.specs.Prelude.{ℕ, ◌+◌, Bool, List, [], length, take, drop}
+
+-- a byte order, the place of the first byte, and the bytes
+pub record View : Type 0 where
+  pub big : Bool
+  pub place : ℕ
+  pub bytes : List ℕ
+
+-- the view that begins n bytes later
+abbrev pub cut : ℕ → View → View
+cut n v = record { big = v.big; place = v.place + n; bytes = drop n v.bytes }
+
+-- the first n bytes
+abbrev pub front : ℕ → View → View
+front n v = record { big = v.big; place = v.place; bytes = take n v.bytes }
+
+-- no bytes, at the end of the view
+abbrev pub ended : View → View
+ended v = record { big = v.big; place = v.place + length v.bytes; bytes = [] }

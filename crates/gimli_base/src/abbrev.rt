@@ -1,0 +1,330 @@
+//! Abbreviations: the declared shapes of entries (DWARF 5, 7.5.3).
+
+ghost use Rattle.std.specs.Prelude.{ℕ, ◌≡◌, ◌≢◌, ◌==◌, [], is_some, if◌then◌else◌, Some, None, Option, OnOk, IfErr, IsSome};
+ghost use Rattle.std.specs.Option.{option_copied};
+ghost use Rattle.gimli_base.specs.Abbreviations.{
+  Specification,
+  Declaration,
+  Table,
+  IsWellFormed,
+  specification_at,
+  specifications_at,
+  declared_at,
+  declaration_at,
+  map_of,
+  map_at,
+  declarations_at,
+  found,
+};
+ghost use Rattle.gimli_base.specs.Offset.{answer_of};
+ghost use Rattle.gimli_base.specs.Reading.{read, filled, UnlessMemory};
+
+use crate::{
+    DW_AT_null, DW_CHILDREN_no, DW_CHILDREN_yes, DW_FORM_implicit_const, DW_FORM_null, DW_TAG_null,
+    DebugAbbrevOffset, DwAt, DwForm, DwTag, EndianSlice, Endianity, Error, Reader, Result,
+};
+use std::alloc::Allocator;
+use std::collections::BTreeMap;
+use std::fmt::Debug;
+use std::marker::Model;
+
+/// A declared attribute: its name, its form, and for the form implicit_const its number.
+#[derive(Clone, Copy, Debug, PartialEq, Eq)]
+pub struct AttributeSpecification {
+    name: DwAt,
+    form: DwForm,
+    implicit_const_value: Option<i64>,
+}
+
+impl Model for AttributeSpecification {
+    ghost Value = { Specification };
+
+    ghost view = { λ s. record { name = s.name; form = s.form; constant = s.implicit_const_value } };
+
+    ghost inverse = { λ s. record { name = s.name; form = s.form; implicit_const_value = s.constant } };
+
+    ghost invariant = { λ s. is_some s.implicit_const_value ≡ (s.form.0 == 0x21) };
+}
+
+impl AttributeSpecification {
+    /// A declared attribute; a number stands exactly with the form implicit_const.
+    pub fn new(name: DwAt, form: DwForm, implicit_const_value: Option<i64>) -> Self
+        requires { IsWellFormed (record { name = name; form = form; constant = implicit_const_value }) }
+        ensures { result ≡ record { name = name; form = form; constant = implicit_const_value } }
+    {
+        AttributeSpecification {
+            name,
+            form,
+            implicit_const_value,
+        }
+    }
+
+    /// The name.
+    #[inline]
+    pub fn name(&self) -> DwAt
+        ensures { result ≡ self.now.name }
+    {
+        self.name
+    }
+
+    /// The form.
+    #[inline]
+    pub fn form(&self) -> DwForm
+        ensures { result ≡ self.now.form }
+    {
+        self.form
+    }
+
+    /// The number that the form implicit_const has here.
+    #[inline]
+    pub fn implicit_const_value(&self) -> Option<i64>
+        ensures value { result ≡ self.now.constant }
+        ensures stands { is_some result ≡ (self.now.form.0 == 0x21) }
+    {
+        self.implicit_const_value
+    }
+
+    // The next declared attribute, or none where two zeros end the list; where it is refused, the input is left
+    // anywhere.
+    #[tactic(auto, unfolding(crate::specs::Abbreviations::specification_at))]
+    fn parse<R: Reader>(input: &mut R) -> Result<Option<AttributeSpecification>>
+        ensures { read result (R.view input.new) ≡ specification_at (R.view input.old) }
+    {
+        let name = DwAt(input.read_uleb128_u16()?);
+        let form = DwForm(input.read_uleb128_u16()?);
+        match (name, form) {
+            (DW_AT_null, DW_FORM_null) => Ok(None),
+            (DW_AT_null, _) => Err(Error::AttributeNameZero),
+            (_, DW_FORM_null) => Err(Error::AttributeFormZero),
+            (_, DW_FORM_implicit_const) => {
+                let value = input.read_sleb128()?;
+                Ok(Some(AttributeSpecification::new(name, form, Some(value))))
+            }
+            _ => Ok(Some(AttributeSpecification::new(name, form, None))),
+        }
+    }
+}
+
+/// The declaration of an abbreviation: a code, and the tag, the children flag and the attributes of its entries.
+#[derive(Drop)]
+pub struct Abbreviation<A: Allocator> {
+    code: u64,
+    tag: DwTag,
+    has_children: bool,
+    attributes: Vec<AttributeSpecification, A>,
+}
+
+impl<A: Allocator> Model for Abbreviation<A> {
+    ghost Value = { Declaration };
+
+    ghost view = { λ a. record { code = a.code; tag = a.tag; has_children = a.has_children; attributes = a.attributes.items } };
+
+    ghost invariant = { λ a. a.tag.0 ≢ 0 };
+}
+
+impl<A: Allocator> Abbreviation<A> {
+    /// The code by which entries name the abbreviation.
+    #[inline]
+    pub fn code(&self) -> u64
+        ensures { result ≡ self.now.code }
+    {
+        self.code
+    }
+
+    /// The tag of the entries, which is never 0.
+    #[inline]
+    pub fn tag(&self) -> DwTag
+        ensures value { result ≡ self.now.tag }
+        ensures set { result.0 ≢ 0 }
+    {
+        self.tag
+    }
+
+    /// Whether children follow the entries.
+    #[inline]
+    pub fn has_children(&self) -> bool
+        ensures { result ≡ self.now.has_children }
+    {
+        self.has_children
+    }
+
+    /// The attributes of the entries, in their order.
+    #[inline]
+    pub fn attributes(&self) -> &[AttributeSpecification]
+        ensures { result.now ≡ self.now.attributes }
+    {
+        &self.attributes
+    }
+}
+
+impl<A: Allocator + Copy> Abbreviation<A> {
+    // The declaration of a code, which is read already; where it is refused, the input is left anywhere.
+    #[tactic(auto, unfolding(crate::specs::Abbreviations::declared_at, crate::specs::Abbreviations::tag_at, crate::specs::Abbreviations::children_at))]
+    fn parse_declared<R: Reader>(alloc: A, input: &mut R, code: u64) -> Result<Abbreviation<A>>
+        ensures { UnlessMemory result (read result (R.view input.new) ≡ declared_at code (R.view input.old)) }
+    {
+        let tag = DwTag(input.read_uleb128_u16()?);
+        if tag == DW_TAG_null {
+            return Err(Error::AbbreviationTagZero);
+        }
+        let has_children = match input.read_u8()? {
+            DW_CHILDREN_no => false,
+            DW_CHILDREN_yes => true,
+            _ => return Err(Error::InvalidAbbreviationChildren),
+        };
+        let mut attributes = Vec::new(alloc);
+        parse_specifications(input, &mut attributes)?;
+        Ok(Abbreviation {
+            code,
+            tag,
+            has_children,
+            attributes,
+        })
+    }
+
+    // The next declaration, or none where the code 0 ends the table; where it is refused, the input is left anywhere.
+    #[tactic(auto, unfolding(crate::specs::Abbreviations::declaration_at))]
+    fn parse<R: Reader>(alloc: A, input: &mut R) -> Result<Option<Abbreviation<A>>>
+        ensures { UnlessMemory result (read result (R.view input.new) ≡ declaration_at (R.view input.old)) }
+    {
+        let code = input.read_uleb128()?;
+        if code == 0 {
+            return Ok(None);
+        }
+        let declared = Abbreviation::parse_declared(alloc, input, code)?;
+        Ok(Some(declared))
+    }
+}
+
+// The declared attributes up to two zeros, in place of those in `attributes`; where they are refused, the input and
+// the list are left anywhere.
+fn parse_specifications<R: Reader, A: Allocator>(
+    input: &mut R,
+    attributes: &mut Vec<AttributeSpecification, A>,
+) -> Result<()>
+    ensures { UnlessMemory result (read (filled attributes.new.items result) (R.view input.new) ≡ specifications_at (R.view input.old)) }
+{
+    attributes.clear();
+    while let Some(specification) = AttributeSpecification::parse(input)? {
+        attributes.push(specification)?;
+    }
+    Ok(())
+}
+
+/// A table of abbreviations: a finite map of codes to declarations.
+#[derive(Drop)]
+pub struct Abbreviations<A: Allocator> {
+    // those of the codes 1, 2, .. in order
+    dense: Vec<Abbreviation<A>, A>,
+    others: BTreeMap<u64, Abbreviation<A>, A>,
+}
+
+impl<A: Allocator> Model for Abbreviations<A> {
+    ghost Value = { Table };
+
+    ghost view = { λ t. record { dense = t.dense.items; others = t.others.entries } };
+}
+
+impl<A: Allocator> Abbreviations<A> {
+    /// The declaration of a code, if there is one: in constant time where the codes 1, 2, .. are declared in order,
+    /// else in logarithmic time.
+    #[inline]
+    #[tactic(auto, unfolding(crate::specs::Abbreviations::found))]
+    pub fn get(&self, code: u64) -> Option<&Abbreviation<A>>
+        ensures { option_copied result ≡ found self.now code }
+    {
+        if 0 < code {
+            let index = code - 1;
+            if index < self.dense.len() as u64 {
+                return Some(&self.dense[index as usize]);
+            }
+        }
+        self.others.get(&code)
+    }
+}
+
+impl<A: Allocator + Copy> Abbreviations<A> {
+    // A table without declarations.
+    fn new(alloc: A) -> Self
+        ensures { result ≡ record { dense = []; others = [] } }
+    {
+        Abbreviations {
+            dense: Vec::new(alloc),
+            others: BTreeMap::new(alloc),
+        }
+    }
+
+    // Adds a declaration. A code that is declared already is refused.
+    fn insert(&mut self, declared: Abbreviation<A>) -> Result<()>
+        ensures ok { OnOk result ((code : ℕ) → found self.new code ≡ (if declared.code == code then Some declared else found self.old code)) }
+        ensures new { OnOk result (found self.old declared.code ≡ None) }
+        ensures refused { UnlessMemory result (IfErr result (λ e. (e ≡ Error.DuplicateAbbreviationCode) × IsSome (found self.old declared.code))) }
+    {
+        let code = declared.code;
+        if self.get(code).is_some() {
+            return Err(Error::DuplicateAbbreviationCode);
+        }
+        if 0 < code && code - 1 == self.dense.len() as u64 {
+            self.dense.push(declared)?;
+            return Ok(());
+        }
+        self.others.insert(code, declared)?;
+        Ok(())
+    }
+
+    // The table of the declarations up to the code 0; where it is refused, the input is left anywhere.
+    fn parse<R: Reader>(alloc: A, input: &mut R) -> Result<Abbreviations<A>>
+        ensures { UnlessMemory result (answer_of found result ≡ map_of (declarations_at (R.view input.old))) }
+    {
+        let mut table = Abbreviations::new(alloc);
+        while let Some(declared) = Abbreviation::parse(alloc, input)? {
+            table.insert(declared)?;
+        }
+        Ok(table)
+    }
+}
+
+/// The section `.debug_abbrev`.
+#[derive(Clone, Copy, Debug, Default)]
+pub struct DebugAbbrev<R> {
+    section: R,
+}
+
+impl<'a, E: Endianity> DebugAbbrev<EndianSlice<'a, E>> {
+    /// The section of these bytes.
+    pub fn new(bytes: &'a [u8], endian: E) -> Self
+        ensures { ⟦<EndianSlice<'a, E> as Reader>⟧.view result.section ≡ record { big = E.big endian; place = 0; bytes = bytes.now } }
+    {
+        DebugAbbrev {
+            section: EndianSlice::new(bytes, endian),
+        }
+    }
+}
+
+impl<R> From<R> for DebugAbbrev<R> {
+    ghost from_gives = { λ r s. s.section ≡ r };
+
+    fn from(section: R) -> Self {
+        DebugAbbrev { section }
+    }
+}
+
+impl<R: Reader> DebugAbbrev<R> {
+    /// The table of the declarations at an offset of the section, up to the code 0 (DWARF 5, 7.5.3).
+    ///
+    /// Refusals: `UnexpectedEof`, also where the offset lies behind the section's end, `BadUnsignedLeb128`,
+    /// `BadSignedLeb128`, `AbbreviationTagZero`, `InvalidAbbreviationChildren`, `AttributeNameZero`,
+    /// `AttributeFormZero`, `DuplicateAbbreviationCode`, `OutOfMemory`.
+    #[tactic(auto, unfolding(crate::specs::Abbreviations::map_at))]
+    pub fn abbreviations<A: Allocator + Copy>(
+        &self,
+        alloc: A,
+        offset: DebugAbbrevOffset<R::Offset>,
+    ) -> Result<Abbreviations<A>>
+        ensures { UnlessMemory result (answer_of found result ≡ map_at (R.Offset.number offset.0) (R.view self.now.section)) }
+    {
+        let mut input = self.section.copy();
+        input.skip(offset.0)?;
+        Abbreviations::parse(alloc, &mut input)
+    }
+}

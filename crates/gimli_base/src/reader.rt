@@ -1,0 +1,321 @@
+//! Readers: what can be read next, and where.
+
+ghost use Rattle.std.specs.Prelude.{◌≡◌, ℕ, ◌+◌, ◌-◌, ◌<◌, ◌≤◌, ◌^◌, ◌↔◌, length, Bool, IsTrue, OnErr};
+ghost use Rattle.gimli_base.specs.Offset.{answer_of};
+ghost use Rattle.gimli_base.specs.View.{View, ended};
+ghost use Rattle.gimli_base.specs.Reading.{
+  read,
+  byte_at,
+  bytes_at,
+  uint_at,
+  uleb_at,
+  uleb16_at,
+  sleb_at,
+  skip_at,
+  split_at,
+  filled,
+  offset_at,
+  sized_offset_at,
+  text_at,
+  find_at,
+  initial_length_at,
+  address_size_at,
+  map_first,
+};
+
+use crate::leb128::{long_sleb128, long_uleb128, signed_bits};
+use crate::words::{word_16, word_32, word_64};
+use crate::{Endianity, Error, Format, ReaderOffset, ReaderOffsetId, Result};
+use std::fmt::Debug;
+
+/// A reader of bytes in a byte order.
+///
+/// Each call is a function of the reader's view: a byte order, the place of the first byte, and the bytes that are
+/// left. A refused call leaves the view as it was.
+pub trait Reader: Debug + Drop {
+    /// The byte order of numbers.
+    type Endian: Endianity;
+    /// The type of lengths and offsets.
+    type Offset: ReaderOffset;
+
+    // what the reader holds
+    ghost view: { Self → View };
+
+    /// The byte order.
+    fn endian(&self) -> Self::Endian
+        ensures { Self.Endian.big result ≡ (view self.now).big };
+
+    /// The number of bytes that are left.
+    fn len(&self) -> Self::Offset
+        ensures { Self.Offset.number result ≡ length (view self.now).bytes };
+
+    /// The place of the next byte, or of the end where there is none.
+    fn offset_id(&self) -> ReaderOffsetId
+        ensures { result ≡ record { 0 = (view self.now).place } };
+
+    /// A reader of the same view.
+    fn copy(&self) -> Self
+        ensures { view result ≡ view self.now };
+
+    /// Passes `n` bytes. Refusal: `UnexpectedEof` where there are fewer.
+    fn skip(&mut self, n: Self::Offset) -> Result<()>
+        ensures value { read result (view self.new) ≡ skip_at (Self.Offset.number n) (view self.old) }
+        ensures kept { OnErr result (view self.new ≡ view self.old) };
+
+    /// A reader of the next `n` bytes, which are passed. Refusal: `UnexpectedEof` where there are fewer.
+    fn split(&mut self, n: Self::Offset) -> Result<Self>
+        ensures value { read (answer_of view result) (view self.new) ≡ split_at (Self.Offset.number n) (view self.old) }
+        ensures kept { OnErr result (view self.new ≡ view self.old) };
+
+    /// The next byte. Refusal: `UnexpectedEof`.
+    fn read_u8(&mut self) -> Result<u8>
+        ensures value { read result (view self.new) ≡ byte_at (view self.old) }
+        ensures kept { OnErr result (view self.new ≡ view self.old) };
+
+    /// Fills `into` with the next bytes. Refusal: `UnexpectedEof` where there are fewer.
+    fn read_slice(&mut self, into: &mut [u8]) -> Result<()>
+        ensures value { read (filled into.new result) (view self.new) ≡ bytes_at (length into.old) (view self.old) }
+        ensures kept { OnErr result (view self.new ≡ view self.old) };
+
+    /// The number of bytes before the first `byte`. Refusal: `UnexpectedEof` where there is none.
+    fn find(&self, byte: u8) -> Result<Self::Offset>
+        ensures { answer_of Self.Offset.number result ≡ find_at byte (view self.now) };
+
+    ghost length_fits: { (r : Self) → length (view r).bytes < 2 ^ 63 };
+
+    ghost length_fits_offset: { (r : Self) → length (view r).bytes < Self.Offset.limit };
+
+    ghost end_fits: { (r : Self) → (view r).place + length (view r).bytes < 2 ^ 64 };
+
+    /// Whether no byte is left.
+    #[inline]
+    final fn is_empty(&self) -> bool
+        ensures { IsTrue result ↔ (length (view self.now).bytes ≡ 0) }
+    {
+        self.len().into_u64() == 0
+    }
+
+    /// Passes all bytes.
+    #[tactic(auto, unfolding(crate::specs::Reading::skip_at))]
+    final fn empty(&mut self)
+        ensures { view self.new ≡ ended (view self.old) }
+    {
+        let all = self.len();
+        let _ = self.skip(all);
+    }
+
+    /// The next two bytes as a number. Refusal: `UnexpectedEof`.
+    #[inline]
+    #[tactic(auto, unfolding(crate::specs::Reading::uint_at))]
+    final fn read_u16(&mut self) -> Result<u16>
+        ensures value { read result (view self.new) ≡ uint_at 2 (view self.old) }
+        ensures kept { OnErr result (view self.new ≡ view self.old) }
+    {
+        let big = self.endian().is_big_endian();
+        let mut bytes = [0; 2];
+        self.read_slice(&mut bytes)?;
+        Ok(word_16(big, bytes))
+    }
+
+    /// The next four bytes as a number. Refusal: `UnexpectedEof`.
+    #[inline]
+    #[tactic(auto, unfolding(crate::specs::Reading::uint_at))]
+    final fn read_u32(&mut self) -> Result<u32>
+        ensures value { read result (view self.new) ≡ uint_at 4 (view self.old) }
+        ensures kept { OnErr result (view self.new ≡ view self.old) }
+    {
+        let big = self.endian().is_big_endian();
+        let mut bytes = [0; 4];
+        self.read_slice(&mut bytes)?;
+        Ok(word_32(big, bytes))
+    }
+
+    /// The next eight bytes as a number. Refusal: `UnexpectedEof`.
+    #[inline]
+    #[tactic(auto, unfolding(crate::specs::Reading::uint_at))]
+    final fn read_u64(&mut self) -> Result<u64>
+        ensures value { read result (view self.new) ≡ uint_at 8 (view self.old) }
+        ensures kept { OnErr result (view self.new ≡ view self.old) }
+    {
+        let big = self.endian().is_big_endian();
+        let mut bytes = [0; 8];
+        self.read_slice(&mut bytes)?;
+        Ok(word_64(big, bytes))
+    }
+
+    /// The next unsigned LEB128 number, of at most ten bytes (DWARF 5, 7.6). Refusals: `UnexpectedEof`, with the
+    /// place of the input's end; `BadUnsignedLeb128` where the number has more than 64 bits.
+    #[inline]
+    #[tactic(auto, unfolding(crate::specs::Reading::uleb_at, crate::specs::Reading::uleb_within))]
+    final fn read_uleb128(&mut self) -> Result<u64>
+        ensures value { read result (view self.new) ≡ uleb_at (view self.old) }
+        ensures kept { OnErr result (view self.new ≡ view self.old) }
+    {
+        let mut rest = self.copy();
+        let low = rest.read_u8()?;
+        if low < 128 {
+            *self = rest;
+            return Ok(u64::from(low));
+        }
+        let high = rest.read_u8()?;
+        if high < 128 {
+            *self = rest;
+            return Ok(u64::from(low - 128) + 128 * u64::from(high));
+        }
+        let mut whole = self.copy();
+        let value = long_uleb128(&mut whole)?;
+        *self = whole;
+        Ok(value)
+    }
+
+    /// The next unsigned LEB128 number of 16 bits, of at most three bytes, as tags, names and forms are written.
+    /// Refusals: `UnexpectedEof`, with the place of the input's end; `BadUnsignedLeb128` where the number has more
+    /// than 16 bits.
+    #[inline]
+    #[tactic(auto, unfolding(crate::specs::Reading::uleb16_at, crate::specs::Reading::uleb_within))]
+    final fn read_uleb128_u16(&mut self) -> Result<u16>
+        ensures value { read result (view self.new) ≡ uleb16_at (view self.old) }
+        ensures kept { OnErr result (view self.new ≡ view self.old) }
+    {
+        let mut rest = self.copy();
+        let low = rest.read_u8()?;
+        if low < 128 {
+            *self = rest;
+            return Ok(u16::from(low));
+        }
+        let middle = rest.read_u8()?;
+        if middle < 128 {
+            *self = rest;
+            return Ok(u16::from(low - 128) + 128 * u16::from(middle));
+        }
+        let high = rest.read_u8()?;
+        if high > 3 {
+            return Err(Error::BadUnsignedLeb128);
+        }
+        *self = rest;
+        Ok(u16::from(low - 128) + 128 * (u16::from(middle - 128) + 128 * u16::from(high)))
+    }
+
+    /// The next signed LEB128 number, of at most ten bytes (DWARF 5, 7.6). Refusals: `UnexpectedEof`, with the place
+    /// of the input's end; `BadSignedLeb128` where the number has more than 64 bits.
+    #[inline]
+    #[tactic(auto, unfolding(crate::specs::Reading::sleb_at, crate::specs::Reading::sleb_within))]
+    final fn read_sleb128(&mut self) -> Result<i64>
+        ensures value { read result (view self.new) ≡ sleb_at (view self.old) }
+        ensures kept { OnErr result (view self.new ≡ view self.old) }
+    {
+        let mut rest = self.copy();
+        let low = rest.read_u8()?;
+        if low < 128 {
+            *self = rest;
+            return Ok(signed_bits(low));
+        }
+        let high = rest.read_u8()?;
+        if high < 128 {
+            *self = rest;
+            return Ok(i64::from(low - 128) + 128 * signed_bits(high));
+        }
+        let mut whole = self.copy();
+        let value = long_sleb128(&mut whole)?;
+        *self = whole;
+        Ok(value)
+    }
+
+    /// The length of a unit, and the format that it shows (DWARF 5, 7.2.2 and 7.4). Refusals: `UnexpectedEof`,
+    /// `UnknownReservedLength`, `UnsupportedOffset`.
+    final fn read_initial_length(&mut self) -> Result<(Self::Offset, Format)>
+        ensures value { read (answer_of (map_first Self.Offset.number) result) (view self.new) ≡ initial_length_at Self.Offset.limit (view self.old) }
+        ensures kept { OnErr result (view self.new ≡ view self.old) }
+    {
+        let mut rest = self.copy();
+        let length = initial_length(&mut rest)?;
+        *self = rest;
+        Ok(length)
+    }
+
+    /// The next byte, as the number of bytes of an address: 1, 2, 4 or 8. Refusals: `UnexpectedEof`,
+    /// `UnsupportedAddressSize`.
+    #[tactic(auto, unfolding(crate::specs::Reading::address_size_at))]
+    final fn read_address_size(&mut self) -> Result<u8>
+        ensures value { read result (view self.new) ≡ address_size_at (view self.old) }
+        ensures kept { OnErr result (view self.new ≡ view self.old) }
+    {
+        let mut rest = self.copy();
+        let size = rest.read_u8()?;
+        match size {
+            1 | 2 | 4 | 8 => {
+                *self = rest;
+                Ok(size)
+            }
+            _ => Err(Error::UnsupportedAddressSize(size)),
+        }
+    }
+
+    /// The next 4 or 8 bytes, by the format, as an offset. Refusals: `UnexpectedEof`, `UnsupportedOffset`.
+    #[inline]
+    #[tactic(auto, unfolding(crate::specs::Reading::offset_at))]
+    final fn read_offset(&mut self, format: Format) -> Result<Self::Offset>
+        ensures value { read (answer_of Self.Offset.number result) (view self.new) ≡ offset_at Self.Offset.limit format (view self.old) }
+        ensures kept { OnErr result (view self.new ≡ view self.old) }
+    {
+        let mut rest = self.copy();
+        let value = match format {
+            Format::Dwarf32 => u64::from(rest.read_u32()?),
+            Format::Dwarf64 => rest.read_u64()?,
+        };
+        let offset = Self::Offset::from_u64(value)?;
+        *self = rest;
+        Ok(offset)
+    }
+
+    /// The next 1, 2, 4 or 8 bytes, as an offset. Refusals: `UnexpectedEof`, `UnsupportedOffset`,
+    /// `UnsupportedOffsetSize` for any other size.
+    #[inline]
+    #[tactic(auto, using(crate::specs::OneByte::one_byte), unfolding(crate::specs::Reading::sized_offset_at))]
+    final fn read_sized_offset(&mut self, size: u8) -> Result<Self::Offset>
+        ensures value { read (answer_of Self.Offset.number result) (view self.new) ≡ sized_offset_at Self.Offset.limit size (view self.old) }
+        ensures kept { OnErr result (view self.new ≡ view self.old) }
+    {
+        let mut rest = self.copy();
+        let value = match size {
+            1 => u64::from(rest.read_u8()?),
+            2 => u64::from(rest.read_u16()?),
+            4 => u64::from(rest.read_u32()?),
+            8 => rest.read_u64()?,
+            _ => return Err(Error::UnsupportedOffsetSize(size)),
+        };
+        let offset = Self::Offset::from_u64(value)?;
+        *self = rest;
+        Ok(offset)
+    }
+
+    /// A reader of the bytes before the first zero, which is passed too. Refusal: `UnexpectedEof` where there is
+    /// no zero, with the place where the text begins.
+    #[tactic(auto, unfolding(crate::specs::Reading::text_at))]
+    final fn read_null_terminated_slice(&mut self) -> Result<Self>
+        ensures value { read (answer_of view result) (view self.new) ≡ text_at (view self.old) }
+        ensures kept { OnErr result (view self.new ≡ view self.old) }
+    {
+        let length = self.find(0)?;
+        let mut rest = self.copy();
+        let text = rest.split(length)?;
+        let _ = rest.read_u8()?;
+        *self = rest;
+        Ok(text)
+    }
+}
+
+// The length of a unit; where it is refused, the reader is left anywhere.
+#[tactic(auto, unfolding(crate::specs::Reading::initial_length_at))]
+fn initial_length<R: Reader>(reader: &mut R) -> Result<(R::Offset, Format)>
+    ensures { read (answer_of (map_first R.Offset.number) result) (R.view reader.new) ≡ initial_length_at R.Offset.limit (R.view reader.old) }
+{
+    let length = reader.read_u32()?;
+    if length < 0xffff_fff0 {
+        Ok((R::Offset::from_u64(u64::from(length))?, Format::Dwarf32))
+    } else if length == 0xffff_ffff {
+        Ok((reader.read_offset(Format::Dwarf64)?, Format::Dwarf64))
+    } else {
+        Err(Error::UnknownReservedLength)
+    }
+}
