@@ -1,56 +1,102 @@
 //! A reader over a slice.
 
-ghost use Rattle.std.specs.Prelude.{◌≡◌, ℕ, ◌+◌, ◌-◌, ◌<◌, ◌≤◌, ◌^◌, length, Bool, ⊤, IfSome};
+ghost use Rattle.std.specs.Prelude.{◌≡◌, ℕ, ◌+◌, ◌-◌, ◌<◌, ◌≤◌, ◌^◌, length, Bool, ⊤, IfSome, ◌==◌, ◌++◌, nat_eq, []};
+ghost use Rattle.std.specs.Cmp.{and_per, on_per, nat_eq_equiv, partial_equiv_from_equiv};
+ghost use Rattle.std.specs.Cmp.Lexicographic.{pointwise, lists_per};
+ghost use Rattle.std.specs.Cmp.Rules.{comparing, hashing};
+ghost use Rattle.std.specs.Hash as fed;
+ghost use Rattle.std.specs.Ordering.{on, eq_of_both};
+ghost use Rattle.std.proofs.Common.{arith, rules};
 ghost use Rattle.std.specs.List.{position};
-ghost use Rattle.std.specs.Prelude.{◌==◌};
-ghost use Rattle.std.proofs.Common.{arith};
 
 use crate::{Endianity, Error, Reader, ReaderOffsetId, Result};
 use std::alloc::AllocError;
+use std::fmt::{self, Debug};
+use std::hash::{Hash, Hasher};
+use std::marker::PhantomData;
 
 /// A reader that keeps the bytes that are left, with offsets of `usize`.
 ///
 /// Two of them are equal where their bytes and byte orders are, wherever they stand.
-#[derive(Debug)]
-#[derive_where(PartialEq, Eq, Hash; E)]
-pub struct EndianSlice<'a, E> {
+pub struct EndianSlice<'a, E, K = <E as Endianity>::Kept> {
     bytes: &'a [u8],
-    endian: E,
-    // equality looks at what is there, wherever it stands
-    #[derive_where(skip(EqHashOrd))]
+    // the byte order, as `E` has it kept
+    kept: K,
     place: u64,
+    order: PhantomData<E>,
     ghost length_fits: { length bytes.now < 2 ^ 63 },
     ghost end_fits: { place + length bytes.now < 2 ^ 64 },
 }
 
-impl<'a, E: Copy> Clone for EndianSlice<'a, E> {
-    ghost is_clone = { λ r copy. (copy.bytes.now ≡ r.bytes.now) × (copy.endian ≡ r.endian) × (copy.place ≡ r.place) };
+impl<'a, E, K: Copy> Clone for EndianSlice<'a, E, K> {
+    ghost is_clone = { λ r copy. (copy.bytes.now ≡ r.bytes.now) × (copy.kept ≡ r.kept) × (copy.place ≡ r.place) };
 
     ghost is_infallible = { λ _. ⊤ };
 
     fn clone(&self) -> std::result::Result<Self, AllocError> {
         Ok(EndianSlice {
             bytes: self.bytes,
-            endian: self.endian,
+            kept: self.kept,
             place: self.place,
+            order: PhantomData,
         })
     }
 }
 
-impl<'a, E: Copy> Copy for EndianSlice<'a, E> {}
+impl<'a, E, K: Copy> Copy for EndianSlice<'a, E, K> {}
 
-impl<'a, E: Default> Default for EndianSlice<'a, E> {
+impl<'a, E: Endianity + Default> Default for EndianSlice<'a, E> {
+    ghost is_default = { λ r. (r.bytes.now ≡ []) × E.is_default (E.order r.kept) × (r.place ≡ 0) };
+
     fn default() -> Self {
         EndianSlice {
             bytes: &[],
-            endian: E::default(),
+            kept: E::default().kept(),
             place: 0,
+            order: PhantomData,
         }
+    }
+}
+
+impl<'a, E: Endianity> Debug for EndianSlice<'a, E> {
+    fn fmt<W: fmt::Write>(&self, f: &mut fmt::Formatter<W>) -> fmt::Result {
+        f.debug_struct("EndianSlice")
+            .field("bytes", &self.bytes)
+            .field("endian", &E::from_kept(self.kept))
+            .field("place", &self.place)
+            .finish()
+    }
+}
+
+// Two readers are equal where their bytes and byte orders are, wherever they stand.
+impl<'a, E: Endianity> PartialEq for EndianSlice<'a, E> {
+    ghost eq = { eq_of_both (on (λ r. r.bytes.now) (pointwise nat_eq)) (on (λ r. E.order r.kept) E.PartialEq.eq) };
+
+    ghost laws = { and_per (on_per (λ r. r.bytes.now) (lists_per (partial_equiv_from_equiv nat_eq_equiv))) (on_per (λ r. E.order r.kept) E.PartialEq.laws) };
+
+    fn eq(&self, other: &Self) -> bool {
+        self.bytes == other.bytes && E::from_kept(self.kept) == E::from_kept(other.kept)
+    }
+}
+
+impl<'a, E: Endianity> Eq for EndianSlice<'a, E> {
+    ghost laws = { Prim.search (comparing, rules) };
+}
+
+impl<'a, E: Endianity + Hash> Hash for EndianSlice<'a, E> {
+    ghost hash_input = { λ r. fed.slice fed.u8 r.bytes.now ++ E.Hash.hash_input (E.Endianity.order r.kept) };
+
+    ghost respects_eq = { Prim.search (hashing, rules) };
+
+    fn hash<H: Hasher>(&self, state: &mut H) {
+        self.bytes.hash(state);
+        E::from_kept(self.kept).hash(state);
     }
 }
 
 impl<'a, E: Endianity> EndianSlice<'a, E> {
     /// A reader of `bytes` whose first place is 0.
+    #[inline]
     pub fn new(bytes: &'a [u8], endian: E) -> Self
         ensures { ⟦<EndianSlice<'a, E> as Reader>⟧.view result ≡ record { big = E.big endian; place = 0; bytes = bytes.now } }
     {
@@ -66,8 +112,24 @@ impl<'a, E: Endianity> EndianSlice<'a, E> {
         let _length = bytes.len();
         EndianSlice {
             bytes,
-            endian,
+            kept: endian.kept(),
             place,
+            order: PhantomData,
+        }
+    }
+
+    // The reader of `bytes` at `place`, in the byte order that is kept
+    #[inline]
+    fn at(bytes: &'a [u8], kept: E::Kept, place: u64) -> Self
+        requires { place + length bytes.now < 2 ^ 64 }
+        ensures { ⟦<EndianSlice<'a, E> as Reader>⟧.view result ≡ record { big = E.big (E.order kept); place = place; bytes = bytes.now } }
+    {
+        let _length = bytes.len();
+        EndianSlice {
+            bytes,
+            kept,
+            place,
+            order: PhantomData,
         }
     }
 
@@ -85,11 +147,11 @@ impl<'a, E: Endianity> Reader for EndianSlice<'a, E> {
 
     type Offset = usize;
 
-    ghost view = { λ r. record { big = E.big r.endian; place = r.place; bytes = r.bytes.now } };
+    ghost view = { λ r. record { big = E.big (E.order r.kept); place = r.place; bytes = r.bytes.now } };
 
     #[inline]
     fn endian(&self) -> E {
-        self.endian
+        E::from_kept(self.kept)
     }
 
     #[inline]
@@ -106,52 +168,53 @@ impl<'a, E: Endianity> Reader for EndianSlice<'a, E> {
     fn copy(&self) -> Self {
         EndianSlice {
             bytes: self.bytes,
-            endian: self.endian,
+            kept: self.kept,
             place: self.place,
+            order: PhantomData,
         }
     }
 
-    #[inline]
     #[tactic(auto, unfolding(crate::specs::Reading::skip_at))]
+    #[inline]
     fn skip(&mut self, n: usize) -> Result<()> {
         if n <= self.bytes.len() {
-            *self = EndianSlice::new_at(&self.bytes[n..], self.endian, self.place + n as u64);
+            *self = Self::at(&self.bytes[n..], self.kept, self.place + n as u64);
             Ok(())
         } else {
             Err(Error::UnexpectedEof(self.offset_id()))
         }
     }
 
-    #[inline]
     #[tactic(auto, unfolding(crate::specs::Reading::split_at))]
+    #[inline]
     fn split(&mut self, n: usize) -> Result<Self> {
         if n <= self.bytes.len() {
-            let front = EndianSlice::new_at(&self.bytes[..n], self.endian, self.place);
-            *self = EndianSlice::new_at(&self.bytes[n..], self.endian, self.place + n as u64);
+            let front = Self::at(&self.bytes[..n], self.kept, self.place);
+            *self = Self::at(&self.bytes[n..], self.kept, self.place + n as u64);
             Ok(front)
         } else {
             Err(Error::UnexpectedEof(self.offset_id()))
         }
     }
 
-    #[inline]
     #[tactic(auto, unfolding(crate::specs::Reading::byte_at))]
+    #[inline]
     fn read_u8(&mut self) -> Result<u8> {
         if self.bytes.is_empty() {
             return Err(Error::UnexpectedEof(self.offset_id()));
         }
         let byte = self.bytes[0];
-        *self = EndianSlice::new_at(&self.bytes[1..], self.endian, self.place + 1);
+        *self = Self::at(&self.bytes[1..], self.kept, self.place + 1);
         Ok(byte)
     }
 
-    #[inline]
     #[tactic(auto, unfolding(crate::specs::Reading::bytes_at))]
+    #[inline]
     fn read_slice(&mut self, into: &mut [u8]) -> Result<()> {
         let n = into.len();
         if n <= self.bytes.len() {
             into.copy_from_slice(&self.bytes[..n]);
-            *self = EndianSlice::new_at(&self.bytes[n..], self.endian, self.place + n as u64);
+            *self = Self::at(&self.bytes[n..], self.kept, self.place + n as u64);
             Ok(())
         } else {
             Err(Error::UnexpectedEof(self.offset_id()))

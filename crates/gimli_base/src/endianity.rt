@@ -1,19 +1,39 @@
 //! Byte orders (DWARF 5, 7.1).
 
-ghost use Rattle.std.specs.Prelude.{◌≡◌, Bool, true, false};
-ghost use Rattle.gimli_base.specs.declared.endianity.RunTimeEndian.{RunTimeEndian};
-ghost use Rattle.gimli_base.specs.Order.{is_big};
+ghost use Rattle.std.specs.Prelude.{◌≡◌, Bool, true, false, refl};
+ghost use Rattle.gimli_base.specs.Order.{is_big, flag_of, order_of, order_back};
 
 use std::fmt::Debug;
 
 /// A byte order.
 pub trait Endianity: Copy + Debug + Eq {
+    /// What a reader keeps of the order: a form as wide as its other fields, or with no width. A
+    /// narrower one would leave padding in the reader, which is copied in pieces wherever a value
+    /// with a reader inside moves.
+    type Kept: Copy;
+
     // whether the highest byte comes first
     ghost big: { Self → Bool };
+
+    // the kept form of an order, and the order of a kept form
+    ghost kept: { Self → Self.Kept };
+
+    ghost order: { Self.Kept → Self };
 
     /// Whether the highest byte comes first.
     fn is_big_endian(self) -> bool
         ensures { result ≡ big self };
+
+    /// The form in which a reader keeps the order.
+    fn kept(self) -> Self::Kept
+        ensures { result ≡ kept self };
+
+    /// The order of a kept form.
+    fn from_kept(form: Self::Kept) -> Self
+        ensures { result ≡ order form };
+
+    // nothing of an order is lost where it is kept
+    ghost order_back: { (e : Self) → order (kept e) ≡ e };
 }
 
 /// The lowest byte comes first.
@@ -21,12 +41,28 @@ pub trait Endianity: Copy + Debug + Eq {
 pub struct LittleEndian;
 
 impl Endianity for LittleEndian {
+    type Kept = ();
+
     ghost big = { λ _. false };
+
+    ghost kept = { λ _. tt };
+
+    ghost order = { λ _. record {} };
 
     #[inline]
     fn is_big_endian(self) -> bool {
         false
     }
+
+    #[inline]
+    fn kept(self) {}
+
+    #[inline]
+    fn from_kept(_form: ()) -> LittleEndian {
+        LittleEndian
+    }
+
+    ghost order_back = { λ e. refl };
 }
 
 /// The highest byte comes first.
@@ -34,12 +70,28 @@ impl Endianity for LittleEndian {
 pub struct BigEndian;
 
 impl Endianity for BigEndian {
+    type Kept = ();
+
     ghost big = { λ _. true };
+
+    ghost kept = { λ _. tt };
+
+    ghost order = { λ _. record {} };
 
     #[inline]
     fn is_big_endian(self) -> bool {
         true
     }
+
+    #[inline]
+    fn kept(self) {}
+
+    #[inline]
+    fn from_kept(_form: ()) -> BigEndian {
+        BigEndian
+    }
+
+    ghost order_back = { λ e. refl };
 }
 
 /// An order that is known when the program runs.
@@ -52,7 +104,14 @@ pub enum RunTimeEndian {
 }
 
 impl Endianity for RunTimeEndian {
+    // as wide as the fields beside it in a reader
+    type Kept = u64;
+
     ghost big = { is_big };
+
+    ghost kept = { flag_of };
+
+    ghost order = { order_of };
 
     #[inline]
     fn is_big_endian(self) -> bool {
@@ -61,4 +120,23 @@ impl Endianity for RunTimeEndian {
             RunTimeEndian::Big => true,
         }
     }
+
+    #[inline]
+    fn kept(self) -> u64 {
+        match self {
+            RunTimeEndian::Little => 0,
+            RunTimeEndian::Big => 1,
+        }
+    }
+
+    #[inline]
+    fn from_kept(form: u64) -> RunTimeEndian {
+        if form == 0 {
+            RunTimeEndian::Little
+        } else {
+            RunTimeEndian::Big
+        }
+    }
+
+    ghost order_back = { order_back };
 }
