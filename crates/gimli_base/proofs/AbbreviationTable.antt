@@ -6,7 +6,8 @@ use Rattle.std.specs.Ordering.{nat_cmp}
 use Rattle.std.specs.BTreeMap.{is_at}
 use Rattle.std.specs.Map.{lookup}
 use Rattle.std.proofs.lemmas.Bool.Decides.{eqb_tells}
-use Rattle.gimli_base.specs.Abbreviations.{Declaration, found}
+use Rattle.gimli_base.specs.Abbreviations.{Declaration}
+use Rattle.gimli_base.specs.Table.{found}
 
 abbrev find_in : List (ℕ × Declaration) → ℕ → Option Declaration
 find_in others code = lookup (is_at (nat_cmp code)) others

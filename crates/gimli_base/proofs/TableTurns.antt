@@ -7,7 +7,8 @@ use Rattle.gimli_base.specs.declared.error.Error.TheVariants.{DuplicateAbbreviat
 use Rattle.gimli_base.specs.View.{View}
 use Rattle.gimli_base.specs.Items.{Items, items_within}
 use Rattle.gimli_base.specs.ItemTurns.{ItemsSoFar, items_begin, items_more, items_refused, items_end}
-use Rattle.gimli_base.specs.Abbreviations.{Declaration, Table, found, declaration_of, repeats, map_of, declaration_at, declarations_at}
+use Rattle.gimli_base.specs.Abbreviations.{Declaration, declaration_of, repeats, map_of, declaration_at, declarations_at}
+use Rattle.gimli_base.specs.Table.{Table, found}
 use Rattle.gimli_base.proofs.AbbreviationMap.{declaration_of-last, repeats-again, repeats-new}
 
 -- the table has the declarations that were read so far, none twice

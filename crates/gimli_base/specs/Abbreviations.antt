@@ -1,8 +1,5 @@
 -- The declarations of abbreviations, and the finite map of codes to declarations that they make (DWARF 5, 7.5.3).
-use Rattle.std.specs.Prelude.{◌≡◌, ℕ, ℤ, Bool, true, false, ◌||◌, ◌==◌, if◌then◌else◌, is_some, length, List, [], ◌∷◌, Option, Some, None, Result, Ok, Err, nat_lt, ◌&&◌, ◌-◌, slice_get}
-use Rattle.std.specs.Ordering.{nat_cmp}
-use Rattle.std.specs.Map.{lookup}
-use Rattle.std.specs.BTreeMap.{is_at}
+use Rattle.std.specs.Prelude.{◌≡◌, ℕ, ℤ, Bool, true, false, ◌||◌, ◌==◌, if◌then◌else◌, is_some, List, [], ◌∷◌, Option, Some, None, Result, Ok, Err}
 use Rattle.gimli_base.specs.declared.constants.DwTag.{DwTag}
 use Rattle.gimli_base.specs.declared.constants.DwAt.{DwAt}
 use Rattle.gimli_base.specs.declared.constants.DwForm.{DwForm}
@@ -29,7 +26,7 @@ pub record Declaration : Type 0 where
   pub has_children : Bool
   pub attributes : List Specification
 
--- the next declared attribute, or none where two zeros end the list
+-- the next declared attribute, or none where two zeros end the list; 0x21 is implicit_const, whose number follows
 unfoldable pub specification_at : View → Reads (Option Specification)
 specification_at v =
     uleb16_at v >>= λ name. uleb16_at name.1 >>= λ form.
@@ -88,13 +85,3 @@ map_of ds = if repeats ds.items then Err DuplicateAbbreviationCode else elim ds.
 -- the map of the declarations at an offset
 unfoldable pub map_at : ℕ → View → Result Map Error
 map_at offset v = elim (skip_at offset v) [ Ok p ↦ map_of (declarations_at p.1) | Err e ↦ Err e ]
-
--- how a table keeps its declarations: those of the codes 1, 2, .. in order, and the others by code
-pub record Table : Type 0 where
-  pub dense : List Declaration
-  pub others : List (ℕ × Declaration)
-
--- what is declared under a code
-unfoldable pub found : Table → Map
-found t code =
-    if (nat_lt 0 code && nat_lt (code - 1) (length t.dense)) then slice_get t.dense (code - 1) else lookup (is_at (nat_cmp code)) t.others

@@ -8,3 +8,4 @@ pub mod Items
 pub mod Later
 pub mod ItemTurns
 pub mod Abbreviations
+pub mod Table

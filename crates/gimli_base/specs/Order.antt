@@ -1,4 +1,4 @@
--- The byte order that is chosen when the program runs, and the form in which a reader keeps it (DWARF 5, 7.1).
+-- The byte order that is chosen when the program runs, and the form in which a reader keeps it.
 use Rattle.std.specs.Prelude.{ℕ, zero, suc, Bool, true, false, ◌≡◌, refl}
 use Rattle.gimli_base.specs.declared.endianity.RunTimeEndian.{RunTimeEndian}
 use Rattle.gimli_base.specs.declared.endianity.RunTimeEndian.TheVariants.{Little, Big}

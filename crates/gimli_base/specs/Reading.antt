@@ -1,4 +1,4 @@
--- What each read makes of a view: a value and the view that is left, or a refusal (DWARF 5, 7.4 to 7.6).
+-- What each read makes of a view: a value and the view that is left, or a refusal (DWARF 5, 7.2.2, 7.4 and 7.6).
 use Rattle.std.specs.Prelude.{◌≡◌, ℕ, zero, suc, ◌+◌, ◌*◌, ◌-◌, nat_lt, nat_le, if◌then◌else◌, Bool, List, [], ◌∷◌, length, take, reverse, slice_index, Result, Ok, Err, ◌==◌, ◌||◌, Some, None, ℤ, pos, ◌+ℤ◌, ◌-ℤ◌, ◌*ℤ◌}
 use Rattle.std.specs.List.{position}
 use Rattle.gimli_base.specs.declared.error.Error.{Error}
@@ -31,9 +31,11 @@ Err e >>= f = Err e
 abbrev pub made : {A B : Type 0} → (A → B) → Reads A → Reads B
 made f r = r >>= λ p. Ok (f p.0, p.1)
 
+-- passes n bytes
 unfoldable pub skip_at : ℕ → View → Reads (Unit {0})
 skip_at n v = if nat_le n (length v.bytes) then Ok (tt, cut n v) else Err (eof v)
 
+-- the next n bytes as a view of their own
 unfoldable pub split_at : ℕ → View → Reads View
 split_at n v = if nat_le n (length v.bytes) then Ok (front n v, cut n v) else Err (eof v)
 
@@ -45,12 +47,12 @@ byte_at v = if nat_lt 0 (length v.bytes) then Ok (slice_index v.bytes 0, cut 1 v
 unfoldable pub bytes_at : ℕ → View → Reads (List ℕ)
 bytes_at n v = if nat_le n (length v.bytes) then Ok (take n v.bytes, cut n v) else Err (eof v)
 
--- what a call that fills a place with x has read
+-- the answer of a call that leaves its value x in a place of the caller's
 abbrev pub filled : {A B : Type 0} → A → Result B Error → Result A Error
 filled x (Ok _) = Ok x
 filled x (Err e) = Err e
 
--- the number whose digits to base 256 are a and then the list's
+-- a number to base 256, of which a is read already, and then these digits
 abbrev pub digits : ℕ → List ℕ → ℕ
 digits a [] = a
 digits a (x ∷ xs) = digits (a * 256 + x) xs
@@ -63,7 +65,7 @@ number big xs = digits 0 (if big then xs else reverse xs)
 unfoldable pub uint_at : ℕ → View → Reads ℕ
 uint_at n v = made (number v.big) (bytes_at n v)
 
--- an unsigned LEB128 number of at most n bytes and one: 7 bits a byte, lowest first, up to a byte below 128;
+-- an unsigned LEB128 number of at most n + 1 bytes: 7 bits a byte, lowest first, up to a byte below 128;
 -- the last byte that there may be is at most `top`
 unfoldable pub uleb_within : ℕ → ℕ → View → Reads ℕ
 uleb_within top zero v = byte_at v >>= λ p. if nat_le p.0 top then Ok p else Err BadUnsignedLeb128
@@ -78,7 +80,7 @@ uleb_at v = uleb_within 1 9 v
 unfoldable pub uleb16_at : View → Reads ℕ
 uleb16_at v = uleb_within 3 2 v
 
--- a signed LEB128 number of at most n bytes and one: 7 bits a byte, lowest first, up to a byte below 128, of which
+-- a signed LEB128 number of at most n + 1 bytes: 7 bits a byte, lowest first, up to a byte below 128, of which
 -- the bit 64 is the sign; the last byte that there may be is 0 or 127, and is the sign alone
 unfoldable pub sleb_within : ℕ → View → Reads ℤ
 sleb_within zero v =
@@ -105,17 +107,17 @@ abbrev pub initial_length_size_of : Format → ℕ
 initial_length_size_of Dwarf32 = 4
 initial_length_size_of Dwarf64 = 12
 
+-- the next n bytes as an offset
+abbrev pub uint_offset_at : ℕ → ℕ → View → Reads ℕ
+uint_offset_at limit n v = as_offset limit (uint_at n v)
+
 -- the next offset of a format
 unfoldable pub offset_at : ℕ → Format → View → Reads ℕ
-offset_at limit format v = as_offset limit (uint_at (word_size_of format) v)
+offset_at limit format v = uint_offset_at limit (word_size_of format) v
 
 -- a size of 1, 2, 4 or 8
 abbrev pub is_size : ℕ → Bool
 is_size z = z == 1 || z == 2 || z == 4 || z == 8
-
--- the next n bytes as an offset
-abbrev pub uint_offset_at : ℕ → ℕ → View → Reads ℕ
-uint_offset_at limit n v = as_offset limit (uint_at n v)
 
 -- the next offset of a size that is named
 unfoldable pub sized_offset_at : ℕ → ℕ → View → Reads ℕ
@@ -132,7 +134,7 @@ initial_length_at limit v = uint_at 4 v >>= λ p.
 unfoldable pub address_size_at : View → Reads ℕ
 address_size_at v = byte_at v >>= λ p. if is_size p.0 then Ok p else Err (UnsupportedAddressSize p.0)
 
--- the number of bytes before the first that is b
+-- the number of bytes before the first that is b; refused where there is none
 unfoldable pub find_at : ℕ → View → Result ℕ Error
 find_at b v = elim (position (λ x. x == b) v.bytes) [ Some n ↦ Ok n | None ↦ Err (eof v) ]
 
@@ -148,5 +150,6 @@ abbrev pub UnlessMemory : {A : Type 0} → Result A Error → Type 0 → Type 0
 UnlessMemory (Ok _) p = p
 UnlessMemory (Err e) p = (e ≡ OutOfMemory → ⊥) → p
 
+-- a pair, with another first part
 abbrev pub map_first : {A B C : Type 0} → (A → B) → A × C → B × C
 map_first f p = (f p.0, p.1)

@@ -1,4 +1,4 @@
--- What a reader holds: a byte order, the place of its first byte, and the bytes that are left (DWARF 5, 7.1 and 7.4).
+-- What a reader holds: a byte order, the place of its first byte, and the bytes that are left.
 use Rattle.std.specs.Prelude.{ℕ, ◌+◌, Bool, List, [], length, take, drop}
 
 -- a byte order, the place of the first byte, and the bytes

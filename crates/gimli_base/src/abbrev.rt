@@ -5,7 +5,6 @@ ghost use Rattle.std.specs.Option.{option_copied};
 ghost use Rattle.gimli_base.specs.Abbreviations.{
   Specification,
   Declaration,
-  Table,
   IsWellFormed,
   specification_at,
   specifications_at,
@@ -14,14 +13,15 @@ ghost use Rattle.gimli_base.specs.Abbreviations.{
   map_of,
   map_at,
   declarations_at,
-  found,
 };
+ghost use Rattle.gimli_base.specs.Table.{Table, found};
 ghost use Rattle.gimli_base.specs.Offset.{answer_of};
 ghost use Rattle.gimli_base.specs.Reading.{read, filled, UnlessMemory};
 
 use crate::{
     DW_AT_null, DW_CHILDREN_no, DW_CHILDREN_yes, DW_FORM_implicit_const, DW_FORM_null, DW_TAG_null,
-    DebugAbbrevOffset, DwAt, DwForm, DwTag, EndianSlice, Endianity, Error, Reader, Result,
+    DebugAbbrevOffset, DwAt, DwForm, DwTag, EndianSlice, Endianity, Error, Reader, Result, Section,
+    SectionId,
 };
 use std::alloc::Allocator;
 use std::collections::BTreeMap;
@@ -229,7 +229,7 @@ impl<A: Allocator> Abbreviations<A> {
     /// The declaration of a code, if there is one: in constant time where the codes 1, 2, .. are declared in order,
     /// else in logarithmic time.
     #[inline]
-    #[tactic(auto, unfolding(crate::specs::Abbreviations::found))]
+    #[tactic(auto, unfolding(crate::specs::Table::found))]
     pub fn get(&self, code: u64) -> Option<&Abbreviation<A>>
         ensures { option_copied result ≡ found self.now code }
     {
@@ -293,7 +293,7 @@ pub struct DebugAbbrev<R> {
 impl<'a, E: Endianity> DebugAbbrev<EndianSlice<'a, E>> {
     /// The section of these bytes.
     pub fn new(bytes: &'a [u8], endian: E) -> Self
-        ensures { ⟦<EndianSlice<'a, E> as Reader>⟧.view result.section ≡ record { big = E.big endian; place = 0; bytes = bytes.now } }
+        ensures { ⟦<DebugAbbrev<EndianSlice<'a, E>> as Section<EndianSlice<'a, E>>>⟧.content result ≡ record { big = E.big endian; place = 0; bytes = bytes.now } }
     {
         DebugAbbrev {
             section: EndianSlice::new(bytes, endian),
@@ -309,6 +309,18 @@ impl<R> From<R> for DebugAbbrev<R> {
     }
 }
 
+impl<R: Reader> Section<R> for DebugAbbrev<R> {
+    ghost content = { λ s. R.view s.section };
+
+    fn id() -> SectionId {
+        SectionId::DebugAbbrev
+    }
+
+    fn reader(&self) -> &R {
+        &self.section
+    }
+}
+
 impl<R: Reader> DebugAbbrev<R> {
     /// The table of the declarations at an offset of the section, up to the code 0 (DWARF 5, 7.5.3).
     ///
@@ -321,7 +333,7 @@ impl<R: Reader> DebugAbbrev<R> {
         alloc: A,
         offset: DebugAbbrevOffset<R::Offset>,
     ) -> Result<Abbreviations<A>>
-        ensures { UnlessMemory result (answer_of found result ≡ map_at (R.Offset.number offset.0) (R.view self.now.section)) }
+        ensures { UnlessMemory result (answer_of found result ≡ map_at (R.Offset.number offset.0) (⟦<DebugAbbrev<R> as Section<R>>⟧.content self.now)) }
     {
         let mut input = self.section.copy();
         input.skip(offset.0)?;

@@ -86,3 +86,11 @@ pub struct ReaderOffsetId(pub u64);
 /// An offset in `.debug_abbrev`.
 #[derive(Clone, Copy, Debug, PartialEq, Eq, PartialOrd, Ord, Hash)]
 pub struct DebugAbbrevOffset<Offset>(pub Offset);
+
+/// The signature of a type unit.
+#[derive(Clone, Copy, Debug, PartialEq, Eq, PartialOrd, Ord, Hash)]
+pub struct DebugTypeSignature(pub u64);
+
+/// The id that joins a skeleton unit to its split unit.
+#[derive(Clone, Copy, Debug, PartialEq, Eq, PartialOrd, Ord, Hash)]
+pub struct DwoId(pub u64);

@@ -1,4 +1,4 @@
-//! Byte orders (DWARF 5, 7.1).
+//! Byte orders.
 
 ghost use Rattle.std.specs.Prelude.{◌≡◌, Bool, true, false, refl};
 ghost use Rattle.gimli_base.specs.Order.{is_big, flag_of, order_of, order_back};

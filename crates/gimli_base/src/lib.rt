@@ -10,10 +10,14 @@ mod error;
 mod leb128;
 mod offset;
 mod reader;
+mod section;
 mod words;
 
 pub use abbrev::{Abbreviation, Abbreviations, AttributeSpecification, DebugAbbrev};
-pub use common::{DebugAbbrevOffset, DwarfFileType, Encoding, Format, ReaderOffsetId, SectionId};
+pub use common::{
+    DebugAbbrevOffset, DebugTypeSignature, DwarfFileType, DwoId, Encoding, Format, ReaderOffsetId,
+    SectionId,
+};
 pub use constants::{
     DW_AT_null, DW_CHILDREN_no, DW_CHILDREN_yes, DW_FORM_data1, DW_FORM_implicit_const,
     DW_FORM_null, DW_FORM_ref1, DW_FORM_string, DW_TAG_null, DwAt, DwForm, DwLle, DwRle, DwTag,
@@ -24,3 +28,4 @@ pub use endianity::{BigEndian, Endianity, LittleEndian, RunTimeEndian};
 pub use error::{Error, Result};
 pub use offset::ReaderOffset;
 pub use reader::Reader;
+pub use section::Section;

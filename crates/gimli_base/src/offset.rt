@@ -1,7 +1,8 @@
 //! Offsets of a reader, whose width is the reader's choice.
 
 ghost use Rattle.std.specs.Prelude.{◌≡◌, ℕ, ◌<◌, ◌≤◌, ◌^◌};
-ghost use Rattle.gimli_base.specs.Offset.{offset_of, sum_of, difference_of, answer_of, found_of};
+ghost use Rattle.std.specs.Option.{option_map};
+ghost use Rattle.gimli_base.specs.Offset.{offset_of, sum_of, difference_of, answer_of};
 ghost use Rattle.std.proofs.Common.{arith};
 
 use crate::{Error, Result};
@@ -38,11 +39,11 @@ pub trait ReaderOffset: Copy + Debug + Eq + Ord {
 
     /// The sum, where it fits.
     fn checked_add(self, other: Self) -> Option<Self>
-        ensures { found_of number result ≡ sum_of limit (number self) (number other) };
+        ensures { option_map number result ≡ sum_of limit (number self) (number other) };
 
     /// The difference, where it is not below 0.
     fn checked_sub(self, other: Self) -> Option<Self>
-        ensures { found_of number result ≡ difference_of (number self) (number other) };
+        ensures { option_map number result ≡ difference_of (number self) (number other) };
 
     // an offset is its number
     ghost same_number: { (a b : Self) → number a ≡ number b → a ≡ b };

@@ -1,0 +1,61 @@
+-- The entry at a view, under a finite map of codes to declarations (DWARF 5, 7.5.2 and 7.5.3).
+use Rattle.std.specs.Prelude.{ℕ, ◌==◌, if◌then◌else◌, Bool, true, false, List, [], ◌∷◌, map, Option, Some, None, Ok, Err}
+use Rattle.gimli_base.specs.declared.constants.DwTag.{DwTag}
+use Rattle.gimli_base.specs.declared.error.Error.TheVariants.{InvalidAbbreviationCode}
+use Rattle.gimli_base.specs.View.{View}
+use Rattle.gimli_base.specs.Reading.{Reads, ◌>>=◌, made, uleb_at}
+use Rattle.gimli_base.specs.Abbreviations.{Specification, Declaration, Map}
+use Rattle.gimli_units.specs.declared.attribute.Attribute.{Attribute}
+use Rattle.gimli_units.specs.Value.{map_attribute}
+use Rattle.gimli_units.specs.Form.{value_at}
+
+-- an attribute at views and numbers
+abbrev pub Attr : Type 0
+Attr = Attribute View ℕ
+
+-- the attribute of a specification
+unfoldable pub attribute_at : ℕ → Specification → View → Reads Attr
+attribute_at limit s v = made (λ x. record { name = s.name; form = s.form; value = x }) (value_at limit s.form.0 v)
+
+-- the attributes of these specifications, in their order
+unfoldable pub attributes_at : ℕ → List Specification → View → Reads (List Attr)
+attributes_at limit [] v = Ok ([], v)
+attributes_at limit (s ∷ ss) v = attribute_at limit s v >>= λ p. made (λ xs. p.0 ∷ xs) (attributes_at limit ss p.1)
+
+-- an entry: a tag, whether children follow, and attributes. A null has the tag 0, which no other entry has.
+pub record Entry : Type 0 where
+  pub tag : DwTag
+  pub has_children : Bool
+  pub attributes : List Attr
+
+-- the entry that closes a list of children
+abbrev pub null_entry : Entry
+null_entry = record { tag = record { 0 = 0 }; has_children = false; attributes = [] }
+
+abbrev pub is_null : Entry → Bool
+is_null e = e.tag.0 == 0
+
+-- an entry that code holds, by what its readers and offsets stand for
+abbrev pub entry_of : {R O : Type 0} → (R → View) → (O → ℕ) → DwTag → Bool → List (Attribute R O) → Entry
+entry_of f g tag has_children attrs = record { tag = tag; has_children = has_children; attributes = map (map_attribute f g) attrs }
+
+-- the declaration that the next code names; the code 0 names none
+unfoldable pub abbreviation_at : Map → View → Reads (Option Declaration)
+abbreviation_at declared v = uleb_at v >>= λ code.
+    if code.0 == 0 then Ok (None, code.1)
+    else elim (declared code.0) [ Some d ↦ Ok (Some d, code.1) | None ↦ Err (InvalidAbbreviationCode code.0) ]
+
+-- the entry of a declaration, or the null
+abbrev pub content_at : ℕ → Option Declaration → View → Reads Entry
+content_at limit None v = Ok (null_entry, v)
+content_at limit (Some d) v =
+    made (λ xs. record { tag = d.tag; has_children = d.has_children; attributes = xs }) (attributes_at limit d.attributes v)
+
+-- the next entry
+unfoldable pub entry_at : ℕ → Map → View → Reads Entry
+entry_at limit declared v = abbreviation_at declared v >>= λ p. content_at limit p.0 p.1
+
+-- whether reading an entry takes memory: only where its declaration has attributes
+abbrev pub takes_memory : Reads (Option Declaration) → Bool
+takes_memory (Err e) = false
+takes_memory (Ok p) = elim p.0 [ None ↦ false | Some d ↦ elim d.attributes [ [] ↦ false | s ∷ ss ↦ true ] ]

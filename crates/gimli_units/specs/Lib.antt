@@ -1,0 +1,9 @@
+pub mod Value
+pub mod Form
+pub mod Entry
+pub mod Rows
+pub mod EntryReads
+pub mod RawPlace
+pub mod RowSteps
+pub mod UnitKind
+pub mod Unit

@@ -1,0 +1,32 @@
+-- Where a reader of entries stands: what is left, how it is read, the offset of its end, and the depth (DWARF 5, 7.5.2).
+use Rattle.std.specs.Prelude.{ℕ, ℤ, pos, ◌+ℤ◌, ◌-ℤ◌, Bool, Option, Some, None, if◌then◌else◌}
+use Rattle.gimli_base.specs.declared.common.Encoding.{Encoding}
+use Rattle.gimli_base.specs.View.{View}
+use Rattle.gimli_base.specs.Abbreviations.{Declaration}
+use Rattle.gimli_base.specs.Table.{Table}
+use Rattle.gimli_units.specs.Entry.{Entry, is_null}
+use Rattle.gimli_units.specs.Rows.{offset_of_view}
+
+pub record RawPlace : Type 0 where
+  pub rest : View
+  pub encoding : Encoding
+  pub abbreviations : Table
+  pub end : ℕ
+  pub depth : ℤ
+
+-- the offset of what is read next
+abbrev pub next_offset_of : RawPlace → ℕ
+next_offset_of p = offset_of_view p.end p.rest
+
+-- a flag adds one to a depth
+abbrev pub below_flag : Bool → ℤ → ℤ
+below_flag flag depth = if flag then depth +ℤ pos 1 else depth
+
+-- the depth behind the code of a declaration, or of a null
+abbrev pub depth_read : Option Declaration → ℤ → ℤ
+depth_read None depth = depth -ℤ pos 1
+depth_read (Some d) depth = below_flag d.has_children depth
+
+-- the depth behind an entry: a flag adds one, and a null takes one
+abbrev pub depth_after : Entry → ℤ → ℤ
+depth_after e depth = if is_null e then below_flag e.has_children depth -ℤ pos 1 else below_flag e.has_children depth

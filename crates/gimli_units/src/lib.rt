@@ -1,0 +1,18 @@
+//! Units and their entries: headers, attributes, and the reading of entries one behind the other.
+#![tactic(auto)]
+
+mod attribute;
+mod entry;
+mod header;
+mod offset;
+mod raw;
+mod unit_type;
+mod value;
+
+pub use attribute::Attribute;
+pub use entry::DebuggingInformationEntry;
+pub use header::{HasUnit, UnitHeader};
+pub use offset::{UnitOffset, UnitSectionOffset};
+pub use raw::EntriesRaw;
+pub use unit_type::UnitType;
+pub use value::AttributeValue;

@@ -1,0 +1,232 @@
+//! Entries that are read one behind the other.
+
+ghost use Rattle.std.specs.Prelude.{◌≡◌, ◌+◌, ◌-◌, ◌<◌, ◌≤◌, ◌^◌, ◌==◌, ◌↔◌, pos, not, length, map, IsTrue, IsOk, IfOk, OnOk, OnErr, Option, [], true, false, unsigned_abs};
+ghost use Rattle.std.specs.Option.{option_copied};
+ghost use Rattle.gimli_base.specs.Offset.{answer_of};
+ghost use Rattle.gimli_base.specs.View.{View};
+ghost use Rattle.gimli_base.specs.Reading.{read, filled, UnlessMemory};
+ghost use Rattle.gimli_base.specs.Table.{Table, found};
+ghost use Rattle.gimli_units.specs.Value.{map_attribute};
+ghost use Rattle.gimli_units.specs.Entry.{attribute_at, attributes_at, abbreviation_at, entry_at, entry_of, null_entry, is_null, takes_memory};
+ghost use Rattle.gimli_units.specs.RawPlace.{RawPlace, next_offset_of, depth_read, depth_after};
+
+use crate::attribute::parse_attribute;
+use crate::{Attribute, DebuggingInformationEntry, UnitOffset};
+use gimli_base::{
+    Abbreviation, Abbreviations, AttributeSpecification, Encoding, Error, Reader, ReaderOffset,
+    Result,
+};
+use std::alloc::Allocator;
+use std::marker::Model;
+
+/// A reader of entries that is told what to read next.
+///
+/// A refused call leaves it as it was.
+#[derive(Drop)]
+pub struct EntriesRaw<'abbrev, R: Reader, A: Allocator> {
+    input: R,
+    encoding: Encoding,
+    abbreviations: &'abbrev Abbreviations<A>,
+    // the offset of the end of the input
+    end_offset: UnitOffset<R::Offset>,
+    depth: isize,
+}
+
+impl<'abbrev, R: Reader, A: Allocator> Model for EntriesRaw<'abbrev, R, A> {
+    ghost Value = { RawPlace };
+
+    ghost view = { λ e. record { rest = R.view e.input; encoding = e.encoding; abbreviations = e.abbreviations.now; end = R.Offset.number e.end_offset.0; depth = e.depth } };
+
+    ghost invariant = { λ e. (length (R.view e.input).bytes ≤ R.Offset.number e.end_offset.0) × (unsigned_abs e.depth + length (R.view e.input).bytes < 2 ^ 63) };
+}
+
+impl<'abbrev, R: Reader, A: Allocator> EntriesRaw<'abbrev, R, A> {
+    /// A reader of the entries in `input`, which begins at `offset` of its unit, at depth 0; the offset of its end
+    /// fits the reader's offsets.
+    pub fn new(
+        input: R,
+        encoding: Encoding,
+        abbreviations: &'abbrev Abbreviations<A>,
+        offset: UnitOffset<R::Offset>,
+    ) -> Self
+        requires { R.Offset.number offset.0 + length (R.view input).bytes < R.Offset.limit }
+        ensures { result ≡ record { rest = R.view input; encoding = encoding; abbreviations = abbreviations.now; end = R.Offset.number offset.0 + length (R.view input).bytes; depth = pos 0 } }
+    {
+        let end = offset.0.checked_add(input.len()).unwrap();
+        EntriesRaw {
+            input,
+            encoding,
+            abbreviations,
+            end_offset: UnitOffset(end),
+            depth: 0,
+        }
+    }
+
+    /// Whether no byte is left.
+    #[inline]
+    pub fn is_empty(&self) -> bool
+        ensures { IsTrue result ↔ (length self.now.rest.bytes ≡ 0) }
+    {
+        self.input.is_empty()
+    }
+
+    /// The offset of what is read next.
+    #[inline]
+    pub fn next_offset(&self) -> UnitOffset<R::Offset>
+        ensures { R.Offset.number result.0 ≡ next_offset_of self.now }
+    {
+        UnitOffset(self.end_offset.0.checked_sub(self.input.len()).unwrap())
+    }
+
+    /// The depth of what is read next: it is one more behind an entry with children, and one less behind a null.
+    #[inline]
+    pub fn next_depth(&self) -> isize
+        ensures { result ≡ self.now.depth }
+    {
+        self.depth
+    }
+
+    /// Reads the code of an entry: its declaration, or none for a null.
+    ///
+    /// Refusals: `UnexpectedEof`, `BadUnsignedLeb128`, `InvalidAbbreviationCode`.
+    #[inline(always)]
+    #[tactic(auto, unfolding(crate::specs::Entry::abbreviation_at))]
+    pub fn read_abbreviation(&mut self) -> Result<Option<&'abbrev Abbreviation<A>>>
+        ensures value { read (answer_of option_copied result) self.new.rest ≡ abbreviation_at (found self.old.abbreviations) self.old.rest }
+        ensures depth { IfOk result (λ r. self.new.depth ≡ depth_read (option_copied r) self.old.depth) }
+        ensures same { self.new ≡ record self.old { rest = self.new.rest; depth = self.new.depth } }
+        ensures kept { OnErr result (self.new ≡ self.old) }
+    {
+        let mut rest = self.input.copy();
+        let code = rest.read_uleb128()?;
+        if code == 0 {
+            self.input = rest;
+            self.depth -= 1;
+            return Ok(None);
+        }
+        let Some(abbreviation) = self.abbreviations.get(code) else {
+            return Err(Error::InvalidAbbreviationCode(code));
+        };
+        self.input = rest;
+        if !abbreviation.has_children() {
+            return Ok(Some(abbreviation));
+        }
+        self.depth += 1;
+        Ok(Some(abbreviation))
+    }
+
+    /// Reads an entry, in place of the one in `entry`: its code, and its attributes. Answers whether it is one, and not
+    /// a null.
+    ///
+    /// Refusals: those of `read_abbreviation` and `read_attributes`; `entry` is then a null with the offset and the
+    /// depth of what was refused. Memory is taken only where the declaration has attributes.
+    #[tactic(auto, unfolding(crate::specs::Entry::entry_at))]
+    pub fn read_entry(&mut self, entry: &mut DebuggingInformationEntry<R, A>) -> Result<bool>
+        ensures value { UnlessMemory result (read (filled (entry_of R.view R.Offset.number entry.new.tag entry.new.has_children entry.new.attrs.items) result) self.new.rest ≡ entry_at R.Offset.limit (found self.old.abbreviations) self.old.rest) }
+        ensures without_memory { takes_memory (abbreviation_at (found self.old.abbreviations) self.old.rest) ≡ false → read (filled (entry_of R.view R.Offset.number entry.new.tag entry.new.has_children entry.new.attrs.items) result) self.new.rest ≡ entry_at R.Offset.limit (found self.old.abbreviations) self.old.rest }
+        ensures some { IfOk result (λ some. some ≡ not (is_null (entry_of R.view R.Offset.number entry.new.tag entry.new.has_children entry.new.attrs.items))) }
+        ensures offset { R.Offset.number entry.new.offset.0 ≡ next_offset_of self.old }
+        ensures entry_depth { entry.new.depth ≡ self.old.depth }
+        ensures depth { OnOk result (self.new.depth ≡ depth_after (entry_of R.view R.Offset.number entry.new.tag entry.new.has_children entry.new.attrs.items) self.old.depth) }
+        ensures null { OnErr result (entry_of R.view R.Offset.number entry.new.tag entry.new.has_children entry.new.attrs.items ≡ null_entry) }
+        ensures same { self.new ≡ record self.old { rest = self.new.rest; depth = self.new.depth } }
+        ensures kept { OnErr result (self.new ≡ self.old) }
+    {
+        entry.set_null();
+        entry.depth = self.depth;
+        entry.offset = self.next_offset();
+        let depth = self.depth;
+        let before = self.input.copy();
+        let Some(abbreviation) = self.read_abbreviation()? else {
+            return Ok(false);
+        };
+        match self.read_attributes(abbreviation.attributes(), &mut entry.attrs) {
+            Ok(()) => {
+                entry.tag = abbreviation.tag();
+                entry.has_children = abbreviation.has_children();
+                Ok(true)
+            }
+            Err(error) => {
+                self.input = before;
+                self.depth = depth;
+                Err(error)
+            }
+        }
+    }
+
+    /// Reads the attribute of a specification.
+    ///
+    /// Refusals: `UnexpectedEof`, `UnsupportedOffset`, `UnknownForm`.
+    #[inline(never)]
+    pub fn read_attribute(&mut self, specification: AttributeSpecification) -> Result<Attribute<R>>
+        ensures value { read (answer_of (map_attribute R.view R.Offset.number) result) self.new.rest ≡ attribute_at R.Offset.limit specification self.old.rest }
+        ensures same { self.new ≡ record self.old { rest = self.new.rest } }
+        ensures kept { OnErr result (self.new ≡ self.old) }
+    {
+        self.read_attribute_inline(specification)
+    }
+
+    /// The same as `read_attribute`, put in place where it is called.
+    #[inline(always)]
+    pub fn read_attribute_inline(
+        &mut self,
+        specification: AttributeSpecification,
+    ) -> Result<Attribute<R>>
+        ensures value { read (answer_of (map_attribute R.view R.Offset.number) result) self.new.rest ≡ attribute_at R.Offset.limit specification self.old.rest }
+        ensures same { self.new ≡ record self.old { rest = self.new.rest } }
+        ensures kept { OnErr result (self.new ≡ self.old) }
+    {
+        let mut rest = self.input.copy();
+        let attribute = parse_attribute(&mut rest, specification)?;
+        self.input = rest;
+        Ok(attribute)
+    }
+
+    /// Reads the attributes of these specifications, in their order, in place of those in `attrs`; room for all is
+    /// made first.
+    ///
+    /// Refusals: those of `read_attribute`, and `OutOfMemory`; `attrs` is then empty.
+    pub fn read_attributes(
+        &mut self,
+        specifications: &[AttributeSpecification],
+        attrs: &mut Vec<Attribute<R>, A>,
+    ) -> Result<()>
+        ensures value { UnlessMemory result (read (filled (map (map_attribute R.view R.Offset.number) attrs.new.items) result) self.new.rest ≡ attributes_at R.Offset.limit specifications.now self.old.rest) }
+        ensures none { specifications.now ≡ [] → IsOk result }
+        ensures empty { OnErr result (attrs.new.items ≡ []) }
+        ensures same { self.new ≡ record self.old { rest = self.new.rest } }
+        ensures kept { OnErr result (self.new ≡ self.old) }
+    {
+        attrs.clear();
+        let mut rest = self.input.copy();
+        match parse_attributes(&mut rest, specifications, attrs) {
+            Ok(()) => {
+                self.input = rest;
+                Ok(())
+            }
+            Err(error) => {
+                attrs.clear();
+                Err(error)
+            }
+        }
+    }
+}
+
+// The attributes of these specifications, behind those in `attrs`; where they are refused, the input and the list are
+// left anywhere.
+fn parse_attributes<R: Reader, A: Allocator>(
+    input: &mut R,
+    specifications: &[AttributeSpecification],
+    attrs: &mut Vec<Attribute<R>, A>,
+) -> Result<()>
+    requires { attrs.old.items ≡ [] }
+    ensures value { UnlessMemory result (read (filled (map (map_attribute R.view R.Offset.number) attrs.new.items) result) (R.view input.new) ≡ attributes_at R.Offset.limit specifications.now (R.view input.old)) }
+    ensures none { specifications.now ≡ [] → IsOk result }
+{
+    attrs.reserve(specifications.len())?;
+    for specification in specifications {
+        let attribute = parse_attribute(input, *specification)?;
+        attrs.push_reserved(attribute);
+    }
+    Ok(())
+}
