@@ -1,13 +1,15 @@
 -- What a read leaves: the same view some bytes later.
 use Rattle.std.specs.Prelude.{◌≡◌, ℕ, zero, suc, ◌+◌, ◌-◌, ◌<◌, ◌≤◌, ℤ, ◌==◌, nat_lt, nat_le, Bool, true, false, if◌then◌else◌, length, take, slice_index, Result, Ok, Err}
-use Rattle.std.proofs.Common.{refl, sym, ap, ◌∙◌, subst, arith, length-drop, add_assoc, add-zero}
+use Rattle.std.proofs.Common.{refl, sym, ap, ◌∙◌, subst, arith, length-drop, length-take, add_assoc, add-zero}
 use Rattle.std.proofs.lemmas.List.{drop-drop}
 use Rattle.std.proofs.lemmas.Bool.{ltb-true, leb-true}
 use Rattle.gimli_base.specs.declared.error.Error.{Error}
+use Rattle.gimli_base.specs.declared.error.Error.TheVariants.{UnknownReservedLength}
 use Rattle.gimli_base.specs.declared.common.Format.{Format}
+use Rattle.gimli_base.specs.declared.common.Format.TheVariants.{Dwarf32, Dwarf64}
 use Rattle.gimli_base.specs.Offset.{offset_of}
 use Rattle.gimli_base.specs.View.{View, cut, front}
-use Rattle.gimli_base.specs.Reading.{Reads, ◌>>=◌, made, eof, byte_at, skip_at, split_at, bytes_at, uint_at, number, as_offset, offset_at, word_size_of, uleb_within, uleb_at, uleb16_at, sleb_within, sleb_at, find_at, text_at}
+use Rattle.gimli_base.specs.Reading.{Reads, ◌>>=◌, made, eof, byte_at, skip_at, split_at, bytes_at, uint_at, number, as_offset, offset_at, word_size_of, uleb_within, uleb_at, uleb16_at, sleb_within, sleb_at, find_at, text_at, address_size_at, is_size, initial_length_at, initial_length_size_of}
 
 -- w is v some bytes later, at least so many
 pub record IsLater (least : ℕ) (v w : View) : Type 0 where
@@ -148,3 +150,48 @@ text_at-later v =
       | Err e ↦ err_leaves_later {A = View} 1 v e
     ] in
     cases (find_at 0 v)
+
+pub address_size_at-later : (v : View) → LeavesLater 1 v (address_size_at v)
+unfolding address_size_at
+address_size_at-later v = then_leaves_later 1 0 v (byte_at v) _ (byte_at-later v)
+    (λ p. if_leaves_later 0 p.1 (is_size p.0) _ _ (ok_leaves_later 0 p.1 p (IsLater-none p.1)) (err_leaves_later {A = ℕ} 0 p.1 _))
+
+-- what a length field leaves, by the format that it shows
+abbrev pub LeavesPastField : View → Reads (ℕ × Format) → Type 0
+LeavesPastField v r = (p : ℕ × Format) (w : View) → ◌≡◌ {A = Reads (ℕ × Format)} (Ok (p, w)) r → IsLater (initial_length_size_of p.1) v w
+
+past_field : (v : View) (format : Format) (r : Reads ℕ) → LeavesLater (initial_length_size_of format) v r → LeavesPastField v (made (λ n. (n, format)) r)
+past_field v format (Ok q) h p w e =
+    let same : ◌≡◌ {A = (ℕ × Format) × View} (p, w) ((q.0, format), q.1) = cc in
+    let P : (ℕ × Format) × View → Type 0 = λ x. IsLater (initial_length_size_of x.0.1) v x.1 in
+    subst P (sym same) (h q.0 q.1 refl)
+past_field v format (Err e) h p w is = absurd (cc)
+
+pub initial_length_at-later : (limit : ℕ) (v : View) → LeavesPastField v (initial_length_at limit v)
+unfolding initial_length_at
+initial_length_at-later limit v = begin (uint_at 4 v) (uint_at-later 4 v)
+  where
+    short : (q : ℕ × View) → IsLater 4 v q.1 → LeavesPastField v (made (λ n. (n, Dwarf32)) (as_offset limit (Ok q)))
+    short q l = past_field v Dwarf32 _ (as_offset-later 4 limit v (Ok q) (ok_leaves_later 4 v q l))
+    long : (q : ℕ × View) → IsLater 4 v q.1 → LeavesPastField v (made (λ n. (n, Dwarf64)) (offset_at limit Dwarf64 q.1))
+    long q l = past_field v Dwarf64 _ (λ x w e. IsLater-trans 4 8 v q.1 w l (offset_at-later limit Dwarf64 q.1 x w e))
+    either : (q : ℕ × View) → IsLater 4 v q.1 → (s t : Bool)
+        → LeavesPastField v (if s then made (λ n. (n, Dwarf32)) (as_offset limit (Ok q)) else if t then made (λ n. (n, Dwarf64)) (offset_at limit Dwarf64 q.1) else Err UnknownReservedLength)
+    either q l true t = short q l
+    either q l false true = long q l
+    either q l false false = λ p w e. absurd (cc)
+    begin : (r : Reads ℕ) → LeavesLater 4 v r
+        → LeavesPastField v (r >>= λ p. if nat_lt p.0 0xffff_fff0 then made (λ n. (n, Dwarf32)) (as_offset limit (Ok p)) else if p.0 == 0xffff_ffff then made (λ n. (n, Dwarf64)) (offset_at limit Dwarf64 p.1) else Err UnknownReservedLength)
+    begin (Ok q) h = either q (h q.0 q.1 refl) (nat_lt q.0 0xffff_fff0) (q.0 == 0xffff_ffff)
+    begin (Err e) h = λ p w is. absurd (cc)
+
+-- what is split off has as many bytes as it was asked for
+pub split_at-front : (n : ℕ) (v a w : View) → Ok (a, w) ≡ split_at n v → length a.bytes ≡ n
+unfolding split_at
+split_at-front n v a w h = cases (nat_le n (length v.bytes)) (leb-true n (length v.bytes)) h
+  where
+    cases : (t : Bool) → (t ≡ true → n ≤ length v.bytes) → ◌≡◌ {A = Reads View} (Ok (a, w)) (if t then Ok (front n v, cut n v) else Err (eof v)) → length a.bytes ≡ n
+    cases true le e =
+        let same : ◌≡◌ {A = View × View} (a, w) (front n v, cut n v) = cc in
+        ap (λ (p : View × View). length p.0.bytes) same ∙ simp length-take (omega (arith, le refl))
+    cases false le e = absurd (cc)
