@@ -173,13 +173,16 @@ initial_length_at-later limit v = begin (uint_at 4 v) (uint_at-later 4 v)
   where
     short : (q : ℕ × View) → IsLater 4 v q.1 → LeavesPastField v (made (λ n. (n, Dwarf32)) (as_offset limit (Ok q)))
     short q l = past_field v Dwarf32 _ (as_offset-later 4 limit v (Ok q) (ok_leaves_later 4 v q l))
+
     long : (q : ℕ × View) → IsLater 4 v q.1 → LeavesPastField v (made (λ n. (n, Dwarf64)) (offset_at limit Dwarf64 q.1))
     long q l = past_field v Dwarf64 _ (λ x w e. IsLater-trans 4 8 v q.1 w l (offset_at-later limit Dwarf64 q.1 x w e))
+
     either : (q : ℕ × View) → IsLater 4 v q.1 → (s t : Bool)
         → LeavesPastField v (if s then made (λ n. (n, Dwarf32)) (as_offset limit (Ok q)) else if t then made (λ n. (n, Dwarf64)) (offset_at limit Dwarf64 q.1) else Err UnknownReservedLength)
     either q l true t = short q l
     either q l false true = long q l
     either q l false false = λ p w e. absurd (cc)
+
     begin : (r : Reads ℕ) → LeavesLater 4 v r
         → LeavesPastField v (r >>= λ p. if nat_lt p.0 0xffff_fff0 then made (λ n. (n, Dwarf32)) (as_offset limit (Ok p)) else if p.0 == 0xffff_ffff then made (λ n. (n, Dwarf64)) (offset_at limit Dwarf64 p.1) else Err UnknownReservedLength)
     begin (Ok q) h = either q (h q.0 q.1 refl) (nat_lt q.0 0xffff_fff0) (q.0 == 0xffff_ffff)

@@ -340,3 +340,6 @@ impl<R: Reader> DebugAbbrev<R> {
         Abbreviations::parse(alloc, &mut input)
     }
 }
+
+#[cfg(test)]
+mod tests;

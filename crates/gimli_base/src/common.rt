@@ -94,3 +94,16 @@ pub struct DebugTypeSignature(pub u64);
 /// The id that joins a skeleton unit to its split unit.
 #[derive(Clone, Copy, Debug, PartialEq, Eq, PartialOrd, Ord, Hash)]
 pub struct DwoId(pub u64);
+
+#[cfg(test)]
+mod tests {
+    use super::*;
+
+    #[test]
+    fn sizes_of_each_format(rt: HostRuntime) {
+        assert_eq!(rt; Format::Dwarf32.initial_length_size(), 4);
+        assert_eq!(rt; Format::Dwarf32.word_size(), 4);
+        assert_eq!(rt; Format::Dwarf64.initial_length_size(), 12);
+        assert_eq!(rt; Format::Dwarf64.word_size(), 8);
+    }
+}

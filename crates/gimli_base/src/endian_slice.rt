@@ -243,3 +243,6 @@ fn position_of(byte: u8, bytes: &[u8]) -> Option<usize>
 {
     bytes.iter().position(|b| *b == byte)
 }
+
+#[cfg(test)]
+mod tests;

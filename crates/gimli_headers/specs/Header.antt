@@ -27,7 +27,7 @@ unit_of section offset field fields entries = record {
   abbreviations = fields.1;
   section = section;
   offset = offset;
-  entries = entries
+  entries = entries;
 }
 
 -- the unit of the fields that were read from its own bytes; what is left begins behind those

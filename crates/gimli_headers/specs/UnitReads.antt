@@ -15,12 +15,12 @@ pub fields_at-later : (limit : ℕ) (format : Format) (v : View) → LeavesLater
 unfolding fields_at version_at
 fields_at-later limit format v = then_leaves_later 0 0 v _ _
     (weaker_leaves_later 2 0 v _ (omega arith) (then_leaves_later 2 0 v (uint_at 2 v) _ (uint_at-later 2 v)
-        (λ p. if_leaves_later 0 p.1 (p.0 == 4) _ _ (ok_leaves_later 0 p.1 p (IsLater-none p.1)) (err_leaves_later {A = ℕ} 0 p.1 _))))
+    (λ p. if_leaves_later 0 p.1 (p.0 == 4) _ _ (ok_leaves_later 0 p.1 p (IsLater-none p.1)) (err_leaves_later {A = ℕ} 0 p.1 _))))
     (λ version. then_leaves_later 0 0 version.1 (offset_at limit format version.1) _
-        (weaker_leaves_later (word_size_of format) 0 version.1 _ (omega arith) (offset_at-later limit format version.1))
-        (λ abbreviations. then_leaves_later 0 0 abbreviations.1 (address_size_at abbreviations.1) _
-            (weaker_leaves_later 1 0 abbreviations.1 _ (omega arith) (address_size_at-later abbreviations.1))
-            (λ size. ok_leaves_later 0 size.1 _ (IsLater-none size.1))))
+    (weaker_leaves_later (word_size_of format) 0 version.1 _ (omega arith) (offset_at-later limit format version.1))
+    (λ abbreviations. then_leaves_later 0 0 abbreviations.1 (address_size_at abbreviations.1) _
+    (weaker_leaves_later 1 0 abbreviations.1 _ (omega arith) (address_size_at-later abbreviations.1))
+    (λ size. ok_leaves_later 0 size.1 _ (IsLater-none size.1))))
 
 -- a unit is passed whole
 pub unit_at-later : (limit : ℕ) (section : SectionId) (offset : ℕ) (v : View) (u : UnitView) (w : View) → Ok (u, w) ≡ unit_at limit section offset v → IsLater (whole_length u) v w
@@ -34,11 +34,13 @@ unit_at-later limit section offset v u w h = begin (initial_length_at limit v) (
         let P : UnitView × View → Type 0 = λ x. IsLater (whole_length x.0) v x.1 in
         subst P (sym same) l
     built field rest (Err f) l e = absurd (cc)
+
     cut_off : (field : (ℕ × Format) × View) (r : Reads View) → IsLater (initial_length_size_of field.0.1) v field.1 → LeavesLater field.0.0 field.1 r
         → Ok (u, w) ≡ (r >>= λ own. unit_in section offset field.0 (fields_at limit field.0.1 own.0) own.1) → IsLater (whole_length u) v w
     cut_off field (Ok own) k l e =
         built field.0 own.1 (fields_at limit field.0.1 own.0) (IsLater-trans (initial_length_size_of field.0.1) field.0.0 v field.1 own.1 k (l own.0 own.1 refl)) e
     cut_off field (Err f) k l e = absurd (cc)
+
     begin : (r : Reads (ℕ × Format)) → LeavesPastField v r
         → Ok (u, w) ≡ (r >>= λ field. split_at field.0.0 field.1 >>= λ own. unit_in section offset field.0 (fields_at limit field.0.1 own.0) own.1) → IsLater (whole_length u) v w
     begin (Ok field) l e = cut_off field (split_at field.0.0 field.1) (l field.0 field.1 refl) (split_at-later field.0.0 field.1) e

@@ -37,9 +37,11 @@ in_bounds u offset = nat_le (header_size u) offset && nat_lt offset (whole_lengt
 unfoldable pub range_from : UnitView → ℕ → Result View Error
 range_from u offset = if in_bounds u offset then Ok (cut (offset - header_size u) u.entries) else Err (OffsetOutOfBounds offset)
 
+-- a reader of the entries in these bytes of a unit
+abbrev pub entries_in : UnitView → Table → Result View Error → Result RawPlace Error
+entries_in u abbreviations (Ok v) = Ok (record { rest = v; encoding = u.encoding; abbreviations = abbreviations; end = whole_length u; depth = pos 0 })
+entries_in u abbreviations (Err e) = Err e
+
 -- a reader of the entries from an offset on, or from the first
 unfoldable pub entries_from : UnitView → Table → Option ℕ → Result RawPlace Error
-entries_from u abbreviations offset = elim (range_from u (unwrap_or offset (header_size u))) [
-  | Ok v ↦ Ok (record { rest = v; encoding = u.encoding; abbreviations = abbreviations; end = whole_length u; depth = pos 0 })
-  | Err e ↦ Err e
-]
+entries_from u abbreviations offset = entries_in u abbreviations (range_from u (unwrap_or offset (header_size u)))

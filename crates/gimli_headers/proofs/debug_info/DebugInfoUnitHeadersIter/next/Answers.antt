@@ -11,7 +11,7 @@ unwrap-behind-requires g c =
     let same = ap (λ (v : View). length v.bytes) c.copy-rest.ensures in
     let number = g.R.Offset.ReaderOffset.number in
     let fits : number c.self.inside.offset.0 + number c.length_including_self-whole_length.result < g.R.Offset.ReaderOffset.limit =
-        omega (arith, later, same, c.length_including_self-whole_length.ensures) in
+    omega (arith, later, same, c.length_including_self-whole_length.ensures) in
     search rules
 
 pub invariant_of-self : goal.invariant_of-self

@@ -1,0 +1,4 @@
+pub mod WrittenLines
+pub mod RowLines
+pub mod Roots
+pub mod Declared

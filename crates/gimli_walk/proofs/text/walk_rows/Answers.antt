@@ -1,0 +1,44 @@
+use Rattle.std.proofs.Common.{◌≡◌, ◌≢◌, rules, arith, length, ap, ◌∙◌, Ok, Err, ℤ, w64, to_z, of_z}
+use Rattle.std.proofs.lemmas.Int.{to_z-of_z}
+use Rattle.gimli_base.specs.declared.error.Error.TheVariants.{OutOfMemory}
+use Rattle.gimli_units.specs.EntryReads.{entry_at-shorter}
+use Rattle.gimli_units.specs.RawPlace.{RawPlace, next_offset_of, depth_after}
+use Rattle.gimli_units.specs.Entry.{entry_of}
+use Rattle.gimli_walk.proofs.WrittenLines.{Wrote-same}
+use Rattle.gimli_walk.proofs.RowLines.{place_text, rows_memory, rows_ended, rows_refused, rows_more}
+use Rattle.gimli_walk.proofs.text.walk_rows.Goals as goal
+
+pub returns-then-eq : goal.returns-then-eq
+returns-then-eq g c =
+    let memory : c.in-Err.error ≡ OutOfMemory = search rules in
+    c.rows.invariant _ _ (rows_memory _ _ _ c.rows.entries (rw memory at c.in_ok-write_error.ensures))
+
+pub returns-in-Err : goal.returns-in-Err
+returns-in-Err g c =
+    let some : length c.rows.entries.rest.bytes ≡ 0 → ⊥ = search rules in
+    let other : c.in-Err.error ≡ OutOfMemory → ⊥ = search rules in
+    let offset : c.into_u64.result ≡ next_offset_of c.rows.entries = search rules in
+    c.rows.invariant _ _ (rows_refused _ _ _ c.rows.entries _ some (c.in-Err.ensures.value other) (rw offset at c.in_ok-write_error_at.ensures))
+
+pub rows-smaller : goal.rows-smaller
+rows-smaller g c = entry_at-shorter _ _ _ _ _ c.in_default.ensures.value
+
+pub rows-preserved : goal.rows-preserved
+rows-preserved g c = λ final given rest.
+    let limit = g.R.Offset.ReaderOffset.limit in
+    let p = c.rows.entries in
+    let left = c.read_entry.new.self.rest in
+    let e = entry_of g.R.Reader.view g.R.Offset.ReaderOffset.number c.read_entry.new.entry.tag c.read_entry.new.entry.has_children c.read_entry.new.entry.attrs.items in
+    let some : length p.rest.bytes ≡ 0 → ⊥ = search rules in
+    let offset : c.into_u64-offset.result ≡ next_offset_of p = search rules in
+    let depth : c.depth.result ≡ p.depth = search rules in
+    let next = c.in_default.ensures.same ∙ ap (λ (d : ℤ). record p { rest = left; depth = d }) c.in_default.ensures.depth in
+    let back : to_z w64 (of_z w64 c.depth.result) ≡ c.depth.result = to_z-of_z w64 _ (record { sfits = c.depth.type_inv }) in
+    let line = rw (offset, back, depth, c.tag.ensures, c.has_children.ensures) at c.in_ok-write_row.ensures in
+    c.rows.invariant final given
+    (rows_more limit _ _ final p e left given some c.in_default.ensures.value line (Wrote-same _ _ _ _ _ (ap (place_text limit) next) rest))
+
+pub returns : goal.returns
+returns g c =
+    let none : length c.rows.entries.rest.bytes ≡ 0 = search rules in
+    c.rows.invariant _ _ (rows_ended _ _ _ c.rows.entries none c.in_ok-write_end.ensures)

@@ -1,0 +1,12 @@
+//! Whole walks over a unit, as text.
+#![tactic(auto)]
+
+mod lines;
+mod mode;
+mod text;
+mod words;
+
+pub use lines::WriteFault;
+pub use mode::Mode;
+pub use text::walk_text;
+pub use words::run_words;

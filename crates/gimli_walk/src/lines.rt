@@ -1,0 +1,64 @@
+//! The lines of a walk.
+
+ghost use Rattle.std.specs.Prelude.{◌≡◌, OnOk};
+ghost use Rattle.std.specs.Io.KnownBytes.{Appends};
+ghost use Rattle.gimli_base.specs.Refusal.{number_of};
+ghost use Rattle.gimli_walk.specs.Text.{row_line, end_line, no_unit_line, error_line, error_line_at};
+
+use gimli_base::Error;
+use std::io::Write;
+
+/// A write that failed.
+#[derive(Clone, Copy, Debug, PartialEq, Eq)]
+pub struct WriteFault;
+
+/// Writes the line of a row: its offset and tag in hexadecimal, its depth, and whether children follow.
+#[tactic(auto, unfolding(crate::specs::Text::row_line))]
+pub(crate) fn write_row<W: Write>(
+    out: &mut W,
+    offset: u64,
+    depth: isize,
+    tag: u16,
+    has_children: bool,
+) -> Result<(), WriteFault>
+    ensures { OnOk result (Appends (W.contents out.old) (W.contents out.new) (row_line offset depth tag has_children)) }
+{
+    let flag = u8::from(has_children);
+    write!(out, "{offset:x} {depth} {tag:x} {flag}\n").map_err(|_| WriteFault)
+}
+
+/// Writes the line behind the last row.
+pub(crate) fn write_end<W: Write>(out: &mut W) -> Result<(), WriteFault>
+    ensures { OnOk result (Appends (W.contents out.old) (W.contents out.new) end_line) }
+{
+    out.write_all(b"end\n").map_err(|_| WriteFault)
+}
+
+/// Writes the line of a section without units.
+pub(crate) fn write_no_unit<W: Write>(out: &mut W) -> Result<(), WriteFault>
+    ensures { OnOk result (Appends (W.contents out.old) (W.contents out.new) no_unit_line) }
+{
+    out.write_all(b"no unit\n").map_err(|_| WriteFault)
+}
+
+/// Writes the line of a refusal.
+#[tactic(auto, unfolding(crate::specs::Text::error_line))]
+pub(crate) fn write_error<W: Write>(out: &mut W, error: Error) -> Result<(), WriteFault>
+    ensures { OnOk result (Appends (W.contents out.old) (W.contents out.new) (error_line (number_of error))) }
+{
+    let number = error.number();
+    write!(out, "error {number}\n").map_err(|_| WriteFault)
+}
+
+/// Writes the line of a refusal at an offset of the unit.
+#[tactic(auto, unfolding(crate::specs::Text::error_line_at))]
+pub(crate) fn write_error_at<W: Write>(
+    out: &mut W,
+    error: Error,
+    offset: u64,
+) -> Result<(), WriteFault>
+    ensures { OnOk result (Appends (W.contents out.old) (W.contents out.new) (error_line_at (number_of error) offset)) }
+{
+    let number = error.number();
+    write!(out, "error {number} {offset:x}\n").map_err(|_| WriteFault)
+}

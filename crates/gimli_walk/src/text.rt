@@ -1,0 +1,116 @@
+//! Walks over the first unit, as text.
+
+ghost use Rattle.std.specs.Prelude.{◌≡◌, IfOk};
+ghost use Rattle.gimli_base.specs.Table.{found};
+ghost use Rattle.gimli_units.specs.Entry.{entry_at};
+ghost use Rattle.gimli_units.specs.Rows.{ahead_at};
+ghost use Rattle.gimli_base.specs.Abbreviations.{map_at};
+ghost use Rattle.gimli_walk.specs.Text.{Wrote, rows_text, declared_text, sections_text, text_of};
+
+use crate::Mode;
+use crate::lines::{WriteFault, write_end, write_error, write_error_at, write_no_unit, write_row};
+use gimli_base::{DebugAbbrev, EndianSlice, Error, LittleEndian, Reader, ReaderOffset, Section};
+use gimli_headers::DebugInfo;
+use gimli_units::{DebuggingInformationEntry, EntriesRaw, HasUnit, UnitHeader};
+use std::alloc::Allocator;
+use std::io::Write;
+
+/// Writes what a walk over the first unit of `.debug_info` answers, and answers the exit status: 1 where there is no
+/// unit or a refusal was met, else 0. The sections are little endian.
+///
+/// Where memory is refused, whole lines from the front are written and then `error 24`, and the status is 1. Nothing is
+/// said of what is written where a write fails.
+pub fn walk_text<A: Allocator + Copy, W: Write>(
+    alloc: A,
+    mode: Mode,
+    info: &[u8],
+    abbrev: &[u8],
+    out: &mut W,
+) -> Result<u8, WriteFault>
+    ensures { IfOk result (λ status. Wrote (W.contents out.old) (W.contents out.new) (text_of mode info.now abbrev.now) status) }
+{
+    let debug_info = DebugInfo::new(info, LittleEndian);
+    let debug_abbrev = DebugAbbrev::new(abbrev, LittleEndian);
+    match mode {
+        Mode::Rows => walk_sections(alloc, &debug_info, &debug_abbrev, out),
+    }
+}
+
+// The rows of the first unit of a section.
+#[tactic(auto, unfolding(crate::specs::Text::sections_text, gimli_headers::specs::Units::next_unit))]
+fn walk_sections<R: Reader, A: Allocator + Copy, W: Write>(
+    alloc: A,
+    debug_info: &DebugInfo<R>,
+    debug_abbrev: &DebugAbbrev<R>,
+    out: &mut W,
+) -> Result<u8, WriteFault>
+    ensures { IfOk result (λ status. Wrote (W.contents out.old) (W.contents out.new) (sections_text R.Offset.limit (⟦<DebugInfo<R> as Section<R>>⟧.content debug_info.now) (⟦<DebugAbbrev<R> as Section<R>>⟧.content debug_abbrev.now)) status) }
+{
+    match debug_info.units().next() {
+        Ok(None) => {
+            write_no_unit(out)?;
+            Ok(1)
+        }
+        Ok(Some(unit)) => walk_unit(alloc, &unit, debug_abbrev, out),
+        Err(error) => {
+            write_error(out, error)?;
+            Ok(1)
+        }
+    }
+}
+
+// The rows of a unit.
+fn walk_unit<R: Reader, A: Allocator + Copy, W: Write>(
+    alloc: A,
+    unit: &UnitHeader<R>,
+    debug_abbrev: &DebugAbbrev<R>,
+    out: &mut W,
+) -> Result<u8, WriteFault>
+    ensures { IfOk result (λ status. Wrote (W.contents out.old) (W.contents out.new) (declared_text R.Offset.limit (⟦<UnitHeader<R> as HasUnit>⟧.unit unit.now) (map_at (⟦<UnitHeader<R> as HasUnit>⟧.unit unit.now).abbreviations (⟦<DebugAbbrev<R> as Section<R>>⟧.content debug_abbrev.now))) status) }
+{
+    let abbreviations = match unit.abbreviations(alloc, debug_abbrev) {
+        Ok(abbreviations) => abbreviations,
+        Err(error) => {
+            write_error(out, error)?;
+            return Ok(1);
+        }
+    };
+    match unit.entries_raw(&abbreviations, None) {
+        Ok(mut entries) => walk_rows(alloc, &mut entries, out),
+        Err(_) => {
+            write_end(out)?;
+            Ok(0)
+        }
+    }
+}
+
+// The rows that are left.
+fn walk_rows<R: Reader, A: Allocator + Copy, W: Write>(
+    alloc: A,
+    entries: &mut EntriesRaw<'_, R, A>,
+    out: &mut W,
+) -> Result<u8, WriteFault>
+    ensures { IfOk result (λ status. Wrote (W.contents out.old) (W.contents out.new) (rows_text (ahead_at (entry_at R.Offset.limit (found entries.old.abbreviations)) entries.old.end entries.old.depth entries.old.rest)) status) }
+{
+    let mut entry = DebuggingInformationEntry::null(alloc);
+    'rows: while !entries.is_empty() {
+        if let Err(error) = entries.read_entry(&mut entry) {
+            if error == Error::OutOfMemory {
+                write_error(out, error)?;
+                return Ok(1);
+            }
+            write_error_at(out, error, entry.offset().0.into_u64())?;
+            return Ok(1);
+        }
+        let offset = entry.offset().0.into_u64();
+        write_row(
+            out,
+            offset,
+            entry.depth(),
+            entry.tag().0,
+            entry.has_children(),
+        )?;
+    }
+    write_end(out)?;
+    Ok(0)
+}
