@@ -21,7 +21,7 @@ pub struct Attribute<R, Offset = <R as Reader>::Offset> {
     value: AttributeValue<R, Offset>,
 }
 
-impl<R: Copy, Offset: Copy> Attribute<R, Offset> {
+impl<R, Offset> Attribute<R, Offset> {
     /// The name.
     #[inline]
     pub fn name(&self) -> DwAt
@@ -37,13 +37,15 @@ impl<R: Copy, Offset: Copy> Attribute<R, Offset> {
     {
         self.form
     }
+}
 
+impl<R: Reader> Attribute<R> {
     /// The value as the form shows it.
     #[inline]
-    pub fn raw_value(&self) -> AttributeValue<R, Offset>
-        ensures { result ≡ self.now.value }
+    pub fn raw_value(&self) -> AttributeValue<R>
+        ensures { map_value R.view R.Offset.number result ≡ map_value R.view R.Offset.number self.now.value }
     {
-        self.value
+        self.value.copy()
     }
 }
 
@@ -77,3 +79,6 @@ pub(crate) fn parse_attribute<R: Reader>(
         value,
     })
 }
+
+#[cfg(test)]
+mod tests;

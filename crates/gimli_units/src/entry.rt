@@ -122,3 +122,6 @@ impl<R: Reader, A: Allocator> DebuggingInformationEntry<R, A> {
         &self.attrs
     }
 }
+
+#[cfg(test)]
+mod tests;

@@ -213,3 +213,6 @@ impl<R: Reader> UnitHeader<R> {
         Ok(EntriesRaw::new(input, self.encoding, abbreviations, start))
     }
 }
+
+#[cfg(test)]
+mod tests;

@@ -6,6 +6,8 @@ mod entry;
 mod header;
 mod offset;
 mod raw;
+#[cfg(test)]
+mod samples;
 mod unit_type;
 mod value;
 

@@ -230,3 +230,6 @@ fn parse_attributes<R: Reader, A: Allocator>(
     }
     Ok(())
 }
+
+#[cfg(test)]
+mod tests;

@@ -1,5 +1,7 @@
 //! Values of attributes.
 
+ghost use Rattle.std.specs.Prelude.{◌≡◌};
+
 use crate::UnitOffset;
 use gimli_base::Reader;
 
@@ -12,4 +14,20 @@ pub enum AttributeValue<R, Offset = <R as Reader>::Offset> {
     Data1(u8),
     /// An offset of an entry of the same unit.
     UnitRef(UnitOffset<Offset>),
+}
+
+impl<R: Reader> AttributeValue<R> {
+    ghost use Rattle.gimli_units.specs.Value.{map_value};
+
+    /// The same value, its readers copied.
+    #[inline]
+    pub fn copy(&self) -> AttributeValue<R>
+        ensures { map_value R.view R.Offset.number result ≡ map_value R.view R.Offset.number self.now }
+    {
+        match self {
+            AttributeValue::String(text) => AttributeValue::String(text.copy()),
+            AttributeValue::Data1(value) => AttributeValue::Data1(*value),
+            AttributeValue::UnitRef(offset) => AttributeValue::UnitRef(*offset),
+        }
+    }
 }
