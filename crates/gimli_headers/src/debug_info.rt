@@ -120,3 +120,6 @@ impl<R: Reader> Iterator for DebugInfoUnitHeadersIter<R> {
         DebugInfoUnitHeadersIter::next(self).transpose()
     }
 }
+
+#[cfg(test)]
+mod tests;

@@ -114,3 +114,6 @@ fn walk_rows<R: Reader, A: Allocator + Copy, W: Write>(
     write_end(out)?;
     Ok(0)
 }
+
+#[cfg(test)]
+mod tests;
