@@ -159,8 +159,16 @@ impl<A: Allocator> Abbreviation<A> {
 
 impl<A: Allocator + Copy> Abbreviation<A> {
     // The declaration of a code, which is read already; where it is refused, the input is left anywhere.
+    //
+    // The attributes go through `scratch`, a list that is used again for each declaration, so that each gets one list
+    // of just its size.
     #[tactic(auto, unfolding(crate::specs::Abbreviations::declared_at, crate::specs::Abbreviations::tag_at, crate::specs::Abbreviations::children_at))]
-    fn parse_declared<R: Reader>(alloc: A, input: &mut R, code: u64) -> Result<Abbreviation<A>>
+    fn parse_declared<R: Reader>(
+        alloc: A,
+        input: &mut R,
+        scratch: &mut Vec<AttributeSpecification, A>,
+        code: u64,
+    ) -> Result<Abbreviation<A>>
         ensures { UnlessMemory result (read result (R.view input.new) ≡ declared_at code (R.view input.old)) }
     {
         let tag = DwTag(input.read_uleb128_u16()?);
@@ -172,8 +180,8 @@ impl<A: Allocator + Copy> Abbreviation<A> {
             DW_CHILDREN_yes => true,
             _ => return Err(Error::InvalidAbbreviationChildren),
         };
-        let mut attributes = Vec::new(alloc);
-        parse_specifications(input, &mut attributes)?;
+        parse_specifications(input, scratch)?;
+        let attributes = Vec::from_slice(alloc, scratch)?;
         Ok(Abbreviation {
             code,
             tag,
@@ -184,14 +192,18 @@ impl<A: Allocator + Copy> Abbreviation<A> {
 
     // The next declaration, or none where the code 0 ends the table; where it is refused, the input is left anywhere.
     #[tactic(auto, unfolding(crate::specs::Abbreviations::declaration_at))]
-    fn parse<R: Reader>(alloc: A, input: &mut R) -> Result<Option<Abbreviation<A>>>
+    fn parse<R: Reader>(
+        alloc: A,
+        input: &mut R,
+        scratch: &mut Vec<AttributeSpecification, A>,
+    ) -> Result<Option<Abbreviation<A>>>
         ensures { UnlessMemory result (read result (R.view input.new) ≡ declaration_at (R.view input.old)) }
     {
         let code = input.read_uleb128()?;
         if code == 0 {
             return Ok(None);
         }
-        let declared = Abbreviation::parse_declared(alloc, input, code)?;
+        let declared = Abbreviation::parse_declared(alloc, input, scratch, code)?;
         Ok(Some(declared))
     }
 }
@@ -276,8 +288,9 @@ impl<A: Allocator + Copy> Abbreviations<A> {
     fn parse<R: Reader>(alloc: A, input: &mut R) -> Result<Abbreviations<A>>
         ensures { UnlessMemory result (answer_of found result ≡ map_of (declarations_at (R.view input.old))) }
     {
+        let mut scratch = Vec::new(alloc);
         let mut table = Abbreviations::new(alloc);
-        while let Some(declared) = Abbreviation::parse(alloc, input)? {
+        while let Some(declared) = Abbreviation::parse(alloc, input, &mut scratch)? {
             table.insert(declared)?;
         }
         Ok(table)

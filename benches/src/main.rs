@@ -1,0 +1,116 @@
+// gimli_benches ROUNDS [TASK]: our libraries and the peer in one process, rounds interleaved, best of N.
+// gimli_benches one SIDE TASK ORDER: one run of one side (peer or a library), for counting instructions.
+// CORPUS names the folder with the section `abbrev`.
+use std::hint::black_box;
+use std::time::Instant;
+
+mod inputs;
+mod peer;
+
+include!(concat!(env!("OUT_DIR"), "/libraries.rs"));
+
+const ORDERS: [&str; 4] = ["little", "big", "run-time little", "run-time big"];
+
+fn main() {
+    let arguments: Vec<String> = std::env::args().skip(1).collect();
+    let corpus = std::env::var("CORPUS").expect("CORPUS names a folder with the section abbrev");
+    let abbrev = std::fs::read(format!("{corpus}/abbrev")).expect("the section abbrev");
+    let offsets = inputs::tables(&abbrev);
+    // each section several times, so that a round is not too short
+    let again = 1 + (1 << 20) / abbrev.len();
+    let offsets: Vec<u8> = (0..again)
+        .flat_map(|_| offsets.iter().flat_map(|o| o.to_le_bytes()))
+        .collect();
+    let (numbers, words) = (inputs::leb128(1 << 21), inputs::words(1 << 21));
+    // in the order of their numbers
+    let tasks: [(&str, &[u8]); 8] = [
+        ("LEB128, sum", &numbers),
+        ("words of 2", &words),
+        ("words of 4", &words),
+        ("words of 8", &words),
+        ("records", &words),
+        ("tables", &abbrev),
+        ("tables, first", &abbrev),
+        ("LEB128, twos", &numbers),
+    ];
+    let run = |side: usize, task: u64, order: u64, first: &[u8]| {
+        if side == 0 {
+            peer::marks(task, order, first, &offsets)
+        } else {
+            let (first_length, second_length) = (first.len(), offsets.len());
+            unsafe {
+                LIBRARIES[side - 1].1(
+                    task,
+                    order,
+                    first.as_ptr(),
+                    first_length,
+                    offsets.as_ptr(),
+                    second_length,
+                )
+            }
+        }
+    };
+    if arguments[0] == "one" {
+        let place = |name: &str| {
+            LIBRARIES
+                .iter()
+                .position(|l| l.0 == name)
+                .expect("no such library")
+        };
+        let side = if arguments[1] == "peer" {
+            0
+        } else {
+            place(&arguments[1]) + 1
+        };
+        let task: usize = arguments[2].parse().unwrap();
+        if task < tasks.len() {
+            println!(
+                "{:016x}",
+                run(
+                    side,
+                    task as u64,
+                    arguments[3].parse().unwrap(),
+                    tasks[task].1
+                )
+            );
+        }
+        return;
+    }
+    let rounds: usize = arguments[0].parse().expect("a number of rounds");
+    let only = arguments.get(1).cloned().unwrap_or_default();
+    println!(
+        "peer time / our time; {} tables, read {again} times a round",
+        offsets.len() / 8 / again
+    );
+    let names: String = LIBRARIES.iter().map(|l| format!("{:>8}", l.0)).collect();
+    println!("{:<15}{:<17}{names}", "task", "order");
+    for (task, (name, first)) in tasks
+        .iter()
+        .enumerate()
+        .filter(|(_, (name, _))| name.starts_with(&only))
+    {
+        for (order, order_name) in ORDERS.iter().enumerate() {
+            let (task, order) = (black_box(task as u64), black_box(order as u64));
+            let mut best = vec![f64::MAX; LIBRARIES.len() + 1];
+            let mut sums = vec![0; best.len()];
+            for _ in 0..rounds {
+                for side in 0..best.len() {
+                    let start = Instant::now();
+                    sums[side] = black_box(run(side, task, order, first));
+                    best[side] = best[side].min(start.elapsed().as_secs_f64());
+                }
+            }
+            let ratios: String = best[1..]
+                .iter()
+                .map(|b| format!("{:>8.2}", best[0] / b))
+                .collect();
+            let same = sums.iter().all(|s| *s == sums[0]);
+            let sum = if same {
+                format!("sum {:016x}", sums[0])
+            } else {
+                format!("DIFFERENT SUMS {sums:016x?}")
+            };
+            println!("{name:<15}{order_name:<17}{ratios}  {sum}");
+        }
+    }
+}

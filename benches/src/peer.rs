@@ -1,0 +1,187 @@
+// The same work by the peer, gimli 0.27.0.
+use gimli::*;
+
+mod numbers {
+    use super::*;
+
+    #[inline(never)]
+    pub fn sum<R: Reader>(mut input: R) -> u64 {
+        let mut sum = 0u64;
+        while let Ok(value) = input.read_uleb128() {
+            sum = sum.wrapping_add(value);
+        }
+        sum
+    }
+
+    fn two<R: Reader>(input: &mut R) -> Result<u64> {
+        let one = input.read_uleb128()?;
+        let other = input.read_uleb128()?;
+        Ok(mixed(one, other))
+    }
+
+    #[inline(never)]
+    pub fn checksum_in_twos<R: Reader>(mut input: R) -> u64 {
+        let mut sum = 0u64;
+        while let Ok(value) = two(&mut input) {
+            sum = mixed(sum, value);
+        }
+        sum
+    }
+}
+
+mod words {
+    use super::*;
+
+    #[inline(never)]
+    pub fn sum_of_2<R: Reader>(mut input: R) -> u64 {
+        let mut sum = 0u64;
+        while let Ok(value) = input.read_u16() {
+            sum = sum.wrapping_add(u64::from(value));
+        }
+        sum
+    }
+
+    #[inline(never)]
+    pub fn sum_of_4<R: Reader>(mut input: R) -> u64 {
+        let mut sum = 0u64;
+        while let Ok(value) = input.read_u32() {
+            sum = sum.wrapping_add(u64::from(value));
+        }
+        sum
+    }
+
+    #[inline(never)]
+    pub fn sum_of_8<R: Reader>(mut input: R) -> u64 {
+        let mut sum = 0u64;
+        while let Ok(value) = input.read_u64() {
+            sum = sum.wrapping_add(value);
+        }
+        sum
+    }
+
+    fn record<R: Reader>(input: &mut R) -> Result<u64> {
+        let two = input.read_u16()?;
+        let four = input.read_u32()?;
+        let eight = input.read_u64()?;
+        Ok(mixed(mixed(u64::from(two), u64::from(four)), eight))
+    }
+
+    #[inline(never)]
+    pub fn sum_of_records<R: Reader>(mut input: R) -> u64 {
+        let mut sum = 0u64;
+        while let Ok(value) = record(&mut input) {
+            sum = sum.wrapping_add(value);
+        }
+        sum
+    }
+}
+
+mod tables {
+    use super::*;
+
+    fn with_specification(sum: u64, specification: &AttributeSpecification) -> u64 {
+        let name = u64::from(specification.name().0);
+        let form = u64::from(specification.form().0);
+        let named = mixed(mixed(sum, name), form);
+        match specification.implicit_const_value() {
+            Some(number) => mixed(mixed(named, number.unsigned_abs()), u64::from(number < 0)),
+            None => named,
+        }
+    }
+
+    fn with_declaration(sum: u64, declared: &Abbreviation) -> u64 {
+        let head = mixed(mixed(sum, declared.code()), u64::from(declared.tag().0));
+        let mut all = mixed(head, u64::from(declared.has_children()));
+        for specification in declared.attributes() {
+            all = with_specification(all, specification);
+        }
+        all
+    }
+
+    #[inline(never)]
+    fn with_table(sum: u64, table: &Abbreviations) -> u64 {
+        let mut all = sum;
+        for code in 1..u64::MAX {
+            match table.get(code) {
+                Some(declared) => all = with_declaration(all, declared),
+                None => break,
+            }
+        }
+        all
+    }
+
+    #[inline(never)]
+    fn with_first(sum: u64, table: &Abbreviations) -> u64 {
+        match table.get(1) {
+            Some(declared) => mixed(mixed(sum, declared.code()), u64::from(declared.tag().0)),
+            None => mixed(sum, 0),
+        }
+    }
+
+    fn whole<R: Reader>(
+        section: &DebugAbbrev<R>,
+        mut offsets: EndianSlice<'_, LittleEndian>,
+    ) -> Result<u64> {
+        let mut sum = 0u64;
+        while !offsets.is_empty() {
+            let offset = R::Offset::from_u64(offsets.read_u64()?)?;
+            let table = section.abbreviations(DebugAbbrevOffset(offset))?;
+            sum = with_table(sum, &table);
+        }
+        Ok(sum)
+    }
+
+    fn first<R: Reader>(
+        section: &DebugAbbrev<R>,
+        mut offsets: EndianSlice<'_, LittleEndian>,
+    ) -> Result<u64> {
+        let mut sum = 0u64;
+        while !offsets.is_empty() {
+            let offset = R::Offset::from_u64(offsets.read_u64()?)?;
+            let table = section.abbreviations(DebugAbbrevOffset(offset))?;
+            sum = with_first(sum, &table);
+        }
+        Ok(sum)
+    }
+
+    #[inline(never)]
+    pub fn checksum<R: Reader>(input: R, offsets: EndianSlice<'_, LittleEndian>) -> u64 {
+        whole(&DebugAbbrev::from(input), offsets).unwrap_or(0)
+    }
+
+    #[inline(never)]
+    pub fn checksum_of_first<R: Reader>(input: R, offsets: EndianSlice<'_, LittleEndian>) -> u64 {
+        first(&DebugAbbrev::from(input), offsets).unwrap_or(0)
+    }
+}
+
+#[inline(never)]
+fn task_of<E: Endianity>(task: u64, endian: E, first: &[u8], second: &[u8]) -> u64 {
+    let offsets = EndianSlice::new(second, LittleEndian);
+    match task {
+        0 => numbers::sum(EndianSlice::new(first, endian)),
+        1 => words::sum_of_2(EndianSlice::new(first, endian)),
+        2 => words::sum_of_4(EndianSlice::new(first, endian)),
+        3 => words::sum_of_8(EndianSlice::new(first, endian)),
+        4 => words::sum_of_records(EndianSlice::new(first, endian)),
+        5 => tables::checksum(EndianSlice::new(first, endian), offsets),
+        6 => tables::checksum_of_first(EndianSlice::new(first, endian), offsets),
+        7 => numbers::checksum_in_twos(EndianSlice::new(first, endian)),
+        _ => 0,
+    }
+}
+
+// Runs a task in a byte order, both numbered as in the crate gimli_marks.
+pub fn marks(task: u64, order: u64, first: &[u8], second: &[u8]) -> u64 {
+    match order {
+        0 => task_of(task, LittleEndian, first, second),
+        1 => task_of(task, BigEndian, first, second),
+        2 => task_of(task, RunTimeEndian::Little, first, second),
+        _ => task_of(task, RunTimeEndian::Big, first, second),
+    }
+}
+
+#[inline]
+fn mixed(sum: u64, value: u64) -> u64 {
+    sum.wrapping_mul(31).wrapping_add(value)
+}
