@@ -2,6 +2,7 @@
 #![tactic(auto)]
 
 ghost use Rattle.std.specs.Prelude.{◌≡◌, IfSome};
+ghost use Rattle.failing.specs.Refused.{is_refused};
 
 use std::alloc::{AllocError, Allocator};
 use std::cell::Cell;
@@ -18,8 +19,10 @@ pub enum Refusal {
 }
 
 impl Refusal {
-    // Whether the request of a number is refused.
-    fn refuses(self, number: u64) -> bool {
+    /// Whether the request of a number is refused.
+    pub fn refuses(self, number: u64) -> bool
+        ensures { result ≡ is_refused self number }
+    {
         match self {
             Refusal::Never => false,
             Refusal::Nth(refused) => number == refused,
@@ -38,7 +41,10 @@ pub struct Failing<A> {
 
 impl<A> Failing<A> {
     /// An allocator over `inner` that was asked for nothing yet.
-    pub fn new(inner: A, refused: Refusal) -> Failing<A> {
+    pub fn new(inner: A, refused: Refusal) -> Failing<A>
+        ensures inner { result.inner ≡ inner }
+        ensures refused { result.refused ≡ refused }
+    {
         Failing {
             inner,
             requests: Cell::new(0),

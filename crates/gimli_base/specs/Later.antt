@@ -28,7 +28,7 @@ IsLater-length least v w l =
     let e : length w.bytes ≡ length v.bytes - l.count = ap (λ (u : View). length u.bytes) l.is ∙ length-drop l.count v.bytes in
     omega (arith, e, l.enough, l.within)
 
-cut-cut : (m n : ℕ) (v : View) → cut n (cut m v) ≡ cut (m + n) v
+pub cut-cut : (m n : ℕ) (v : View) → cut n (cut m v) ≡ cut (m + n) v
 cut-cut m n v = rw (add_assoc v.place m n, drop-drop n m v.bytes) refl
 
 pub IsLater-none : (v : View) → IsLater 0 v v

@@ -6,6 +6,7 @@ pub mod Refusal
 pub mod OneByte
 pub mod Items
 pub mod Later
+pub mod Taken
 pub mod ItemTurns
 pub mod Abbreviations
 pub mod Table

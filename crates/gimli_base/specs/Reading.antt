@@ -1,5 +1,5 @@
 -- What each read makes of a view: a value and the view that is left, or a refusal (DWARF 5, 7.2.2, 7.4 and 7.6).
-use Rattle.std.specs.Prelude.{◌≡◌, ℕ, zero, suc, ◌+◌, ◌*◌, ◌-◌, nat_lt, nat_le, if◌then◌else◌, Bool, List, [], ◌∷◌, length, take, reverse, slice_index, Result, Ok, Err, ◌==◌, ◌||◌, Some, None, ℤ, pos, ◌+ℤ◌, ◌-ℤ◌, ◌*ℤ◌}
+use Rattle.std.specs.Prelude.{Option, ◌≡◌, ℕ, zero, suc, ◌+◌, ◌*◌, ◌-◌, nat_lt, nat_le, if◌then◌else◌, Bool, List, [], ◌∷◌, length, take, reverse, slice_index, Result, Ok, Err, ◌==◌, ◌||◌, ◌&&◌, Some, None, ℤ, pos, ◌+ℤ◌, ◌-ℤ◌, ◌*ℤ◌}
 use Rattle.std.specs.List.{position}
 use Rattle.gimli_base.specs.declared.error.Error.{Error}
 use Rattle.gimli_base.specs.declared.error.Error.TheVariants.{UnexpectedEof, BadUnsignedLeb128, BadSignedLeb128, UnknownReservedLength, UnsupportedAddressSize, UnsupportedOffsetSize, OutOfMemory}
@@ -38,6 +38,14 @@ skip_at n v = if nat_le n (length v.bytes) then Ok (tt, cut n v) else Err (eof v
 -- the next n bytes as a view of their own
 unfoldable pub split_at : ℕ → View → Reads View
 split_at n v = if nat_le n (length v.bytes) then Ok (front n v, cut n v) else Err (eof v)
+
+-- the first n bytes stay
+unfoldable pub truncate_at : ℕ → View → Reads (Unit {0})
+truncate_at n v = if nat_le n (length v.bytes) then Ok (tt, front n v) else Err (eof v)
+
+-- the number of bytes before a place, where the place is from the first to the end
+unfoldable pub lookup_at : ℕ → View → Option ℕ
+lookup_at place v = if nat_le v.place place && nat_le place (v.place + length v.bytes) then Some (place - v.place) else None
 
 -- the next byte
 unfoldable pub byte_at : View → Reads ℕ

@@ -2,6 +2,7 @@
 
 ghost use Rattle.std.specs.Prelude.{ℕ, ◌≡◌, ◌≢◌, ◌==◌, [], is_some, if◌then◌else◌, Some, None, Option, OnOk, IfErr, IsSome};
 ghost use Rattle.std.specs.Option.{option_copied};
+ghost use Rattle.gimli_base.specs.declared.common.SectionId.TheVariants.{DebugAbbrev as AbbrevSection};
 ghost use Rattle.gimli_base.specs.Abbreviations.{
   Specification,
   Declaration,
@@ -323,6 +324,8 @@ impl<R> From<R> for DebugAbbrev<R> {
 }
 
 impl<R: Reader> Section<R> for DebugAbbrev<R> {
+    ghost section = { AbbrevSection };
+
     ghost content = { λ s. R.view s.section };
 
     fn id() -> SectionId {

@@ -24,6 +24,19 @@ pub struct DwRle(pub u8);
 #[derive(Clone, Copy, Debug, PartialEq, Eq, PartialOrd, Ord, Hash)]
 pub struct DwLle(pub u8);
 
+/// The code of a compilation unit (DWARF 5, 7.5.1.1).
+pub const DW_UT_compile: DwUt = DwUt(0x01);
+/// The code of a type unit (DWARF 5, 7.5.1.3).
+pub const DW_UT_type: DwUt = DwUt(0x02);
+/// The code of a partial unit (DWARF 5, 7.5.1.1).
+pub const DW_UT_partial: DwUt = DwUt(0x03);
+/// The code of a skeleton unit (DWARF 5, 7.5.1.2).
+pub const DW_UT_skeleton: DwUt = DwUt(0x04);
+/// The code of a split compilation unit (DWARF 5, 7.5.1.2).
+pub const DW_UT_split_compile: DwUt = DwUt(0x05);
+/// The code of a type unit of a split file (DWARF 5, 7.5.1.3).
+pub const DW_UT_split_type: DwUt = DwUt(0x06);
+
 /// The tag of a null entry, which closes a list of children.
 pub const DW_TAG_null: DwTag = DwTag(0x00);
 

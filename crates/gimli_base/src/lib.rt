@@ -20,8 +20,9 @@ pub use common::{
 };
 pub use constants::{
     DW_AT_null, DW_CHILDREN_no, DW_CHILDREN_yes, DW_FORM_data1, DW_FORM_implicit_const,
-    DW_FORM_null, DW_FORM_ref1, DW_FORM_string, DW_TAG_null, DwAt, DwForm, DwLle, DwRle, DwTag,
-    DwUt,
+    DW_FORM_null, DW_FORM_ref1, DW_FORM_string, DW_TAG_null, DW_UT_compile, DW_UT_partial,
+    DW_UT_skeleton, DW_UT_split_compile, DW_UT_split_type, DW_UT_type, DwAt, DwForm, DwLle, DwRle,
+    DwTag, DwUt,
 };
 pub use endian_slice::EndianSlice;
 pub use endianity::{BigEndian, Endianity, LittleEndian, RunTimeEndian};

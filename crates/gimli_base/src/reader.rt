@@ -1,6 +1,7 @@
 //! Readers: what can be read next, and where.
 
 ghost use Rattle.std.specs.Prelude.{◌≡◌, ℕ, ◌+◌, ◌-◌, ◌<◌, ◌≤◌, ◌^◌, ◌↔◌, length, Bool, IsTrue, OnErr};
+ghost use Rattle.std.specs.Option.{option_map};
 ghost use Rattle.gimli_base.specs.Offset.{answer_of};
 ghost use Rattle.gimli_base.specs.View.{View, ended};
 ghost use Rattle.gimli_base.specs.Reading.{
@@ -21,6 +22,8 @@ ghost use Rattle.gimli_base.specs.Reading.{
   initial_length_at,
   address_size_at,
   map_first,
+  truncate_at,
+  lookup_at,
 };
 
 use crate::leb128::{long_sleb128, long_uleb128, signed_bits};
@@ -102,6 +105,34 @@ pub trait Reader: Debug + Drop {
     {
         let all = self.len();
         let _ = self.skip(all);
+    }
+
+    /// Keeps the next `n` bytes alone. Refusal: `UnexpectedEof` where there are fewer.
+    #[tactic(auto, unfolding(crate::specs::Reading::truncate_at, crate::specs::Reading::split_at))]
+    final fn truncate(&mut self, n: Self::Offset) -> Result<()>
+        ensures value { read result (view self.new) ≡ truncate_at (Self.Offset.number n) (view self.old) }
+        ensures kept { OnErr result (view self.new ≡ view self.old) }
+    {
+        let mut rest = self.copy();
+        let front = rest.split(n)?;
+        *self = front;
+        Ok(())
+    }
+
+    /// The number of bytes before a place, where the place is one of the reader's bytes or its end.
+    #[tactic(auto, unfolding(crate::specs::Reading::lookup_at))]
+    final fn lookup_offset_id(&self, id: ReaderOffsetId) -> Option<Self::Offset>
+        ensures { option_map Self.Offset.number result ≡ lookup_at id.0 (view self.now) }
+    {
+        let start = self.offset_id().0;
+        if id.0 < start {
+            return None;
+        }
+        let before = id.0 - start;
+        if before > self.len().into_u64() {
+            return None;
+        }
+        Self::Offset::from_u64(before).ok()
     }
 
     /// The next two bytes as a number. Refusal: `UnexpectedEof`.

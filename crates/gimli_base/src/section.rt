@@ -1,19 +1,36 @@
 //! Sections of debugging information.
 
-ghost use Rattle.std.specs.Prelude.{◌≡◌};
+ghost use Rattle.std.specs.Prelude.{◌≡◌, IfSome};
+ghost use Rattle.std.specs.Option.{option_map};
+ghost use Rattle.gimli_base.specs.declared.common.SectionId.{SectionId as Name};
 ghost use Rattle.gimli_base.specs.View.{View};
+ghost use Rattle.gimli_base.specs.Reading.{lookup_at};
 
-use crate::{Reader, SectionId};
+use crate::{Reader, ReaderOffsetId, SectionId};
 
 /// A section that is read by `R`.
 pub trait Section<R: Reader>: From<R> {
+    // which section it is
+    ghost section: { Name };
+
     // what the section holds
     ghost content: { Self → View };
 
     /// Which section it is.
-    fn id() -> SectionId;
+    fn id() -> SectionId
+        ensures { result ≡ section };
 
     /// The reader of the whole section.
     fn reader(&self) -> &R
         ensures { R.view result.now ≡ content self.now };
+
+    /// The section, and the number of its bytes before a place, where the place is one of its bytes or its end.
+    final fn lookup_offset_id(&self, id: ReaderOffsetId) -> Option<(SectionId, R::Offset)>
+        ensures number { option_map (λ p. R.Offset.number p.1) result ≡ lookup_at id.0 (content self.now) }
+        ensures named { IfSome result (λ p. p.0 ≡ section) }
+    {
+        self.reader()
+            .lookup_offset_id(id)
+            .map(|offset| (Self::id(), offset))
+    }
 }

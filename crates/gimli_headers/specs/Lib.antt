@@ -1,3 +1,4 @@
 pub mod Header
 pub mod Units
 pub mod UnitReads
+pub mod UnitSteps

@@ -1,8 +1,9 @@
 -- The units of a section, one behind the other (DWARF 5, 7.5.1).
-use Rattle.std.specs.Prelude.{ℕ, ◌+◌, ◌==◌, if◌then◌else◌, length, Option, Some, None, Result, Ok, Err}
+use Rattle.std.specs.Prelude.{◌≡◌, ℕ, zero, suc, ◌+◌, ◌<◌, ◌==◌, if◌then◌else◌, List, [], ◌∷◌, ◌++◌, map, length, Option, Some, None, Result, Ok, Err}
 use Rattle.gimli_base.specs.declared.common.SectionId.{SectionId}
 use Rattle.gimli_base.specs.declared.error.Error.{Error}
-use Rattle.gimli_base.specs.View.{View, ended}
+use Rattle.gimli_base.specs.View.{View, cut, ended}
+use Rattle.gimli_base.specs.Reading.{Reads, ◌>>=◌, skip_at}
 use Rattle.gimli_units.specs.Unit.{UnitView, whole_length}
 use Rattle.gimli_headers.specs.Header.{unit_at}
 
@@ -11,7 +12,46 @@ pub record UnitsPlace : Type 0 where
   pub rest : View
   pub offset : ℕ
 
--- The next unit of a section, and the place behind its whole length: none where nothing is left, and behind a refusal
+-- the place behind the whole length of a unit
+abbrev pub behind : UnitView → UnitsPlace → UnitsPlace
+behind u p = record { rest = cut (whole_length u) p.rest; offset = p.offset + whole_length u }
+
+-- units one behind the other, and the refusal that ends them, if it isn't the end of the bytes
+pub record Units : Type 0 where
+  pub units : List UnitView
+  pub refusal : Option Error
+
+-- no unit
+abbrev pub no_units : Option Error → Units
+no_units refusal = record { units = []; refusal = refusal }
+
+-- a unit before others
+abbrev pub then_unit : UnitView → Units → Units
+then_unit u us = record { units = u ∷ us.units; refusal = us.refusal }
+
+-- The units from a place on: each begins where the whole length of the one before ends, up to the end of the bytes or to
+-- the first header that is refused. Each takes a byte at least, so that n, the number of bytes, is enough.
+unfoldable pub units_within : ℕ → SectionId → ℕ → UnitsPlace → Units
+units_within limit section zero p = no_units None
+units_within limit section (suc n) p =
+    if length p.rest.bytes == 0 then no_units None
+    else elim (unit_at limit section p.offset p.rest) [
+      | Ok q ↦ then_unit q.0 (units_within limit section n (behind q.0 p))
+      | Err e ↦ no_units (Some e)
+    ]
+
+unfoldable pub units_ahead : ℕ → SectionId → UnitsPlace → Units
+units_ahead limit section p = units_within limit section (length p.rest.bytes) p
+
+-- the units of a section, the first at 0
+abbrev pub units_of : ℕ → SectionId → View → Units
+units_of limit section v = units_ahead limit section (record { rest = v; offset = 0 })
+
+-- each unit as an answer, and then the refusal
+abbrev pub answers : Units → List (Result UnitView Error)
+answers us = map Ok us.units ++ elim us.refusal [ None ↦ [] | Some e ↦ Err e ∷ [] ]
+
+-- The next unit of a section, and the place that its reading leaves: none where nothing is left, and behind a refusal
 -- nothing is left.
 unfoldable pub next_unit : ℕ → SectionId → UnitsPlace → Result (Option UnitView) Error × UnitsPlace
 next_unit limit section p =
@@ -21,8 +61,42 @@ next_unit limit section p =
       | Err e ↦ (Err e, record { rest = ended p.rest; offset = p.offset })
     ]
 
+-- an answer before units
+abbrev pub answered : Result (Option UnitView) Error → Units → Units
+answered (Ok None) us = no_units None
+answered (Ok (Some u)) us = then_unit u us
+answered (Err e) us = no_units (Some e)
+
 -- the answer of an iterator as that of a call that may be refused
 abbrev pub transposed : {A : Type 0} → Option (Result A Error) → Result (Option A) Error
 transposed None = Ok None
 transposed (Some (Ok a)) = Ok (Some a)
 transposed (Some (Err e)) = Err e
+
+-- a unit, without what is left behind it
+abbrev pub unit_alone : Reads UnitView → Result UnitView Error
+unit_alone (Ok p) = Ok p.0
+unit_alone (Err e) = Err e
+
+-- the unit at an offset of a section
+unfoldable pub header_at : ℕ → SectionId → ℕ → View → Result UnitView Error
+header_at limit section offset v = unit_alone (skip_at offset v >>= λ p. unit_at limit section offset p.1)
+
+-- units that lie one behind the other, the first at `start`, and the last up to `end`
+abbrev pub Tile : ℕ → List UnitView → ℕ → Type 0
+Tile start [] end = start ≡ end
+Tile start (u ∷ us) end = (u.offset ≡ start) × Tile (start + whole_length u) us end
+
+-- the units tile a section from 0 on: up to its end, or to the offset at which a header is refused
+abbrev pub EndsAt : ℕ → SectionId → View → Option Error → ℕ → Type 0
+EndsAt limit section v None end = end ≡ length v.bytes
+EndsAt limit section v (Some e) end = (end < length v.bytes) × (header_at limit section end v ≡ Err e)
+
+abbrev pub Tiles : ℕ → SectionId → View → Type 0
+Tiles limit section v =
+    let us : Units = units_of limit section v in
+    (end : ℕ) × Tile 0 us.units end × EndsAt limit section v us.refusal end
+
+-- the header of a unit is that at the unit's offset
+abbrev pub IsHeaderAt : ℕ → SectionId → View → UnitView → Type 0
+IsHeaderAt limit section v u = header_at limit section u.offset v ≡ Ok u

@@ -1,16 +1,20 @@
 //! The section `.debug_info`, and its units.
 
-ghost use Rattle.std.specs.Prelude.{◌≡◌, ◌+◌, ◌<◌, length, MatchResult, OnSome};
+ghost use Rattle.std.specs.Prelude.{◌≡◌, ◌+◌, ◌<◌, length, MatchResult, IfOk, IfSome, OnSome};
+ghost use Rattle.std.specs.Fn.{FnOnceReturnsAt};
+ghost use Rattle.std.specs.List.{All};
 ghost use Rattle.std.specs.Option.{option_map};
 ghost use Rattle.std.specs.Iterator.{at_most};
 ghost use Rattle.gimli_base.specs.declared.common.SectionId.TheVariants.{DebugInfo as InfoSection};
 ghost use Rattle.gimli_base.specs.Offset.{answer_of};
 ghost use Rattle.gimli_base.specs.View.{View};
-ghost use Rattle.gimli_headers.specs.Units.{UnitsPlace, next_unit, transposed};
+ghost use Rattle.gimli_units.specs.Unit.{header_size, size_of_header};
+ghost use Rattle.gimli_headers.specs.Units.{UnitsPlace, next_unit, header_at, transposed, units_ahead, units_of, answered, Tiles, IsHeaderAt};
 
 use crate::parse::parse_unit_header;
+use crate::units::next_header;
 use gimli_base::{EndianSlice, Endianity, Reader, ReaderOffset, Result, Section, SectionId};
-use gimli_units::{HasUnit, UnitHeader, UnitSectionOffset};
+use gimli_units::{DebugInfoOffset, HasUnit, UnitHeader, UnitSectionOffset};
 use std::fmt::Debug;
 use std::marker::Model;
 
@@ -31,6 +35,18 @@ impl<'a, E: Endianity> DebugInfo<EndianSlice<'a, E>> {
     }
 }
 
+impl<T> DebugInfo<T> {
+    /// The section that is read by what `f` makes of this one's reader. `f` is called once.
+    pub fn borrow<'a, R, F: FnOnce(&'a T) -> R>(&'a self, f: F) -> DebugInfo<R>
+        requires { F.IsAlwaysCallable f }
+        ensures { FnOnceReturnsAt F.FnOnce f self.now.section result.section }
+    {
+        DebugInfo {
+            section: f(&self.section),
+        }
+    }
+}
+
 impl<R> From<R> for DebugInfo<R> {
     ghost from_gives = { λ r s. s.section ≡ r };
 
@@ -40,6 +56,8 @@ impl<R> From<R> for DebugInfo<R> {
 }
 
 impl<R: Reader> Section<R> for DebugInfo<R> {
+    ghost section = { InfoSection };
+
     ghost content = { λ s. R.view s.section };
 
     fn id() -> SectionId {
@@ -52,9 +70,28 @@ impl<R: Reader> Section<R> for DebugInfo<R> {
 }
 
 impl<R: Reader> DebugInfo<R> {
-    /// The units of the section, from its beginning on.
+    /// The header of the unit at an offset of the section.
+    ///
+    /// Refusals: `UnexpectedEof`, also where the offset lies behind the section's end, and those of `next` of the units.
+    #[tactic(auto, unfolding(crate::specs::Units::header_at))]
+    pub fn header_from_offset(&self, offset: DebugInfoOffset<R::Offset>) -> Result<UnitHeader<R>>
+        ensures value { answer_of ⟦<UnitHeader<R> as HasUnit>⟧.unit result ≡ header_at R.Offset.limit InfoSection (R.Offset.number offset.0) (⟦<DebugInfo<R> as Section<R>>⟧.content self.now) }
+        ensures size { IfOk result (λ u. size_of_header (⟦<UnitHeader<R> as HasUnit>⟧.unit u) ≡ header_size (⟦<UnitHeader<R> as HasUnit>⟧.unit u)) }
+    {
+        let mut input = self.section.copy();
+        input.skip(offset.0)?;
+        parse_unit_header(
+            &mut input,
+            SectionId::DebugInfo,
+            UnitSectionOffset(offset.0),
+        )
+    }
+
+    /// The units of the section, from its beginning on: they lie one behind the other, and each is the one at its offset.
     pub fn units(&self) -> DebugInfoUnitHeadersIter<R>
-        ensures { result ≡ record { rest = ⟦<DebugInfo<R> as Section<R>>⟧.content self.now; offset = 0 } }
+        ensures begin { result ≡ record { rest = ⟦<DebugInfo<R> as Section<R>>⟧.content self.now; offset = 0 } }
+        ensures tiles { Tiles R.Offset.limit InfoSection (⟦<DebugInfo<R> as Section<R>>⟧.content self.now) }
+        ensures found { All (IsHeaderAt R.Offset.limit InfoSection (⟦<DebugInfo<R> as Section<R>>⟧.content self.now)) (units_of R.Offset.limit InfoSection (⟦<DebugInfo<R> as Section<R>>⟧.content self.now)).units }
     {
         DebugInfoUnitHeadersIter {
             input: self.section.copy(),
@@ -82,30 +119,15 @@ impl<R: Reader> Model for DebugInfoUnitHeadersIter<R> {
 impl<R: Reader> DebugInfoUnitHeadersIter<R> {
     /// The next unit, or none at the end of the section.
     ///
-    /// Refusals: `UnexpectedEof`, `UnknownReservedLength`, `UnknownVersion`, `UnsupportedAddressSize`,
-    /// `UnsupportedOffset`; nothing is left then.
-    #[tactic(auto, unfolding(crate::specs::Units::next_unit))]
+    /// Refusals: `UnexpectedEof`, `UnknownReservedLength`, `UnknownVersion`, `UnknownUnitType`,
+    /// `UnsupportedAddressSize`, `UnsupportedOffset`; nothing is left then.
     pub fn next(&mut self) -> Result<Option<UnitHeader<R>>>
         ensures value { (answer_of (option_map ⟦<UnitHeader<R> as HasUnit>⟧.unit) result, self.new) ≡ next_unit R.Offset.limit InfoSection self.old }
+        ensures ahead { units_ahead R.Offset.limit InfoSection self.old ≡ answered (answer_of (option_map ⟦<UnitHeader<R> as HasUnit>⟧.unit) result) (units_ahead R.Offset.limit InfoSection self.new) }
+        ensures size { IfOk result (λ unit. IfSome unit (λ u. size_of_header (⟦<UnitHeader<R> as HasUnit>⟧.unit u) ≡ header_size (⟦<UnitHeader<R> as HasUnit>⟧.unit u))) }
         ensures takes { MatchResult result (λ unit. OnSome unit (length self.new.rest.bytes < length self.old.rest.bytes)) (λ _. length self.new.rest.bytes < length self.old.rest.bytes) }
     {
-        if self.input.is_empty() {
-            return Ok(None);
-        }
-        let mut rest = self.input.copy();
-        match parse_unit_header(&mut rest, SectionId::DebugInfo, self.offset) {
-            Ok(header) => {
-                let whole_length = header.length_including_self();
-                let behind = self.offset.0.checked_add(whole_length).unwrap();
-                self.input = rest;
-                self.offset = UnitSectionOffset(behind);
-                Ok(Some(header))
-            }
-            Err(error) => {
-                self.input.empty();
-                Err(error)
-            }
-        }
+        next_header(&mut self.input, &mut self.offset, SectionId::DebugInfo)
     }
 }
 

@@ -2,6 +2,11 @@
 #![tactic(auto)]
 
 mod debug_info;
+mod debug_types;
 mod parse;
+#[cfg(test)]
+mod samples;
+mod units;
 
 pub use debug_info::{DebugInfo, DebugInfoUnitHeadersIter};
+pub use debug_types::{DebugTypes, DebugTypesUnitHeadersIter};

@@ -1,62 +1,172 @@
 //! The reading of a header.
 
-ghost use Rattle.std.specs.Prelude.{◌≡◌, ◌+◌, ◌<◌, ◌≤◌, OnOk, length};
+ghost use Rattle.std.specs.Prelude.{◌≡◌, ◌+◌, ◌<◌, ◌≤◌, length, IfOk};
 ghost use Rattle.gimli_base.specs.Offset.{answer_of};
 ghost use Rattle.gimli_base.specs.Reading.{read};
-ghost use Rattle.gimli_headers.specs.Header.{version_at, fields_at, unit_at};
+ghost use Rattle.gimli_headers.specs.Header.{
+  old_common_at,
+  new_common_at,
+  common_at,
+  signature_at,
+  type_at,
+  fields_at,
+  unit_at,
+  implied_type,
+  common_of,
+};
+ghost use Rattle.gimli_units.specs.Unit.{header_size, size_of_header};
+ghost use Rattle.gimli_units.specs.UnitKind.{map_type};
 
-use gimli_base::{DebugAbbrevOffset, Encoding, Error, Format, Reader, Result, SectionId};
-use gimli_units::{HasUnit, UnitHeader, UnitSectionOffset, UnitType};
+use gimli_base::{
+    DW_UT_compile, DW_UT_partial, DW_UT_skeleton, DW_UT_split_compile, DW_UT_split_type,
+    DW_UT_type, DebugAbbrevOffset, DebugTypeSignature, DwUt, DwoId, Encoding, Error, Format,
+    Reader, Result, SectionId,
+};
+use gimli_units::{HasUnit, UnitHeader, UnitOffset, UnitSectionOffset, UnitType};
 
-// The version of a unit, which has to be 4; where it is refused, the input is left anywhere.
-#[tactic(auto, unfolding(crate::specs::Header::version_at))]
-fn parse_version<R: Reader>(input: &mut R) -> Result<u16>
-    ensures { read result (R.view input.new) ≡ version_at (R.view input.old) }
+// What every header says.
+#[derive(Clone, Copy)]
+struct Common<Offset> {
+    version: u16,
+    unit_type: DwUt,
+    debug_abbrev_offset: DebugAbbrevOffset<Offset>,
+    address_size: u8,
+}
+
+// The code of the type that a unit of versions 2 to 4 has by its section.
+fn implied_type(section: SectionId) -> DwUt
+    ensures { result.0 ≡ implied_type section }
+{
+    match section {
+        SectionId::DebugTypes => DW_UT_type,
+        _ => DW_UT_compile,
+    }
+}
+
+// The fields of versions 2 to 4, behind the version; where they are refused, the input is left anywhere.
+#[tactic(auto, unfolding(crate::specs::Header::old_common_at))]
+fn parse_old_common<R: Reader>(
+    input: &mut R,
+    section: SectionId,
+    format: Format,
+    version: u16,
+) -> Result<Common<R::Offset>>
+    ensures { read (answer_of (common_of R.Offset.number) result) (R.view input.new) ≡ old_common_at R.Offset.limit section format version (R.view input.old) }
+{
+    let debug_abbrev_offset = DebugAbbrevOffset(input.read_offset(format)?);
+    let address_size = input.read_address_size()?;
+    Ok(Common {
+        version,
+        unit_type: implied_type(section),
+        debug_abbrev_offset,
+        address_size,
+    })
+}
+
+// The fields of version 5, behind the version; where they are refused, the input is left anywhere.
+#[tactic(auto, unfolding(crate::specs::Header::new_common_at))]
+fn parse_new_common<R: Reader>(
+    input: &mut R,
+    format: Format,
+    version: u16,
+) -> Result<Common<R::Offset>>
+    ensures { read (answer_of (common_of R.Offset.number) result) (R.view input.new) ≡ new_common_at R.Offset.limit format version (R.view input.old) }
+{
+    let unit_type = DwUt(input.read_u8()?);
+    let address_size = input.read_address_size()?;
+    let debug_abbrev_offset = DebugAbbrevOffset(input.read_offset(format)?);
+    Ok(Common {
+        version,
+        unit_type,
+        debug_abbrev_offset,
+        address_size,
+    })
+}
+
+// The fields behind a length field, up to those that the type adds; where they are refused, the input is left anywhere.
+#[tactic(auto, unfolding(crate::specs::Header::common_at))]
+fn parse_common<R: Reader>(
+    input: &mut R,
+    section: SectionId,
+    format: Format,
+) -> Result<Common<R::Offset>>
+    ensures { read (answer_of (common_of R.Offset.number) result) (R.view input.new) ≡ common_at R.Offset.limit section format (R.view input.old) }
 {
     let version = input.read_u16()?;
-    if version == 4 {
-        Ok(version)
+    if 2 <= version && version <= 4 {
+        parse_old_common(input, section, format, version)
+    } else if version == 5 {
+        parse_new_common(input, format, version)
     } else {
         Err(Error::UnknownVersion(u64::from(version)))
     }
 }
 
-// The fields behind a length field; where they are refused, the input is left anywhere.
-#[tactic(auto, unfolding(crate::specs::Header::fields_at))]
-fn parse_fields<R: Reader>(
+// A signature, and where the type's entry stands; where they are refused, the input is left anywhere.
+#[tactic(auto, unfolding(crate::specs::Header::signature_at))]
+fn parse_signature<R: Reader>(
     input: &mut R,
     format: Format,
-) -> Result<(u16, DebugAbbrevOffset<R::Offset>, u8)>
-    ensures { read (answer_of (λ p. (p.0, R.Offset.number p.1.0, p.2)) result) (R.view input.new) ≡ fields_at R.Offset.limit format (R.view input.old) }
+) -> Result<(DebugTypeSignature, UnitOffset<R::Offset>)>
+    ensures { read (answer_of (λ p. (p.0.0, R.Offset.number p.1.0)) result) (R.view input.new) ≡ signature_at R.Offset.limit format (R.view input.old) }
 {
-    let version = parse_version(input)?;
-    let debug_abbrev_offset = DebugAbbrevOffset(input.read_offset(format)?);
-    let address_size = input.read_address_size()?;
-    Ok((version, debug_abbrev_offset, address_size))
+    let type_signature = DebugTypeSignature(input.read_u64()?);
+    let type_offset = UnitOffset(input.read_offset(format)?);
+    Ok((type_signature, type_offset))
+}
+
+// What the type of a code adds; where it is refused, the input is left anywhere.
+#[tactic(auto, unfolding(crate::specs::Header::type_at))]
+fn parse_type<R: Reader>(input: &mut R, format: Format, code: DwUt) -> Result<UnitType<R::Offset>>
+    ensures { read (answer_of (map_type R.Offset.number) result) (R.view input.new) ≡ type_at R.Offset.limit format code.0 (R.view input.old) }
+{
+    match code {
+        DW_UT_compile => Ok(UnitType::Compilation),
+        DW_UT_type => {
+            let (type_signature, type_offset) = parse_signature(input, format)?;
+            Ok(UnitType::TypeUnit {
+                type_signature,
+                type_offset,
+            })
+        }
+        DW_UT_partial => Ok(UnitType::Partial),
+        DW_UT_skeleton => Ok(UnitType::Skeleton(DwoId(input.read_u64()?))),
+        DW_UT_split_compile => Ok(UnitType::SplitCompilation(DwoId(input.read_u64()?))),
+        DW_UT_split_type => {
+            let (type_signature, type_offset) = parse_signature(input, format)?;
+            Ok(UnitType::SplitType {
+                type_signature,
+                type_offset,
+            })
+        }
+        _ => Err(Error::UnknownUnitType(code)),
+    }
 }
 
 /// The next unit, which begins at an offset of its section; where it is refused, the input is left anywhere.
-#[tactic(auto, unfolding(crate::specs::Header::unit_at))]
+#[tactic(auto, unfolding(crate::specs::Header::unit_at, crate::specs::Header::fields_at))]
 pub(crate) fn parse_unit_header<R: Reader>(
     input: &mut R,
     section: SectionId,
     unit_offset: UnitSectionOffset<R::Offset>,
 ) -> Result<UnitHeader<R>>
-    ensures { read (answer_of ⟦<UnitHeader<R> as HasUnit>⟧.unit result) (R.view input.new) ≡ unit_at R.Offset.limit section (R.Offset.number unit_offset.0) (R.view input.old) }
+    ensures value { read (answer_of ⟦<UnitHeader<R> as HasUnit>⟧.unit result) (R.view input.new) ≡ unit_at R.Offset.limit section (R.Offset.number unit_offset.0) (R.view input.old) }
+    ensures size { IfOk result (λ u. size_of_header (⟦<UnitHeader<R> as HasUnit>⟧.unit u) ≡ header_size (⟦<UnitHeader<R> as HasUnit>⟧.unit u)) }
 {
     let (unit_length, format) = input.read_initial_length()?;
     let mut rest = input.split(unit_length)?;
-    let (version, debug_abbrev_offset, address_size) = parse_fields(&mut rest, format)?;
+    let common = parse_common(&mut rest, section, format)?;
+    let unit_type = parse_type(&mut rest, format, common.unit_type)?;
     let encoding = Encoding {
         format,
-        version,
-        address_size,
+        version: common.version,
+        address_size: common.address_size,
     };
     Ok(UnitHeader::new(
         encoding,
         unit_length,
-        UnitType::Compilation,
-        debug_abbrev_offset,
+        unit_type,
+        common.debug_abbrev_offset,
         section,
         unit_offset,
         rest,

@@ -1,1 +1,2 @@
 pub mod AttributeTurns
+pub mod Bounds

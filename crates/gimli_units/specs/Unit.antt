@@ -1,13 +1,18 @@
 -- What the header of a unit holds, and the bounds of its offsets (DWARF 5, 7.5.1).
-use Rattle.std.specs.Prelude.{ℕ, ◌+◌, ◌-◌, nat_le, nat_lt, ◌&&◌, if◌then◌else◌, Bool, length, pos, Option, unwrap_or, Result, Ok, Err}
+use Rattle.std.specs.Prelude.{ℕ, ◌+◌, ◌-◌, nat_le, nat_lt, ◌&&◌, if◌then◌else◌, ◌==◌, ◌^◌, Bool, true, false, length, pos, Option, Some, None, unwrap_or, Result, Ok, Err}
 use Rattle.gimli_base.specs.declared.common.Encoding.{Encoding}
 use Rattle.gimli_base.specs.declared.common.SectionId.{SectionId}
 use Rattle.gimli_base.specs.declared.error.Error.{Error}
-use Rattle.gimli_base.specs.declared.error.Error.TheVariants.{OffsetOutOfBounds}
+use Rattle.gimli_base.specs.declared.error.Error.TheVariants.{OffsetOutOfBounds, NoEntryAtGivenOffset}
 use Rattle.gimli_units.specs.declared.unit_type.UnitType.{UnitType}
-use Rattle.gimli_base.specs.View.{View, cut}
-use Rattle.gimli_base.specs.Reading.{initial_length_size_of}
+use Rattle.gimli_units.specs.declared.unit_type.UnitType.TheVariants.{Compilation, TypeUnit, Partial, Skeleton, SplitCompilation, SplitType}
+use Rattle.gimli_base.specs.declared.common.Format.{Format}
+use Rattle.gimli_base.specs.declared.common.SectionId.TheVariants.{DebugInfo, DebugTypes}
+use Rattle.gimli_base.specs.View.{View, cut, front}
+use Rattle.gimli_base.specs.Reading.{Reads, initial_length_size_of, word_size_of}
 use Rattle.gimli_base.specs.Table.{Table}
+use Rattle.gimli_base.specs.Abbreviations.{Map}
+use Rattle.gimli_units.specs.Entry.{Entry, is_null, abbreviation_at, takes_memory, entry_at}
 use Rattle.gimli_units.specs.RawPlace.{RawPlace}
 
 -- a unit: how its bytes are read, the number in its length field, its type, where its abbreviations are, the section and
@@ -37,6 +42,53 @@ in_bounds u offset = nat_le (header_size u) offset && nat_lt offset (whole_lengt
 unfoldable pub range_from : UnitView → ℕ → Result View Error
 range_from u offset = if in_bounds u offset then Ok (cut (offset - header_size u) u.entries) else Err (OffsetOutOfBounds offset)
 
+-- the bytes from an offset to the one before another, which is not before it
+unfoldable pub range_of : UnitView → ℕ → ℕ → Result View Error
+range_of u start end =
+    if in_bounds u start
+    then (if in_bounds u end then Ok (front (end - start) (cut (start - header_size u) u.entries)) else Err (OffsetOutOfBounds end))
+    else Err (OffsetOutOfBounds start)
+
+-- the bytes from the first entry to the one before an offset
+unfoldable pub range_to : UnitView → ℕ → Result View Error
+range_to u end = if in_bounds u end then Ok (front (end - header_size u) u.entries) else Err (OffsetOutOfBounds end)
+
+abbrev pub is_debug_info : SectionId → Bool
+is_debug_info DebugInfo = true
+is_debug_info section = false
+
+abbrev pub is_debug_types : SectionId → Bool
+is_debug_types DebugTypes = true
+is_debug_types section = false
+
+-- where the unit begins in `.debug_info`, if it lies there
+abbrev pub debug_info_offset : UnitView → Option ℕ
+debug_info_offset u = if is_debug_info u.section then Some u.offset else None
+
+-- where the unit begins in `.debug_types`, if it lies there
+abbrev pub debug_types_offset : UnitView → Option ℕ
+debug_types_offset u = if is_debug_types u.section then Some u.offset else None
+
+-- the number of bytes that a type adds to a header
+abbrev pub added_size : Format → UnitType ℕ → ℕ
+added_size format Compilation = 0
+added_size format (TypeUnit signature offset) = 8 + word_size_of format
+added_size format Partial = 0
+added_size format (Skeleton id) = 8
+added_size format (SplitCompilation id) = 8
+added_size format (SplitType signature offset) = 8 + word_size_of format
+
+-- the number of bytes of a header by its format, its version and its type: the length field, the version, the offset of
+-- the abbreviations, the size of an address, in version 5 the type, and what the type adds
+abbrev pub size_of_header : UnitView → ℕ
+size_of_header u =
+    initial_length_size_of u.encoding.format + 2 + word_size_of u.encoding.format + 1
+    + (if u.encoding.version == 5 then 1 else 0) + added_size u.encoding.format u.kind
+
+-- the least address of a size that stands for none: all ones, less one
+abbrev pub min_tombstone : ℕ → ℕ
+min_tombstone size = 256 ^ size - 2
+
 -- a reader of the entries in these bytes of a unit
 abbrev pub entries_in : UnitView → Table → Result View Error → Result RawPlace Error
 entries_in u abbreviations (Ok v) = Ok (record { rest = v; encoding = u.encoding; abbreviations = abbreviations; end = whole_length u; depth = pos 0 })
@@ -45,3 +97,26 @@ entries_in u abbreviations (Err e) = Err e
 -- a reader of the entries from an offset on, or from the first
 unfoldable pub entries_from : UnitView → Table → Option ℕ → Result RawPlace Error
 entries_from u abbreviations offset = entries_in u abbreviations (range_from u (unwrap_or offset (header_size u)))
+
+-- what was read as an entry, and is one
+abbrev pub some_entry : ℕ → Reads Entry → Result Entry Error
+some_entry offset (Ok p) = if is_null p.0 then Err (NoEntryAtGivenOffset offset) else Ok p.0
+some_entry offset (Err e) = Err e
+
+-- the entry in these bytes of a unit
+abbrev pub entry_in : ℕ → Map → ℕ → Result View Error → Result Entry Error
+entry_in limit declared offset (Ok v) = some_entry offset (entry_at limit declared v)
+entry_in limit declared offset (Err e) = Err e
+
+-- the entry at an offset of a unit
+unfoldable pub unit_entry_at : ℕ → UnitView → Map → ℕ → Result Entry Error
+unit_entry_at limit u declared offset = entry_in limit declared offset (range_from u offset)
+
+-- whether memory is asked for where the entry in these bytes is read
+abbrev pub takes_memory_in : Map → Result View Error → Bool
+takes_memory_in declared (Ok v) = takes_memory (abbreviation_at declared v)
+takes_memory_in declared (Err e) = false
+
+-- an offset of the unit's section as one of the unit: not before the unit, and in bounds
+abbrev pub within_unit : UnitView → ℕ → Option ℕ
+within_unit u offset = if nat_le u.offset offset && in_bounds u (offset - u.offset) then Some (offset - u.offset) else None

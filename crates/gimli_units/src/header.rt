@@ -1,21 +1,25 @@
 //! Headers of units.
 
-ghost use Rattle.std.specs.Prelude.{◌≡◌, ◌+◌, ◌-◌, ◌<◌, ◌≤◌, pos, length, ⊤};
+ghost use Rattle.std.specs.Prelude.{◌≡◌, ◌+◌, ◌-◌, ◌<◌, ◌≤◌, length, pos, ⊤, IsTrue, false, ◌↔◌, IfOk};
 ghost use Rattle.std.specs.Option.{option_map};
 ghost use Rattle.gimli_base.specs.Offset.{answer_of};
 ghost use Rattle.gimli_base.specs.Abbreviations.{map_at};
 ghost use Rattle.gimli_base.specs.Table.{found};
-ghost use Rattle.gimli_base.specs.Reading.{initial_length_size_of, UnlessMemory};
+ghost use Rattle.gimli_base.specs.Reading.{initial_length_size_of, is_size, UnlessMemory};
+ghost use Rattle.gimli_units.specs.Entry.{entry_of};
 ghost use Rattle.gimli_units.specs.UnitKind.{map_type};
 
-use crate::{EntriesRaw, UnitOffset, UnitSectionOffset, UnitType};
+use crate::{
+    DebugInfoOffset, DebugTypesOffset, DebuggingInformationEntry, EntriesRaw, UnitOffset,
+    UnitSectionOffset, UnitType,
+};
 use gimli_base::{
     Abbreviations, DebugAbbrev, DebugAbbrevOffset, Encoding, Error, Format, Reader, ReaderOffset,
     Result, Section, SectionId,
 };
 use std::alloc::{AllocError, Allocator};
 use std::fmt::Debug;
-use std::ops::RangeFrom;
+use std::ops::{Range, RangeFrom, RangeTo};
 
 /// What stands for a unit in contracts: its fields, at views and numbers.
 pub trait HasUnit {
@@ -66,7 +70,7 @@ impl<R: Reader> HasUnit for UnitHeader<R> {
 }
 
 impl<R: Reader> UnitHeader<R> {
-    ghost use Rattle.gimli_units.specs.Unit.{UnitView, whole_length, header_size, in_bounds, range_from, entries_from};
+    ghost use Rattle.gimli_units.specs.Unit.{UnitView, whole_length, header_size, in_bounds, range_from, entries_from, range_of, range_to, debug_info_offset, debug_types_offset, size_of_header, min_tombstone, unit_entry_at, takes_memory_in};
 
     /// A header of these parts. The whole length, which is 4 or 12 and `unit_length`, has to fit the reader's offsets,
     /// and to be no less than the number of bytes in `entries_buf`.
@@ -129,6 +133,81 @@ impl<R: Reader> UnitHeader<R> {
         self.unit_type
     }
 
+    /// The version of DWARF.
+    pub fn version(&self) -> u16
+        ensures { result ≡ (⟦<UnitHeader<R> as HasUnit>⟧.unit self.now).encoding.version }
+    {
+        let encoding = self.encoding;
+        encoding.version
+    }
+
+    /// The number of bytes of an address.
+    pub fn address_size(&self) -> u8
+        ensures { result ≡ (⟦<UnitHeader<R> as HasUnit>⟧.unit self.now).encoding.address_size }
+    {
+        let encoding = self.encoding;
+        encoding.address_size
+    }
+
+    /// The format, which gives the width of lengths and offsets.
+    pub fn format(&self) -> Format
+        ensures { result ≡ (⟦<UnitHeader<R> as HasUnit>⟧.unit self.now).encoding.format }
+    {
+        let encoding = self.encoding;
+        encoding.format
+    }
+
+    /// Where the unit begins in `.debug_info`, if it lies there.
+    pub fn debug_info_offset(&self) -> Option<DebugInfoOffset<R::Offset>>
+        ensures { option_map (λ o. R.Offset.number o.0) result ≡ debug_info_offset (⟦<UnitHeader<R> as HasUnit>⟧.unit self.now) }
+    {
+        match self.section {
+            SectionId::DebugInfo => Some(DebugInfoOffset(self.unit_offset.0)),
+            _ => None,
+        }
+    }
+
+    /// Where the unit begins in `.debug_types`, if it lies there.
+    pub fn debug_types_offset(&self) -> Option<DebugTypesOffset<R::Offset>>
+        ensures { option_map (λ o. R.Offset.number o.0) result ≡ debug_types_offset (⟦<UnitHeader<R> as HasUnit>⟧.unit self.now) }
+    {
+        match self.section {
+            SectionId::DebugTypes => Some(DebugTypesOffset(self.unit_offset.0)),
+            _ => None,
+        }
+    }
+
+    /// The number of bytes of the header by its format, version and type.
+    pub fn size_of_header(&self) -> usize
+        ensures { result ≡ size_of_header (⟦<UnitHeader<R> as HasUnit>⟧.unit self.now) }
+    {
+        let format = self.encoding.format;
+        let field = usize::from(format.initial_length_size());
+        let word = usize::from(format.word_size());
+        let type_code = if self.encoding.version == 5 { 1 } else { 0 };
+        let added = match self.unit_type {
+            UnitType::Compilation | UnitType::Partial => 0,
+            UnitType::TypeUnit { .. } | UnitType::SplitType { .. } => 8 + word,
+            UnitType::Skeleton(_) | UnitType::SplitCompilation(_) => 8,
+        };
+        field + 2 + word + 1 + type_code + added
+    }
+
+    /// Whether an address stands for none: it is all ones in the unit's size of addresses, or one less. The size has to
+    /// be 1, 2, 4 or 8.
+    pub fn is_tombstone_address(&self, address: u64) -> bool
+        requires { IsTrue (is_size (⟦<UnitHeader<R> as HasUnit>⟧.unit self.now).encoding.address_size) }
+        ensures { IsTrue result ↔ (min_tombstone (⟦<UnitHeader<R> as HasUnit>⟧.unit self.now).encoding.address_size ≤ address) }
+    {
+        let least = match self.encoding.address_size {
+            1 => 0xfe,
+            2 => 0xfffe,
+            4 => 0xffff_fffe,
+            _ => 0xffff_ffff_ffff_fffe,
+        };
+        least <= address
+    }
+
     /// Where the unit's abbreviations begin in `.debug_abbrev`.
     pub fn debug_abbrev_offset(&self) -> DebugAbbrevOffset<R::Offset>
         ensures { R.Offset.number result.0 ≡ (⟦<UnitHeader<R> as HasUnit>⟧.unit self.now).abbreviations }
@@ -175,7 +254,7 @@ impl<R: Reader> UnitHeader<R> {
     }
 
     // Whether an offset is that of an entry's byte: not before the first, and before the end.
-    fn is_in_bounds(&self, offset: UnitOffset<R::Offset>) -> bool
+    pub(crate) fn is_in_bounds(&self, offset: UnitOffset<R::Offset>) -> bool
         ensures { result ≡ in_bounds (⟦<UnitHeader<R> as HasUnit>⟧.unit self.now) (R.Offset.number offset.0) }
     {
         let number = offset.0.into_u64();
@@ -196,6 +275,62 @@ impl<R: Reader> UnitHeader<R> {
         let mut range = self.entries_buf.copy();
         range.skip(before)?;
         Ok(range)
+    }
+
+    /// The bytes from an offset to the one before another, which must not be before it. Refusal: `OffsetOutOfBounds` of
+    /// the first offset, or else of the second; so the unit's end is none that can be named.
+    #[tactic(auto, unfolding(crate::specs::Unit::range_of, crate::specs::Unit::range_from, gimli_base::specs::Reading::truncate_at))]
+    pub fn range(&self, idx: Range<UnitOffset<R::Offset>>) -> Result<R>
+        requires { R.Offset.number idx.start.0 ≤ R.Offset.number idx.end.0 }
+        ensures { answer_of R.view result ≡ range_of (⟦<UnitHeader<R> as HasUnit>⟧.unit self.now) (R.Offset.number idx.start.0) (R.Offset.number idx.end.0) }
+    {
+        let start = idx.start;
+        let end = idx.end;
+        let mut range = self.range_from(start..)?;
+        if !self.is_in_bounds(end) {
+            return Err(Error::OffsetOutOfBounds(end.0.into_u64()));
+        }
+        range.truncate(end.0.checked_sub(start.0).unwrap())?;
+        Ok(range)
+    }
+
+    /// The bytes from the first entry to the one before an offset. Refusal: `OffsetOutOfBounds`.
+    #[tactic(auto, unfolding(crate::specs::Unit::range_to, gimli_base::specs::Reading::truncate_at))]
+    pub fn range_to(&self, idx: RangeTo<UnitOffset<R::Offset>>) -> Result<R>
+        ensures { answer_of R.view result ≡ range_to (⟦<UnitHeader<R> as HasUnit>⟧.unit self.now) (R.Offset.number idx.end.0) }
+    {
+        if !self.is_in_bounds(idx.end) {
+            return Err(Error::OffsetOutOfBounds(idx.end.0.into_u64()));
+        }
+        let length = idx.end.0.checked_sub(self.header_size()).unwrap();
+        let mut range = self.entries_buf.copy();
+        range.truncate(length)?;
+        Ok(range)
+    }
+
+    /// The entry at an offset, at depth 0.
+    ///
+    /// Refusals: `OffsetOutOfBounds`, then those of reading the entry, and `NoEntryAtGivenOffset` at a null. Memory is
+    /// taken only where the entry's declaration has attributes.
+    #[tactic(auto, unfolding(crate::specs::Unit::unit_entry_at, crate::specs::Unit::entries_from))]
+    pub fn entry<A: Allocator + Copy>(
+        &self,
+        alloc: A,
+        abbreviations: &Abbreviations<A>,
+        offset: UnitOffset<R::Offset>,
+    ) -> Result<DebuggingInformationEntry<R, A>>
+        ensures value { UnlessMemory result (answer_of (λ e. entry_of R.view R.Offset.number e.tag e.has_children e.attrs.items) result ≡ unit_entry_at R.Offset.limit (⟦<UnitHeader<R> as HasUnit>⟧.unit self.now) (found abbreviations.now) (R.Offset.number offset.0)) }
+        ensures without_memory { takes_memory_in (found abbreviations.now) (range_from (⟦<UnitHeader<R> as HasUnit>⟧.unit self.now) (R.Offset.number offset.0)) ≡ false → answer_of (λ e. entry_of R.view R.Offset.number e.tag e.has_children e.attrs.items) result ≡ unit_entry_at R.Offset.limit (⟦<UnitHeader<R> as HasUnit>⟧.unit self.now) (found abbreviations.now) (R.Offset.number offset.0) }
+        ensures offset { IfOk result (λ e. R.Offset.number e.offset.0 ≡ R.Offset.number offset.0) }
+        ensures depth { IfOk result (λ e. e.depth ≡ pos 0) }
+    {
+        let mut entry = DebuggingInformationEntry::null(alloc);
+        let mut entries = self.entries_raw(abbreviations, Some(offset))?;
+        if entries.read_entry(&mut entry)? {
+            Ok(entry)
+        } else {
+            Err(Error::NoEntryAtGivenOffset(offset.0.into_u64()))
+        }
     }
 
     /// A reader of the entries from an offset on, or from the first. Refusal: `OffsetOutOfBounds`, also without an

@@ -2,6 +2,7 @@
 #![tactic(auto)]
 
 mod attribute;
+mod convert;
 mod entry;
 mod header;
 mod offset;
@@ -14,7 +15,7 @@ mod value;
 pub use attribute::Attribute;
 pub use entry::DebuggingInformationEntry;
 pub use header::{HasUnit, UnitHeader};
-pub use offset::{UnitOffset, UnitSectionOffset};
+pub use offset::{DebugInfoOffset, DebugTypesOffset, UnitOffset, UnitSectionOffset};
 pub use raw::EntriesRaw;
 pub use unit_type::UnitType;
 pub use value::AttributeValue;

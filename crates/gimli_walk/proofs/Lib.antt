@@ -2,3 +2,4 @@ pub mod WrittenLines
 pub mod RowLines
 pub mod Roots
 pub mod Declared
+pub mod WordLines

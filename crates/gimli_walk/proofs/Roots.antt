@@ -1,6 +1,6 @@
 -- The rows of a unit from its first entry on.
-use Rattle.std.proofs.Common.{◌≡◌, ℕ, ◌+◌, ◌-◌, ◌<◌, ◌≤◌, pos, Bool, true, false, List, Option, None, Some, Result, Ok, Err, refl, sym, ap, ◌∙◌, subst, arith, length, ◌⊎◌, inl, inr, add-zero}
-use Rattle.std.specs.Prelude.{nat_le, nat_lt, ◌&&◌, if◌then◌else◌}
+use Rattle.std.proofs.Common.{◌≡◌, ℕ, ◌-◌, ◌<◌, ◌≤◌, pos, true, false, List, Option, None, Result, Ok, Err, refl, ap, ◌∙◌, arith, length, ◌⊎◌, inl, inr, add-zero}
+use Rattle.std.specs.Prelude.{nat_le, nat_lt}
 use Rattle.std.specs.Io.KnownBytes.{Appends}
 use Rattle.std.proofs.lemmas.Bool.{le-leb, lt-ltb, le-ltb, cases_lt}
 use Rattle.gimli_base.specs.declared.common.Format.{Format}
@@ -9,15 +9,14 @@ use Rattle.gimli_base.specs.declared.error.Error.{Error}
 use Rattle.gimli_base.specs.declared.error.Error.TheVariants.{OffsetOutOfBounds}
 use Rattle.gimli_base.specs.View.{View, cut}
 use Rattle.gimli_base.specs.Reading.{initial_length_size_of}
-use Rattle.gimli_base.specs.Refusal.{number_of}
 use Rattle.gimli_base.specs.Abbreviations.{Map}
 use Rattle.gimli_base.specs.Table.{Table, found}
 use Rattle.gimli_units.specs.Entry.{entry_at}
 use Rattle.gimli_units.specs.RawPlace.{RawPlace}
-use Rattle.gimli_units.specs.Rows.{Ahead, ahead_at}
+use Rattle.gimli_units.specs.Rows.{ahead_at}
 use Rattle.gimli_units.specs.RowSteps.{ahead_ended}
-use Rattle.gimli_units.specs.Unit.{UnitView, whole_length, header_size, in_bounds, range_from, entries_in, entries_from}
-use Rattle.gimli_walk.specs.Text.{Text, Wrote, end_line, error_line, rows_text, unit_text, declared_text}
+use Rattle.gimli_units.specs.Unit.{UnitView, whole_length, header_size, range_from, entries_in, entries_from}
+use Rattle.gimli_walk.specs.Text.{Wrote, end_line, rows_text, unit_text, declared_text}
 use Rattle.gimli_walk.proofs.WrittenLines.{Wrote-only, Wrote-same}
 
 some_size : (format : Format) → 0 < initial_length_size_of format

@@ -1,18 +1,16 @@
 -- The lines of rows, as the reading of an entry moves along them.
-use Rattle.std.proofs.Common.{◌≡◌, ℕ, ◌+◌, ◌<◌, ◌≤◌, ℤ, List, [], ◌∷◌, ◌++◌, Option, None, Some, Ok, Err, refl, sym, ap, ◌∙◌, arith, length, length-append, subst}
-use Rattle.std.specs.Prelude.{map}
+use Rattle.std.proofs.Common.{◌≡◌, ℕ, ◌<◌, List, Option, Ok, Err, ap, arith, length, length-append}
 use Rattle.std.specs.Io.KnownBytes.{Appends}
 use Rattle.gimli_base.specs.declared.error.Error.{Error}
 use Rattle.gimli_base.specs.Refusal.{number_of}
 use Rattle.gimli_base.specs.View.{View}
-use Rattle.gimli_base.specs.Reading.{Reads}
 use Rattle.gimli_base.specs.Table.{found}
 use Rattle.gimli_units.specs.Entry.{Entry, entry_at}
 use Rattle.gimli_units.specs.EntryReads.{entry_at-shorter}
 use Rattle.gimli_units.specs.RawPlace.{RawPlace, next_offset_of, depth_after}
-use Rattle.gimli_units.specs.Rows.{Ahead, ahead_at, offset_of_view}
-use Rattle.gimli_units.specs.RowSteps.{then_row, no_row, ahead_ended, ahead_refused, ahead_more}
-use Rattle.gimli_walk.specs.Text.{Text, Wrote, row_line, line_of, end_line, error_line_at, memory_line, last_line, rows_text}
+use Rattle.gimli_units.specs.Rows.{Ahead, ahead_at}
+use Rattle.gimli_units.specs.RowSteps.{ahead_ended, ahead_refused, ahead_more}
+use Rattle.gimli_walk.specs.Text.{Text, Wrote, row_line, end_line, error_line_at, memory_line, rows_text}
 use Rattle.gimli_walk.proofs.WrittenLines.{Wrote-more, Wrote-only, Wrote-memory}
 
 -- the text of the rows that are ahead of a reader of entries

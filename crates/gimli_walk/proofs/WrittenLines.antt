@@ -1,7 +1,7 @@
 -- Lines that were written, joined to those that are still to come.
-use Rattle.std.proofs.Common.{◌≡◌, ℕ, ◌+◌, ◌<◌, ◌≤◌, suc, List, [], ◌∷◌, ◌++◌, Option, None, Some, refl, sym, ap, ◌∙◌, append_assoc, arith, length, length-append, subst, Result}
+use Rattle.std.proofs.Common.{◌≡◌, ℕ, ◌<◌, suc, List, ◌∷◌, ◌++◌, Option, None, Some, refl, ap, ◌∙◌, append_assoc, arith, length, subst, Result}
 use Rattle.std.proofs.lemmas.List.{append-nil}
-use Rattle.std.specs.Prelude.{take, map, IfOk}
+use Rattle.std.specs.Prelude.{take, IfOk}
 use Rattle.std.specs.List.{concat}
 use Rattle.std.specs.Io.KnownBytes.{Appends}
 use Rattle.gimli_walk.specs.Text.{Text, only, memory_line, Wrote, all_lines, some_lines}

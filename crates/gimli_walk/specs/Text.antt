@@ -1,5 +1,5 @@
 -- The text of a walk over the first unit of `.debug_info`, as a function of the bytes of two sections.
-use Rattle.std.specs.Prelude.{◌≡◌, ℕ, ◌+◌, ◌<◌, ◌^◌, ◌==◌, if◌then◌else◌, Bool, true, false, ℤ, pos, List, [], ◌∷◌, ◌++◌, map, take, length, codes, Option, Some, None, Result, Ok, Err}
+use Rattle.std.specs.Prelude.{◌≡◌, ℕ, ◌<◌, ◌^◌, ◌==◌, if◌then◌else◌, Bool, true, false, ℤ, pos, List, [], ◌∷◌, ◌++◌, map, take, length, codes, Option, Some, None, Result, Ok, Err}
 use Rattle.std.specs.List.{concat}
 use Rattle.std.specs.Fmt.{digits, signed_decimal, decimal}
 use Rattle.std.specs.Io.KnownBytes.{Appends}
@@ -99,6 +99,19 @@ little bytes = record { big = false; place = 0; bytes = bytes }
 -- the text of a walk over the bytes of `.debug_info` and `.debug_abbrev`, in little endian and with offsets of 64 bits
 abbrev pub text_of : Mode → List ℕ → List ℕ → Text
 text_of Rows info abbreviations = sections_text (2 ^ 64) (little info) (little abbreviations)
+
+-- whether `.debug_info` begins with a unit; memory is asked for behind its header alone
+abbrev pub is_read : Reads UnitView → Bool
+is_read (Ok p) = true
+is_read (Err e) = false
+
+abbrev pub has_unit : ℕ → View → Bool
+has_unit limit info = is_read (unit_at limit DebugInfo 0 info)
+
+-- what is written is all lines
+pub record WroteAll (old new : Option (List ℕ)) (text : Text) (status : ℕ) : Type 0 where
+  pub lines : Appends old new (concat text.lines)
+  pub same_status : status ≡ text.status
 
 -- what is written is all lines; or, where memory was refused, whole lines from the front and then the line that says so
 pub data Wrote (old new : Option (List ℕ)) (text : Text) (status : ℕ) : Type 0 where

@@ -3,10 +3,12 @@
 
 mod lines;
 mod mode;
+mod run;
 mod text;
 mod words;
 
 pub use lines::WriteFault;
 pub use mode::Mode;
+pub use run::{Run, run_type_units, run_units};
 pub use text::walk_text;
 pub use words::run_words;

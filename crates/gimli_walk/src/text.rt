@@ -1,11 +1,11 @@
 //! Walks over the first unit, as text.
 
-ghost use Rattle.std.specs.Prelude.{◌≡◌, IfOk};
+ghost use Rattle.std.specs.Prelude.{◌≡◌, ◌^◌, IfOk, false};
 ghost use Rattle.gimli_base.specs.Table.{found};
 ghost use Rattle.gimli_units.specs.Entry.{entry_at};
 ghost use Rattle.gimli_units.specs.Rows.{ahead_at};
 ghost use Rattle.gimli_base.specs.Abbreviations.{map_at};
-ghost use Rattle.gimli_walk.specs.Text.{Wrote, rows_text, declared_text, sections_text, text_of};
+ghost use Rattle.gimli_walk.specs.Text.{Wrote, WroteAll, has_unit, little, rows_text, declared_text, sections_text, text_of};
 
 use crate::Mode;
 use crate::lines::{WriteFault, write_end, write_error, write_error_at, write_no_unit, write_row};
@@ -18,19 +18,20 @@ use std::io::Write;
 /// Writes what a walk over the first unit of `.debug_info` answers, and answers the exit status: 1 where there is no
 /// unit or a refusal was met, else 0. The sections are little endian.
 ///
-/// Where memory is refused, whole lines from the front are written and then `error 24`, and the status is 1. Nothing is
-/// said of what is written where a write fails.
+/// Where memory is refused, whole lines from the front are written and then `error 24`, and the status is 1; before the
+/// header of the unit is read no memory is asked for. Nothing is said of what is written where a write fails.
 pub fn walk_text<A: Allocator + Copy, W: Write>(
     alloc: A,
     mode: Mode,
     info: &[u8],
-    abbrev: &[u8],
+    abbreviations: &[u8],
     out: &mut W,
 ) -> Result<u8, WriteFault>
-    ensures { IfOk result (λ status. Wrote (W.contents out.old) (W.contents out.new) (text_of mode info.now abbrev.now) status) }
+    ensures text { IfOk result (λ status. Wrote (W.contents out.old) (W.contents out.new) (text_of mode info.now abbreviations.now) status) }
+    ensures without_memory { has_unit (2 ^ 64) (little info.now) ≡ false → IfOk result (λ status. WroteAll (W.contents out.old) (W.contents out.new) (text_of mode info.now abbreviations.now) status) }
 {
     let debug_info = DebugInfo::new(info, LittleEndian);
-    let debug_abbrev = DebugAbbrev::new(abbrev, LittleEndian);
+    let debug_abbrev = DebugAbbrev::new(abbreviations, LittleEndian);
     match mode {
         Mode::Rows => walk_sections(alloc, &debug_info, &debug_abbrev, out),
     }
@@ -44,7 +45,8 @@ fn walk_sections<R: Reader, A: Allocator + Copy, W: Write>(
     debug_abbrev: &DebugAbbrev<R>,
     out: &mut W,
 ) -> Result<u8, WriteFault>
-    ensures { IfOk result (λ status. Wrote (W.contents out.old) (W.contents out.new) (sections_text R.Offset.limit (⟦<DebugInfo<R> as Section<R>>⟧.content debug_info.now) (⟦<DebugAbbrev<R> as Section<R>>⟧.content debug_abbrev.now)) status) }
+    ensures without_memory { has_unit R.Offset.limit (⟦<DebugInfo<R> as Section<R>>⟧.content debug_info.now) ≡ false → IfOk result (λ status. WroteAll (W.contents out.old) (W.contents out.new) (sections_text R.Offset.limit (⟦<DebugInfo<R> as Section<R>>⟧.content debug_info.now) (⟦<DebugAbbrev<R> as Section<R>>⟧.content debug_abbrev.now)) status) }
+    ensures text { IfOk result (λ status. Wrote (W.contents out.old) (W.contents out.new) (sections_text R.Offset.limit (⟦<DebugInfo<R> as Section<R>>⟧.content debug_info.now) (⟦<DebugAbbrev<R> as Section<R>>⟧.content debug_abbrev.now)) status) }
 {
     match debug_info.units().next() {
         Ok(None) => {

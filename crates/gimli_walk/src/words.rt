@@ -1,5 +1,8 @@
 //! The words of the command line.
 
+ghost use Rattle.std.specs.Prelude.{◌≡◌};
+ghost use Rattle.gimli_walk.specs.Words.{AsksRows, Walked, word};
+
 use crate::{Mode, walk_text};
 use std::alloc::Allocator;
 use std::io::Write;
@@ -18,6 +21,8 @@ pub fn run_words<A: Allocator + Copy, F: FnMut(&str) -> Option<Vec<u8>>, W: Writ
     err: &mut E,
 ) -> u8
     requires { F.IsAlwaysCallable read }
+    ensures usage { (AsksRows words.now → ⊥) → (result ≡ 2) × (out.new ≡ out.old) }
+    ensures rows { AsksRows words.now → Walked F.FnMut (λ v. v.items) read (word words.now 1) (word words.now 2) (W.contents out.old) (W.contents out.new) result }
 {
     match words {
         ["rows", info, abbrev] => {
@@ -35,13 +40,17 @@ pub fn run_words<A: Allocator + Copy, F: FnMut(&str) -> Option<Vec<u8>>, W: Writ
 }
 
 // Says how the program is called.
-fn usage<E: Write>(err: &mut E) -> u8 {
+fn usage<E: Write>(err: &mut E) -> u8
+    ensures { result ≡ 2 }
+{
     let _ = err.write_all(USAGE.as_bytes());
     2
 }
 
 // Says which file can't be read.
-fn cannot_read<E: Write>(err: &mut E, name: &str) -> u8 {
+fn cannot_read<E: Write>(err: &mut E, name: &str) -> u8
+    ensures { result ≡ 3 }
+{
     let _ = write!(err, "cannot read {name}\n");
     3
 }

@@ -4,6 +4,8 @@
 #[cfg(test)]
 mod entries;
 #[cfg(test)]
+mod runs;
+#[cfg(test)]
 mod tables;
 #[cfg(test)]
 mod walks;

@@ -1,7 +1,7 @@
 use crate::{
     Abbreviation, Abbreviations, AttributeSpecification, BigEndian, DebugAbbrev, DebugAbbrevOffset,
     DwAt, DwForm, DwTag, EndianSlice, Endianity, Error, LittleEndian, ReaderOffsetId,
-    RunTimeEndian,
+    RunTimeEndian, Section, SectionId,
 };
 use std::alloc::Global;
 use std::test::Fail;
@@ -357,4 +357,32 @@ fn begins_at_the_place_0(rt: HostRuntime) -> Result<(), Fail> {
         Some(Error::UnexpectedEof(ReaderOffsetId(0)))
     );
     Ok(())
+}
+
+#[test]
+fn finds_the_places_of_the_section(rt: HostRuntime) {
+    let section = EndianSlice::new_at(&EXAMPLE, LittleEndian, FIRST_PLACE);
+    let section = DebugAbbrev::from(section);
+    // the section has 48 bytes
+    let wanted = [
+        (0, None),
+        (99, None),
+        (100, Some(0)),
+        (117, Some(17)),
+        (147, Some(47)),
+        (148, Some(48)),
+        (149, None),
+        (u64::MAX, None),
+    ];
+    for (place, bytes) in wanted {
+        let found = section.lookup_offset_id(ReaderOffsetId(place));
+        let wanted = bytes.map(|bytes| (SectionId::DebugAbbrev, bytes));
+        assert_eq!(rt; found, wanted, "{place}");
+    }
+    let section = DebugAbbrev::new(&EXAMPLE, LittleEndian);
+    for (place, bytes) in [(0, Some(0)), (48, Some(48)), (49, None), (100, None)] {
+        let found = section.lookup_offset_id(ReaderOffsetId(place));
+        let wanted = bytes.map(|bytes| (SectionId::DebugAbbrev, bytes));
+        assert_eq!(rt; found, wanted, "{place}");
+    }
 }

@@ -6,6 +6,8 @@ use std::hash::{DefaultHasher, Hash, Hasher};
 use std::process::Abort;
 use std::test::Fail;
 
+mod places;
+
 // The first place of most readers below.
 const FIRST_PLACE: u64 = 100;
 

@@ -12,6 +12,10 @@ use std::alloc::Global;
 use std::process::Abort;
 use std::test::Fail;
 
+mod entries;
+mod ranges;
+mod sizes;
+
 // What a header is made of, besides its entries.
 #[derive(Clone, Copy, Debug)]
 struct Parts {

@@ -129,10 +129,10 @@ fn refuses_a_header(rt: HostRuntime) {
         (&[0xfe, 0xff, 0xff, 0xff, 0x04, 0x00], "error 4\n"),
         (&[0x02, 0, 0, 0, 0xab, 0xcd], "error 5\n"),
         (
-            &[0x08, 0, 0, 0, 0x05, 0, 0x01, 0x04, 0, 0, 0, 0],
-            "error 5\n",
+            &[0x08, 0, 0, 0, 0x05, 0, 0x07, 0x04, 0, 0, 0, 0],
+            "error 6\n",
         ),
-        (&[0x07, 0, 0, 0, 0x03, 0, 0, 0, 0, 0, 0x04], "error 5\n"),
+        (&[0x07, 0, 0, 0, 0x06, 0, 0, 0, 0, 0, 0x04], "error 5\n"),
         (&[0x07, 0, 0, 0, 0x04, 0, 0, 0, 0, 0, 0x03], "error 7\n"),
     ];
     for (info, text) in cases {

@@ -1,8 +1,8 @@
-use Rattle.std.proofs.Common.{◌≡◌, ◌≢◌, rules, arith, length, ap, ◌∙◌, Ok, Err, ℤ, w64, to_z, of_z}
+use Rattle.std.proofs.Common.{◌≡◌, rules, length, ap, ◌∙◌, ℤ, w64, to_z, of_z}
 use Rattle.std.proofs.lemmas.Int.{to_z-of_z}
 use Rattle.gimli_base.specs.declared.error.Error.TheVariants.{OutOfMemory}
 use Rattle.gimli_units.specs.EntryReads.{entry_at-shorter}
-use Rattle.gimli_units.specs.RawPlace.{RawPlace, next_offset_of, depth_after}
+use Rattle.gimli_units.specs.RawPlace.{next_offset_of}
 use Rattle.gimli_units.specs.Entry.{entry_of}
 use Rattle.gimli_walk.proofs.WrittenLines.{Wrote-same}
 use Rattle.gimli_walk.proofs.RowLines.{place_text, rows_memory, rows_ended, rows_refused, rows_more}

@@ -1,4 +1,3 @@
-use Rattle.std.proofs.Common.{◌≡◌, rules, arith, length, ap, ◌∙◌, Ok, Err}
 use Rattle.gimli_units.specs.UnitKind.{map_type}
 use Rattle.gimli_units.specs.Unit.{UnitView}
 use Rattle.gimli_walk.proofs.WrittenLines.{Wrote-same_if}

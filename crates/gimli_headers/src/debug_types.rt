@@ -1,0 +1,129 @@
+//! The section `.debug_types`, and its units.
+
+ghost use Rattle.std.specs.Prelude.{◌≡◌, ◌+◌, ◌<◌, length, MatchResult, IfOk, IfSome, OnSome};
+ghost use Rattle.std.specs.Fn.{FnOnceReturnsAt};
+ghost use Rattle.std.specs.List.{All};
+ghost use Rattle.std.specs.Option.{option_map};
+ghost use Rattle.std.specs.Iterator.{at_most};
+ghost use Rattle.gimli_base.specs.declared.common.SectionId.TheVariants.{DebugTypes as TypesSection};
+ghost use Rattle.gimli_base.specs.Offset.{answer_of};
+ghost use Rattle.gimli_base.specs.View.{View};
+ghost use Rattle.gimli_units.specs.Unit.{header_size, size_of_header};
+ghost use Rattle.gimli_headers.specs.Units.{UnitsPlace, next_unit, transposed, units_ahead, units_of, answered, Tiles, IsHeaderAt};
+
+use crate::units::next_header;
+use gimli_base::{EndianSlice, Endianity, Reader, ReaderOffset, Result, Section, SectionId};
+use gimli_units::{HasUnit, UnitHeader, UnitSectionOffset};
+use std::fmt::Debug;
+use std::marker::Model;
+
+/// The section `.debug_types` (DWARF 4, 7.5).
+#[derive(Clone, Copy, Debug, Default)]
+pub struct DebugTypes<R> {
+    section: R,
+}
+
+impl<'a, E: Endianity> DebugTypes<EndianSlice<'a, E>> {
+    /// The section of these bytes.
+    pub fn new(bytes: &'a [u8], endian: E) -> Self
+        ensures { ⟦<DebugTypes<EndianSlice<'a, E>> as Section<EndianSlice<'a, E>>>⟧.content result ≡ record { big = E.big endian; place = 0; bytes = bytes.now } }
+    {
+        DebugTypes {
+            section: EndianSlice::new(bytes, endian),
+        }
+    }
+}
+
+impl<T> DebugTypes<T> {
+    /// The section that is read by what `f` makes of this one's reader. `f` is called once.
+    pub fn borrow<'a, R, F: FnOnce(&'a T) -> R>(&'a self, f: F) -> DebugTypes<R>
+        requires { F.IsAlwaysCallable f }
+        ensures { FnOnceReturnsAt F.FnOnce f self.now.section result.section }
+    {
+        DebugTypes {
+            section: f(&self.section),
+        }
+    }
+}
+
+impl<R> From<R> for DebugTypes<R> {
+    ghost from_gives = { λ r s. s.section ≡ r };
+
+    fn from(section: R) -> Self {
+        DebugTypes { section }
+    }
+}
+
+impl<R: Reader> Section<R> for DebugTypes<R> {
+    ghost section = { TypesSection };
+
+    ghost content = { λ s. R.view s.section };
+
+    fn id() -> SectionId {
+        SectionId::DebugTypes
+    }
+
+    fn reader(&self) -> &R {
+        &self.section
+    }
+}
+
+impl<R: Reader> DebugTypes<R> {
+    /// The units of the section, from its beginning on: they lie one behind the other, and each is the one at its offset.
+    pub fn units(&self) -> DebugTypesUnitHeadersIter<R>
+        ensures begin { result ≡ record { rest = ⟦<DebugTypes<R> as Section<R>>⟧.content self.now; offset = 0 } }
+        ensures tiles { Tiles R.Offset.limit TypesSection (⟦<DebugTypes<R> as Section<R>>⟧.content self.now) }
+        ensures found { All (IsHeaderAt R.Offset.limit TypesSection (⟦<DebugTypes<R> as Section<R>>⟧.content self.now)) (units_of R.Offset.limit TypesSection (⟦<DebugTypes<R> as Section<R>>⟧.content self.now)).units }
+    {
+        DebugTypesUnitHeadersIter {
+            input: self.section.copy(),
+            offset: UnitSectionOffset(R::Offset::from_u8(0)),
+        }
+    }
+}
+
+/// The units of `.debug_types`, one behind the other.
+#[derive(Debug, Drop)]
+pub struct DebugTypesUnitHeadersIter<R: Reader> {
+    input: R,
+    // where the input begins in its section
+    offset: UnitSectionOffset<R::Offset>,
+}
+
+impl<R: Reader> Model for DebugTypesUnitHeadersIter<R> {
+    ghost Value = { UnitsPlace };
+
+    ghost view = { λ u. record { rest = R.view u.input; offset = R.Offset.number u.offset.0 } };
+
+    ghost invariant = { λ u. R.Offset.number u.offset.0 + length (R.view u.input).bytes < R.Offset.limit };
+}
+
+impl<R: Reader> DebugTypesUnitHeadersIter<R> {
+    /// The next unit, or none at the end of the section.
+    ///
+    /// Refusals: `UnexpectedEof`, `UnknownReservedLength`, `UnknownVersion`, `UnknownUnitType`,
+    /// `UnsupportedAddressSize`, `UnsupportedOffset`; nothing is left then.
+    pub fn next(&mut self) -> Result<Option<UnitHeader<R>>>
+        ensures value { (answer_of (option_map ⟦<UnitHeader<R> as HasUnit>⟧.unit) result, self.new) ≡ next_unit R.Offset.limit TypesSection self.old }
+        ensures ahead { units_ahead R.Offset.limit TypesSection self.old ≡ answered (answer_of (option_map ⟦<UnitHeader<R> as HasUnit>⟧.unit) result) (units_ahead R.Offset.limit TypesSection self.new) }
+        ensures size { IfOk result (λ unit. IfSome unit (λ u. size_of_header (⟦<UnitHeader<R> as HasUnit>⟧.unit u) ≡ header_size (⟦<UnitHeader<R> as HasUnit>⟧.unit u))) }
+        ensures takes { MatchResult result (λ unit. OnSome unit (length self.new.rest.bytes < length self.old.rest.bytes)) (λ _. length self.new.rest.bytes < length self.old.rest.bytes) }
+    {
+        next_header(&mut self.input, &mut self.offset, SectionId::DebugTypes)
+    }
+}
+
+impl<R: Reader> Iterator for DebugTypesUnitHeadersIter<R> {
+    type Item = Result<UnitHeader<R>>;
+
+    ghost next_gives = { λ s r t. (answer_of (option_map ⟦<UnitHeader<R> as HasUnit>⟧.unit) (transposed r), t) ≡ next_unit R.Offset.limit TypesSection s };
+
+    ghost remaining = { λ s. at_most (length s.rest.bytes) };
+
+    fn next(&mut self) -> Option<Result<UnitHeader<R>>> {
+        DebugTypesUnitHeadersIter::next(self).transpose()
+    }
+}
+
+#[cfg(test)]
+mod tests;

@@ -1,0 +1,69 @@
+//! Whole runs: every answer of an iterator, as far as there is memory for them.
+
+ghost use Rattle.std.specs.Prelude.{◌≡◌, false, map};
+ghost use Rattle.std.specs.Iterator.{IsFinite, Yields, Drains};
+ghost use Rattle.gimli_base.specs.declared.common.SectionId.TheVariants.{DebugInfo as InfoSection, DebugTypes as TypesSection};
+ghost use Rattle.gimli_base.specs.Offset.{answer_of};
+ghost use Rattle.gimli_headers.specs.Units.{units_of, answers};
+ghost use Rattle.gimli_walk.specs.Runs.{IsFront};
+
+use gimli_base::{Reader, Result, Section};
+use gimli_headers::{DebugInfo, DebugTypes};
+use gimli_units::{HasUnit, UnitHeader};
+use std::alloc::Allocator;
+
+/// The answers of a run.
+#[derive(Debug, PartialEq, Eq, Drop)]
+pub struct Run<T, A: Allocator> {
+    /// The answers, in order; where the run was stopped they are the first ones.
+    pub answers: Vec<T, A>,
+    /// Whether memory for the answers was refused.
+    pub stopped: bool,
+}
+
+// Every item of an iterator, which ends.
+fn run_all<T: Drop, I: Iterator<Item = T>, A: Allocator>(alloc: A, items: I) -> Run<T, A>
+    requires can { I.can_next items }
+    requires ends { IsFinite (I.remaining items) }
+    ensures front { (rest : I) × Yields I.next_gives items result.answers.items rest }
+    ensures whole { result.stopped ≡ false → Drains I.next_gives items result.answers.items }
+{
+    let mut answers = Vec::new(alloc);
+    'items: for item in items {
+        if answers.push(item).is_err() {
+            return Run {
+                answers,
+                stopped: true,
+            };
+        }
+    }
+    Run {
+        answers,
+        stopped: false,
+    }
+}
+
+/// The units of `.debug_info` in order, and then the refusal that ends them, if it isn't the section's end.
+pub fn run_units<R: Reader, A: Allocator + Copy>(
+    alloc: A,
+    debug_info: &DebugInfo<R>,
+) -> Run<Result<UnitHeader<R>>, A>
+    ensures front { IsFront (map (answer_of ⟦<UnitHeader<R> as HasUnit>⟧.unit) result.answers.items) (answers (units_of R.Offset.limit InfoSection (⟦<DebugInfo<R> as Section<R>>⟧.content debug_info.now))) }
+    ensures whole { result.stopped ≡ false → map (answer_of ⟦<UnitHeader<R> as HasUnit>⟧.unit) result.answers.items ≡ answers (units_of R.Offset.limit InfoSection (⟦<DebugInfo<R> as Section<R>>⟧.content debug_info.now)) }
+{
+    run_all(alloc, debug_info.units())
+}
+
+/// The units of `.debug_types` in order, and then the refusal that ends them, if it isn't the section's end.
+pub fn run_type_units<R: Reader, A: Allocator + Copy>(
+    alloc: A,
+    debug_types: &DebugTypes<R>,
+) -> Run<Result<UnitHeader<R>>, A>
+    ensures front { IsFront (map (answer_of ⟦<UnitHeader<R> as HasUnit>⟧.unit) result.answers.items) (answers (units_of R.Offset.limit TypesSection (⟦<DebugTypes<R> as Section<R>>⟧.content debug_types.now))) }
+    ensures whole { result.stopped ≡ false → map (answer_of ⟦<UnitHeader<R> as HasUnit>⟧.unit) result.answers.items ≡ answers (units_of R.Offset.limit TypesSection (⟦<DebugTypes<R> as Section<R>>⟧.content debug_types.now)) }
+{
+    run_all(alloc, debug_types.units())
+}
+
+#[cfg(test)]
+mod tests;
