@@ -1,19 +1,30 @@
 // gimli_benches ROUNDS [TASK]: our libraries and the peer in one process, rounds interleaved, best of N.
 // gimli_benches one SIDE TASK ORDER: one run of one side (peer or a library), for counting instructions.
-// CORPUS names the folder with the section `abbrev`.
+// CORPUS names the folder with the sections `info` and `abbrev`.
 use std::hint::black_box;
 use std::time::Instant;
 
 mod inputs;
 mod peer;
+mod units;
 
 include!(concat!(env!("OUT_DIR"), "/libraries.rs"));
 
-const ORDERS: [&str; 4] = ["little", "big", "run-time little", "run-time big"];
+const ORDERS: [&str; 5] = [
+    "little",
+    "big",
+    "run-time little",
+    "run-time big",
+    "whole slice",
+];
+
+// The task of this number and those behind it read the entries of the corpus, which is little endian.
+const FIRST_OF_ENTRIES: u64 = 8;
 
 fn main() {
     let arguments: Vec<String> = std::env::args().skip(1).collect();
-    let corpus = std::env::var("CORPUS").expect("CORPUS names a folder with the section abbrev");
+    let corpus = std::env::var("CORPUS").expect("CORPUS names a folder with two sections");
+    let info = std::fs::read(format!("{corpus}/info")).expect("the section info");
     let abbrev = std::fs::read(format!("{corpus}/abbrev")).expect("the section abbrev");
     let offsets = inputs::tables(&abbrev);
     // each section several times, so that a round is not too short
@@ -23,28 +34,32 @@ fn main() {
         .collect();
     let (numbers, words) = (inputs::leb128(1 << 21), inputs::words(1 << 21));
     // in the order of their numbers
-    let tasks: [(&str, &[u8]); 8] = [
-        ("LEB128, sum", &numbers),
-        ("words of 2", &words),
-        ("words of 4", &words),
-        ("words of 8", &words),
-        ("records", &words),
-        ("tables", &abbrev),
-        ("tables, first", &abbrev),
-        ("LEB128, twos", &numbers),
+    let tasks: [(&str, &[u8], &[u8]); 11] = [
+        ("LEB128, sum", &numbers, &[]),
+        ("words of 2", &words, &[]),
+        ("words of 4", &words, &[]),
+        ("words of 8", &words, &[]),
+        ("records", &words, &[]),
+        ("tables", &abbrev, &offsets),
+        ("tables, first", &abbrev, &offsets),
+        ("LEB128, twos", &numbers, &[]),
+        ("entries", &info, &abbrev),
+        ("attributes", &info, &abbrev),
+        ("passing", &info, &abbrev),
     ];
-    let run = |side: usize, task: u64, order: u64, first: &[u8]| {
+    let run = |side: usize, task: u64, order: u64| {
+        let (_, first, second) = tasks[task as usize];
         if side == 0 {
-            peer::marks(task, order, first, &offsets)
+            peer::marks(task, order, first, second)
         } else {
-            let (first_length, second_length) = (first.len(), offsets.len());
+            let (first_length, second_length) = (first.len(), second.len());
             unsafe {
                 LIBRARIES[side - 1].1(
                     task,
                     order,
                     first.as_ptr(),
                     first_length,
-                    offsets.as_ptr(),
+                    second.as_ptr(),
                     second_length,
                 )
             }
@@ -64,15 +79,8 @@ fn main() {
         };
         let task: usize = arguments[2].parse().unwrap();
         if task < tasks.len() {
-            println!(
-                "{:016x}",
-                run(
-                    side,
-                    task as u64,
-                    arguments[3].parse().unwrap(),
-                    tasks[task].1
-                )
-            );
+            let order = arguments[3].parse().unwrap();
+            println!("{:016x}", run(side, task as u64, order));
         }
         return;
     }
@@ -84,19 +92,22 @@ fn main() {
     );
     let names: String = LIBRARIES.iter().map(|l| format!("{:>8}", l.0)).collect();
     println!("{:<15}{:<17}{names}", "task", "order");
-    for (task, (name, first)) in tasks
+    for (task, (name, _, _)) in tasks
         .iter()
         .enumerate()
-        .filter(|(_, (name, _))| name.starts_with(&only))
+        .filter(|(_, (name, _, _))| name.starts_with(&only))
     {
         for (order, order_name) in ORDERS.iter().enumerate() {
+            if task as u64 >= FIRST_OF_ENTRIES && (order == 1 || order == 3) {
+                continue;
+            }
             let (task, order) = (black_box(task as u64), black_box(order as u64));
             let mut best = vec![f64::MAX; LIBRARIES.len() + 1];
             let mut sums = vec![0; best.len()];
             for _ in 0..rounds {
                 for side in 0..best.len() {
                     let start = Instant::now();
-                    sums[side] = black_box(run(side, task, order, first));
+                    sums[side] = black_box(run(side, task, order));
                     best[side] = best[side].min(start.elapsed().as_secs_f64());
                 }
             }

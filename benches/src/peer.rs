@@ -1,4 +1,5 @@
 // The same work by the peer, gimli 0.27.0.
+use crate::units::{self, Work};
 use gimli::*;
 
 mod numbers {
@@ -155,6 +156,11 @@ mod tables {
     }
 }
 
+fn entries<E: Endianity>(work: Work, endian: E, first: &[u8], second: &[u8]) -> u64 {
+    let info = EndianSlice::new(first, endian);
+    units::checksum(work, info, EndianSlice::new(second, endian))
+}
+
 #[inline(never)]
 fn task_of<E: Endianity>(task: u64, endian: E, first: &[u8], second: &[u8]) -> u64 {
     let offsets = EndianSlice::new(second, LittleEndian);
@@ -167,21 +173,26 @@ fn task_of<E: Endianity>(task: u64, endian: E, first: &[u8], second: &[u8]) -> u
         5 => tables::checksum(EndianSlice::new(first, endian), offsets),
         6 => tables::checksum_of_first(EndianSlice::new(first, endian), offsets),
         7 => numbers::checksum_in_twos(EndianSlice::new(first, endian)),
+        8 => entries(Work::Entry, endian, first, second),
+        9 => entries(Work::Attributes, endian, first, second),
+        10 => entries(Work::Pass, endian, first, second),
         _ => 0,
     }
 }
 
-// Runs a task in a byte order, both numbered as in the crate gimli_marks.
+// Runs a task in a byte order, both numbered as in the crate gimli_marks. The peer has one reader over slices, so the
+// last number is the little order again.
 pub fn marks(task: u64, order: u64, first: &[u8], second: &[u8]) -> u64 {
     match order {
         0 => task_of(task, LittleEndian, first, second),
         1 => task_of(task, BigEndian, first, second),
         2 => task_of(task, RunTimeEndian::Little, first, second),
-        _ => task_of(task, RunTimeEndian::Big, first, second),
+        3 => task_of(task, RunTimeEndian::Big, first, second),
+        _ => task_of(task, LittleEndian, first, second),
     }
 }
 
 #[inline]
-fn mixed(sum: u64, value: u64) -> u64 {
+pub fn mixed(sum: u64, value: u64) -> u64 {
     sum.wrapping_mul(31).wrapping_add(value)
 }

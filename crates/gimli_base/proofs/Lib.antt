@@ -1,6 +1,9 @@
 pub mod LebTurns
 pub mod UlebTurns
 pub mod SlebTurns
+pub mod Ranges
+pub mod PassTurns
+pub mod PartBytes
 mod WordBytes
 pub mod AbbreviationReads
 pub mod AbbreviationTable

@@ -1,15 +1,17 @@
 -- What a read leaves: the same view some bytes later.
-use Rattle.std.specs.Prelude.{◌≡◌, ℕ, zero, suc, ◌+◌, ◌-◌, ◌<◌, ◌≤◌, ℤ, ◌==◌, nat_lt, nat_le, Bool, true, false, if◌then◌else◌, length, take, slice_index, Result, Ok, Err}
+use Rattle.std.specs.Prelude.{◌≡◌, ℕ, zero, suc, ◌+◌, ◌-◌, ◌<◌, ◌≤◌, ℤ, ◌==◌, nat_lt, nat_le, Bool, true, false, if◌then◌else◌, length, take, slice_index, Option, Some, None, Result, Ok, Err}
+use Rattle.std.specs.List.{position}
 use Rattle.std.proofs.Common.{refl, sym, ap, ◌∙◌, subst, arith, length-drop, length-take, add_assoc, add-zero}
 use Rattle.std.proofs.lemmas.List.{drop-drop}
+use Rattle.std.proofs.lemmas.List.Quantifiers.{position-Some}
 use Rattle.std.proofs.lemmas.Bool.{ltb-true, leb-true}
 use Rattle.gimli_base.specs.declared.error.Error.{Error}
 use Rattle.gimli_base.specs.declared.error.Error.TheVariants.{UnknownReservedLength}
 use Rattle.gimli_base.specs.declared.common.Format.{Format}
 use Rattle.gimli_base.specs.declared.common.Format.TheVariants.{Dwarf32, Dwarf64}
 use Rattle.gimli_base.specs.Offset.{offset_of}
-use Rattle.gimli_base.specs.View.{View, cut, front}
-use Rattle.gimli_base.specs.Reading.{Reads, ◌>>=◌, made, eof, byte_at, skip_at, split_at, bytes_at, uint_at, number, as_offset, offset_at, word_size_of, uleb_within, uleb_at, uleb16_at, sleb_within, sleb_at, find_at, text_at, address_size_at, is_size, initial_length_at, initial_length_size_of}
+use Rattle.gimli_base.specs.View.{View, cut, front, ended}
+use Rattle.gimli_base.specs.Reading.{Reads, ◌>>=◌, made, eof, byte_at, skip_at, split_at, bytes_at, uint_at, number, as_offset, offset_at, word_size_of, uleb_within, uleb_at, uleb16_at, sleb_within, sleb_at, find_at, text_at, address_at, address_size_at, is_size, sized_offset_at, skip_leb_at, initial_length_at, initial_length_size_of}
 
 -- w is v some bytes later, at least so many
 pub record IsLater (least : ℕ) (v w : View) : Type 0 where
@@ -110,6 +112,15 @@ pub offset_at-later : (limit : ℕ) (format : Format) (v : View) → LeavesLater
 unfolding offset_at
 offset_at-later limit format v = as_offset-later (word_size_of format) limit v (uint_at (word_size_of format) v) (uint_at-later (word_size_of format) v)
 
+pub sized_offset_at-later : (limit z : ℕ) (v : View) → LeavesLater z v (sized_offset_at limit z v)
+unfolding sized_offset_at
+sized_offset_at-later limit z v =
+    if_leaves_later z v (is_size z) _ _ (as_offset-later z limit v (uint_at z v) (uint_at-later z v)) (err_leaves_later {A = ℕ} z v _)
+
+pub address_at-later : (z : ℕ) (v : View) → LeavesLater z v (address_at z v)
+unfolding address_at
+address_at-later z v = if_leaves_later z v (is_size z) _ _ (uint_at-later z v) (err_leaves_later {A = ℕ} z v _)
+
 uleb_within-later : (top n : ℕ) (v : View) → LeavesLater 1 v (uleb_within top n v)
 unfolding uleb_within
 uleb_within-later top zero v = then_leaves_later 1 0 v (byte_at v) _ (byte_at-later v)
@@ -139,6 +150,17 @@ sleb_within-later (suc n) v = then_leaves_later 1 0 v (byte_at v) _ (byte_at-lat
 pub sleb_at-later : (v : View) → LeavesLater 1 v (sleb_at v)
 unfolding sleb_at
 sleb_at-later v = sleb_within-later 9 v
+
+pub skip_leb_at-later : (v : View) → LeavesLater 1 v (skip_leb_at v)
+unfolding skip_leb_at
+skip_leb_at-later v = cases (position (λ b. nat_lt b 128) v.bytes) refl
+  where
+    cases : (o : Option ℕ) → position (λ b. nat_lt b 128) v.bytes ≡ o
+        → LeavesLater {A = Unit {0}} 1 v (elim o [ Some n ↦ Ok (tt, cut (n + 1) v) | None ↦ Err (eof (ended v)) ])
+    cases None is = err_leaves_later {A = Unit {0}} 1 v (eof (ended v))
+    cases (Some n) is =
+        let inside : n < length v.bytes = (position-Some (λ b. nat_lt b 128) v.bytes n 0 is).0 in
+        ok_leaves_later {A = Unit {0}} 1 v (tt, cut (n + 1) v) (record { count = n + 1; enough = omega arith; within = omega (arith, inside); is = refl })
 
 pub text_at-later : (v : View) → LeavesLater 1 v (text_at v)
 unfolding text_at

@@ -1,12 +1,16 @@
 pub mod View
 pub mod Offset
 pub mod Order
+pub mod Range
 pub mod Reading
 pub mod Refusal
 pub mod OneByte
 pub mod Items
 pub mod Later
 pub mod Taken
+pub mod Passed
 pub mod ItemTurns
 pub mod Abbreviations
 pub mod Table
+pub mod Both
+pub mod Width

@@ -6,7 +6,7 @@ use Rattle.gimli_base.specs.declared.error.Error.TheVariants.{UnexpectedEof, Bad
 use Rattle.gimli_base.specs.declared.common.Format.{Format}
 use Rattle.gimli_base.specs.declared.common.Format.TheVariants.{Dwarf32, Dwarf64}
 use Rattle.gimli_base.specs.Offset.{offset_of}
-use Rattle.gimli_base.specs.View.{View, cut, front}
+use Rattle.gimli_base.specs.View.{View, cut, front, ended}
 
 -- the input ends before what should begin at the view's first place
 abbrev pub eof : View → Error
@@ -101,6 +101,10 @@ sleb_within (suc n) v =
 unfoldable pub sleb_at : View → Reads ℤ
 sleb_at v = sleb_within 9 v
 
+-- passes a LEB128 number of any length: the bytes before the first below 128, and that one
+unfoldable pub skip_leb_at : View → Reads (Unit {0})
+skip_leb_at v = elim (position (λ b. nat_lt b 128) v.bytes) [ Some n ↦ Ok (tt, cut (n + 1) v) | None ↦ Err (eof (ended v)) ]
+
 -- a number that was read, as an offset
 abbrev pub as_offset : ℕ → Reads ℕ → Reads ℕ
 as_offset limit r = r >>= λ p. elim (offset_of limit p.0) [ Ok o ↦ Ok (o, p.1) | Err e ↦ Err e ]
@@ -138,6 +142,10 @@ initial_length_at limit v = uint_at 4 v >>= λ p.
     else if p.0 == 0xffff_ffff then made (λ n. (n, Dwarf64)) (offset_at limit Dwarf64 p.1)
     else Err UnknownReservedLength
 
+-- the next address of a size that is named
+unfoldable pub address_at : ℕ → View → Reads ℕ
+address_at z v = if is_size z then uint_at z v else Err (UnsupportedAddressSize z)
+
 -- the next byte, as the size of an address
 unfoldable pub address_size_at : View → Reads ℕ
 address_size_at v = byte_at v >>= λ p. if is_size p.0 then Ok p else Err (UnsupportedAddressSize p.0)
@@ -152,6 +160,10 @@ text_at v = elim (find_at 0 v) [
   | Ok n ↦ split_at n v >>= λ p. made (λ _. p.0) (byte_at p.1)
   | Err e ↦ Err e
 ]
+
+-- the bytes at an offset, before the first zero
+unfoldable pub text_from : ℕ → View → Result View Error
+text_from offset v = elim (skip_at offset v >>= λ p. text_at p.1) [ Ok p ↦ Ok p.0 | Err e ↦ Err e ]
 
 -- p, unless memory was refused
 abbrev pub UnlessMemory : {A : Type 0} → Result A Error → Type 0 → Type 0

@@ -1,6 +1,6 @@
 -- How many bytes a read takes, where its value says it (DWARF 5, 7.4 and 7.5.1).
 use Rattle.std.specs.Prelude.{◌≡◌, ℕ, ◌+◌, ◌-◌, ◌<◌, ◌≤◌, ◌==◌, nat_lt, nat_le, Bool, true, false, if◌then◌else◌, length, take, slice_index, Result, Ok, Err}
-use Rattle.std.proofs.Common.{refl, sym, ap, ◌∙◌, subst, arith, length-drop, length-take, add-zero}
+use Rattle.std.proofs.Common.{refl, sym, ap, ◌∙◌, subst, arith, length-drop, add-zero}
 use Rattle.std.proofs.lemmas.Bool.{ltb-true, leb-true}
 use Rattle.gimli_base.specs.declared.error.Error.{Error}
 use Rattle.gimli_base.specs.declared.error.Error.TheVariants.{UnknownReservedLength}
@@ -8,8 +8,8 @@ use Rattle.gimli_base.specs.declared.common.Format.{Format}
 use Rattle.gimli_base.specs.declared.common.Format.TheVariants.{Dwarf32, Dwarf64}
 use Rattle.gimli_base.specs.Offset.{offset_of}
 use Rattle.gimli_base.specs.View.{View, cut, front}
-use Rattle.gimli_base.specs.Reading.{Reads, ◌>>=◌, made, eof, byte_at, split_at, bytes_at, uint_at, number, as_offset, offset_at, word_size_of, address_size_at, is_size, initial_length_at, initial_length_size_of}
-use Rattle.gimli_base.specs.Later.{cut-cut}
+use Rattle.gimli_base.specs.Reading.{Reads, ◌>>=◌, made, eof, byte_at, split_at, bytes_at, uint_at, number, as_offset, offset_at, word_size_of, sized_offset_at, address_at, address_size_at, is_size, find_at, text_at, initial_length_at, initial_length_size_of}
+use Rattle.gimli_base.specs.Later.{cut-cut, split_at-front}
 
 -- behind n bytes, the others of `total` are taken from v, and w is left
 pub record TakenAfter (n total : ℕ) (v w : View) : Type 0 where
@@ -98,7 +98,7 @@ pub split_at-takes : (n : ℕ) (v : View) → Takes n v (split_at n v)
 unfolding split_at
 split_at-takes n v = cut_takes n v (front n v) (nat_le n (length v.bytes)) (leb-true n (length v.bytes))
 
-bytes_at-takes : (n : ℕ) (v : View) → Takes n v (bytes_at n v)
+pub bytes_at-takes : (n : ℕ) (v : View) → Takes n v (bytes_at n v)
 unfolding bytes_at
 bytes_at-takes n v = cut_takes n v (take n v.bytes) (nat_le n (length v.bytes)) (leb-true n (length v.bytes))
 
@@ -106,7 +106,7 @@ pub uint_at-takes : (n : ℕ) (v : View) → Takes n v (uint_at n v)
 unfolding uint_at
 uint_at-takes n v = made_takes 0 (λ _. n) v (number v.big) (bytes_at n v) (bytes_at-takes n v)
 
-as_offset-takes : (n limit : ℕ) (v : View) (r : Reads ℕ) → Takes n v r → Takes n v (as_offset limit r)
+pub as_offset-takes : (n limit : ℕ) (v : View) (r : Reads ℕ) → Takes n v r → Takes n v (as_offset limit r)
 as_offset-takes n limit v (Err e) h = err_takes {A = ℕ} 0 (λ _. n) v e
 as_offset-takes n limit v (Ok p) h =
     let cases : (r : Result ℕ Error) → Takes n v (elim r [ Ok o ↦ Ok (o, p.1) | Err e ↦ Err e ]) =
@@ -117,10 +117,39 @@ pub offset_at-takes : (limit : ℕ) (format : Format) (v : View) → Takes (word
 unfolding offset_at
 offset_at-takes limit format v = as_offset-takes (word_size_of format) limit v (uint_at (word_size_of format) v) (uint_at-takes (word_size_of format) v)
 
+pub sized_offset_at-takes : (limit z : ℕ) (v : View) → Takes z v (sized_offset_at limit z v)
+unfolding sized_offset_at
+sized_offset_at-takes limit z v =
+    if_takes 0 (λ _. z) v (is_size z) _ _ (λ _. as_offset-takes z limit v (uint_at z v) (uint_at-takes z v)) (λ _. err_takes {A = ℕ} 0 (λ _. z) v _)
+
+pub address_at-takes : (z : ℕ) (v : View) → Takes z v (address_at z v)
+unfolding address_at
+address_at-takes z v = if_takes 0 (λ _. z) v (is_size z) _ _ (λ _. uint_at-takes z v) (λ _. err_takes {A = ℕ} 0 (λ _. z) v _)
+
 pub address_size_at-takes : (v : View) → Takes 1 v (address_size_at v)
 unfolding address_size_at
 address_size_at-takes v = then_takes 0 (λ _. 1) (λ _. 1) v (byte_at v) _ (byte_at-takes v)
     (λ p. if_takes 1 (λ _. 1) p.1 (is_size p.0) _ _ (λ _. ok_takes 1 (λ _. 1) p.1 p (TakenAfter-none 1 1 p.1 refl)) (λ _. err_takes {A = ℕ} 1 (λ _. 1) p.1 _))
+
+-- a text takes its bytes and its zero
+pub text_at-takes : (v : View) → TakesAfter 0 (λ (a : View). length a.bytes + 1) v (text_at v)
+unfolding text_at
+text_at-takes v = either (find_at 0 v)
+  where
+    size : View → ℕ
+    size a = length a.bytes + 1
+
+    behind : (n : ℕ) (r : Reads View) → Takes n v r → ((a w : View) → Ok (a, w) ≡ r → length a.bytes ≡ n)
+        → TakesAfter 0 size v (r >>= λ p. made (λ _. p.0) (byte_at p.1))
+    behind n (Err e) h k = err_takes {A = View} 0 size v e
+    behind n (Ok p) h k =
+        let bytes : length p.0.bytes ≡ n = k p.0 p.1 refl in
+        made_takes 0 size v (λ _. p.0) (byte_at p.1)
+        (λ b w e. TakenAfter-trans 0 n (size p.0) v p.1 w (h p.0 p.1 refl) (behind_takes n 1 (size p.0) p.1 (byte_at p.1) (omega (arith, bytes)) (byte_at-takes p.1) b w e))
+
+    either : (r : Result ℕ Error) → TakesAfter 0 size v (elim r [ Ok n ↦ split_at n v >>= (λ p. made (λ _. p.0) (byte_at p.1)) | Err e ↦ Err e ])
+    either (Ok n) = behind n (split_at n v) (split_at-takes n v) (split_at-front n v)
+    either (Err e) = err_takes {A = View} 0 size v e
 
 -- a length field takes as many bytes as its format says
 pub initial_length_at-takes : (limit : ℕ) (v : View) → TakesAfter 0 (λ (p : ℕ × Format). initial_length_size_of p.1) v (initial_length_at limit v)

@@ -15,14 +15,16 @@ ghost use Rattle.gimli_base.specs.Abbreviations.{
   map_at,
   declarations_at,
 };
+ghost use Rattle.gimli_base.specs.Width.{width_of, form_size};
 ghost use Rattle.gimli_base.specs.Table.{Table, found};
 ghost use Rattle.gimli_base.specs.Offset.{answer_of};
 ghost use Rattle.gimli_base.specs.Reading.{read, filled, UnlessMemory};
 
+use crate::width::Width;
 use crate::{
     DW_AT_null, DW_CHILDREN_no, DW_CHILDREN_yes, DW_FORM_implicit_const, DW_FORM_null, DW_TAG_null,
-    DebugAbbrevOffset, DwAt, DwForm, DwTag, EndianSlice, Endianity, Error, Reader, Result, Section,
-    SectionId,
+    DebugAbbrevOffset, DwAt, DwForm, DwTag, Encoding, EndianSlice, Endianity, Error, Reader,
+    Result, Section, SectionId,
 };
 use std::alloc::Allocator;
 use std::collections::BTreeMap;
@@ -34,6 +36,8 @@ use std::marker::Model;
 pub struct AttributeSpecification {
     name: DwAt,
     form: DwForm,
+    // the form's, so that it is looked up once for all entries of the declaration
+    width: Width,
     implicit_const_value: Option<i64>,
 }
 
@@ -42,9 +46,9 @@ impl Model for AttributeSpecification {
 
     ghost view = { λ s. record { name = s.name; form = s.form; constant = s.implicit_const_value } };
 
-    ghost inverse = { λ s. record { name = s.name; form = s.form; implicit_const_value = s.constant } };
+    ghost inverse = { λ s. record { name = s.name; form = s.form; width = width_of s.form.0; implicit_const_value = s.constant } };
 
-    ghost invariant = { λ s. is_some s.implicit_const_value ≡ (s.form.0 == 0x21) };
+    ghost invariant = { λ s. (is_some s.implicit_const_value ≡ (s.form.0 == 0x21)) × (s.width ≡ width_of s.form.0) };
 }
 
 impl AttributeSpecification {
@@ -56,6 +60,7 @@ impl AttributeSpecification {
         AttributeSpecification {
             name,
             form,
+            width: Width::of(form),
             implicit_const_value,
         }
     }
@@ -85,6 +90,14 @@ impl AttributeSpecification {
         self.implicit_const_value
     }
 
+    /// The number of bytes of the form's value under an encoding, where it does not depend on the bytes (DWARF 5, 7.5.6).
+    #[inline]
+    pub fn size(&self, encoding: Encoding) -> Option<u8>
+        ensures { result ≡ form_size encoding self.now.form.0 }
+    {
+        self.width.size(encoding)
+    }
+
     // The next declared attribute, or none where two zeros end the list; where it is refused, the input is left
     // anywhere.
     #[tactic(auto, unfolding(crate::specs::Abbreviations::specification_at))]
@@ -108,6 +121,7 @@ impl AttributeSpecification {
 
 /// The declaration of an abbreviation: a code, and the tag, the children flag and the attributes of its entries.
 #[derive(Drop)]
+#[derive_where(Debug)]
 pub struct Abbreviation<A: Allocator> {
     code: u64,
     tag: DwTag,
@@ -226,6 +240,7 @@ fn parse_specifications<R: Reader, A: Allocator>(
 
 /// A table of abbreviations: a finite map of codes to declarations.
 #[derive(Drop)]
+#[derive_where(Debug)]
 pub struct Abbreviations<A: Allocator> {
     // those of the codes 1, 2, .. in order
     dense: Vec<Abbreviation<A>, A>,
@@ -338,6 +353,15 @@ impl<R: Reader> Section<R> for DebugAbbrev<R> {
 }
 
 impl<R: Reader> DebugAbbrev<R> {
+    /// A section of the same bytes.
+    pub fn copy(&self) -> Self
+        ensures { ⟦<DebugAbbrev<R> as Section<R>>⟧.content result ≡ ⟦<DebugAbbrev<R> as Section<R>>⟧.content self.now }
+    {
+        DebugAbbrev {
+            section: self.section.copy(),
+        }
+    }
+
     /// The table of the declarations at an offset of the section, up to the code 0 (DWARF 5, 7.5.3).
     ///
     /// Refusals: `UnexpectedEof`, also where the offset lies behind the section's end, `BadUnsignedLeb128`,
@@ -356,6 +380,3 @@ impl<R: Reader> DebugAbbrev<R> {
         Abbreviations::parse(alloc, &mut input)
     }
 }
-
-#[cfg(test)]
-mod tests;

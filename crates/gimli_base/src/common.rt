@@ -87,6 +87,74 @@ pub struct ReaderOffsetId(pub u64);
 #[derive(Clone, Copy, Debug, PartialEq, Eq, PartialOrd, Ord, Hash)]
 pub struct DebugAbbrevOffset<Offset>(pub Offset);
 
+/// The offset in `.debug_addr` at which a unit's addresses begin.
+#[derive(Clone, Copy, Debug, PartialEq, Eq, PartialOrd, Ord, Hash)]
+pub struct DebugAddrBase<Offset>(pub Offset);
+
+/// An index among a unit's addresses in `.debug_addr`.
+#[derive(Clone, Copy, Debug, PartialEq, Eq, PartialOrd, Ord, Hash)]
+pub struct DebugAddrIndex<Offset>(pub Offset);
+
+/// An offset in `.debug_aranges`.
+#[derive(Clone, Copy, Debug, PartialEq, Eq, PartialOrd, Ord, Hash)]
+pub struct DebugArangesOffset<Offset>(pub Offset);
+
+/// An offset in `.debug_line`.
+#[derive(Clone, Copy, Debug, PartialEq, Eq, PartialOrd, Ord, Hash)]
+pub struct DebugLineOffset<Offset>(pub Offset);
+
+/// An offset in `.debug_line_str`.
+#[derive(Clone, Copy, Debug, PartialEq, Eq, PartialOrd, Ord, Hash)]
+pub struct DebugLineStrOffset<Offset>(pub Offset);
+
+/// The offset in `.debug_loclists` at which a unit's table of offsets begins.
+#[derive(Clone, Copy, Debug, PartialEq, Eq, PartialOrd, Ord, Hash)]
+pub struct DebugLocListsBase<Offset>(pub Offset);
+
+/// An index in a unit's table of offsets of location lists in `.debug_loclists`.
+#[derive(Clone, Copy, Debug, PartialEq, Eq, PartialOrd, Ord, Hash)]
+pub struct DebugLocListsIndex<Offset>(pub Offset);
+
+/// An offset in `.debug_macinfo`.
+#[derive(Clone, Copy, Debug, PartialEq, Eq, PartialOrd, Ord, Hash)]
+pub struct DebugMacinfoOffset<Offset>(pub Offset);
+
+/// An offset in `.debug_macro`.
+#[derive(Clone, Copy, Debug, PartialEq, Eq, PartialOrd, Ord, Hash)]
+pub struct DebugMacroOffset<Offset>(pub Offset);
+
+/// The offset in `.debug_rnglists` at which a unit's table of offsets begins.
+#[derive(Clone, Copy, Debug, PartialEq, Eq, PartialOrd, Ord, Hash)]
+pub struct DebugRngListsBase<Offset>(pub Offset);
+
+/// An index in a unit's table of offsets of range lists in `.debug_rnglists`.
+#[derive(Clone, Copy, Debug, PartialEq, Eq, PartialOrd, Ord, Hash)]
+pub struct DebugRngListsIndex<Offset>(pub Offset);
+
+/// An offset in `.debug_str`.
+#[derive(Clone, Copy, Debug, PartialEq, Eq, PartialOrd, Ord, Hash)]
+pub struct DebugStrOffset<Offset>(pub Offset);
+
+/// The offset in `.debug_str_offsets` at which a unit's table begins.
+#[derive(Clone, Copy, Debug, PartialEq, Eq, PartialOrd, Ord, Hash)]
+pub struct DebugStrOffsetsBase<Offset>(pub Offset);
+
+/// An index in a unit's table of offsets of strings in `.debug_str_offsets`.
+#[derive(Clone, Copy, Debug, PartialEq, Eq, PartialOrd, Ord, Hash)]
+pub struct DebugStrOffsetsIndex<Offset>(pub Offset);
+
+/// An offset of a location list, in `.debug_loc` or `.debug_loclists`, by the unit's version.
+#[derive(Clone, Copy, Debug, PartialEq, Eq, PartialOrd, Ord, Hash)]
+pub struct LocationListsOffset<Offset>(pub Offset);
+
+/// An offset of a range list, in `.debug_ranges` or `.debug_rnglists`, by the unit's version.
+#[derive(Clone, Copy, Debug, PartialEq, Eq, PartialOrd, Ord, Hash)]
+pub struct RangeListsOffset<Offset>(pub Offset);
+
+/// An offset of a range list as it is written, to which a split unit may have to add a base.
+#[derive(Clone, Copy, Debug, PartialEq, Eq, PartialOrd, Ord, Hash)]
+pub struct RawRangeListsOffset<Offset>(pub Offset);
+
 /// The signature of a type unit.
 #[derive(Clone, Copy, Debug, PartialEq, Eq, PartialOrd, Ord, Hash)]
 pub struct DebugTypeSignature(pub u64);
@@ -94,16 +162,3 @@ pub struct DebugTypeSignature(pub u64);
 /// The id that joins a skeleton unit to its split unit.
 #[derive(Clone, Copy, Debug, PartialEq, Eq, PartialOrd, Ord, Hash)]
 pub struct DwoId(pub u64);
-
-#[cfg(test)]
-mod tests {
-    use super::*;
-
-    #[test]
-    fn sizes_of_each_format(rt: HostRuntime) {
-        assert_eq!(rt; Format::Dwarf32.initial_length_size(), 4);
-        assert_eq!(rt; Format::Dwarf32.word_size(), 4);
-        assert_eq!(rt; Format::Dwarf64.initial_length_size(), 12);
-        assert_eq!(rt; Format::Dwarf64.word_size(), 8);
-    }
-}

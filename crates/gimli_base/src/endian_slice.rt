@@ -237,12 +237,9 @@ impl<'a, E: Endianity> Reader for EndianSlice<'a, E> {
 }
 
 // The number of bytes before the first `byte`.
-fn position_of(byte: u8, bytes: &[u8]) -> Option<usize>
+pub(crate) fn position_of(byte: u8, bytes: &[u8]) -> Option<usize>
     ensures exact { result ≡ position (λ b. b == byte) bytes.now }
     ensures within { IfSome result (λ n. n < length bytes.now) }
 {
     bytes.iter().position(|b| *b == byte)
 }
-
-#[cfg(test)]
-mod tests;

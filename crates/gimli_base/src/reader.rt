@@ -12,6 +12,7 @@ ghost use Rattle.gimli_base.specs.Reading.{
   uleb_at,
   uleb16_at,
   sleb_at,
+  skip_leb_at,
   skip_at,
   split_at,
   filled,
@@ -20,6 +21,7 @@ ghost use Rattle.gimli_base.specs.Reading.{
   text_at,
   find_at,
   initial_length_at,
+  address_at,
   address_size_at,
   map_first,
   truncate_at,
@@ -27,7 +29,7 @@ ghost use Rattle.gimli_base.specs.Reading.{
 };
 
 use crate::leb128::{long_sleb128, long_uleb128, signed_bits};
-use crate::words::{word_16, word_32, word_64};
+use crate::words::{word_16, word_32, word_64, word_128};
 use crate::{Endianity, Error, Format, ReaderOffset, ReaderOffsetId, Result};
 use std::fmt::Debug;
 
@@ -174,8 +176,41 @@ pub trait Reader: Debug + Drop {
         Ok(word_64(big, bytes))
     }
 
+    /// The next sixteen bytes as a number. Refusal: `UnexpectedEof`.
+    #[inline]
+    #[tactic(auto, unfolding(crate::specs::Reading::uint_at))]
+    final fn read_u128(&mut self) -> Result<u128>
+        ensures value { read result (view self.new) ≡ uint_at 16 (view self.old) }
+        ensures kept { OnErr result (view self.new ≡ view self.old) }
+    {
+        let big = self.endian().is_big_endian();
+        let mut bytes = [0; 16];
+        self.read_slice(&mut bytes)?;
+        Ok(word_128(big, bytes))
+    }
+
+    /// The next `n` bytes as a number, `n` from 1 to 8. Refusal: `UnexpectedEof`.
+    #[inline]
+    #[tactic(auto, unfolding(crate::specs::Reading::uint_at))]
+    final fn read_uint(&mut self, n: usize) -> Result<u64>
+        requires some { 1 ≤ n }
+        requires fits { n ≤ 8 }
+        ensures value { read result (view self.new) ≡ uint_at n (view self.old) }
+        ensures kept { OnErr result (view self.new ≡ view self.old) }
+    {
+        let big = self.endian().is_big_endian();
+        let mut bytes = [0; 8];
+        if big {
+            self.read_slice(&mut bytes[8 - n..])?;
+        } else {
+            self.read_slice(&mut bytes[..n])?;
+        }
+        let value = word_64(big, bytes);
+        Ok(value)
+    }
+
     /// The next unsigned LEB128 number, of at most ten bytes (DWARF 5, 7.6). Refusals: `UnexpectedEof`, with the
-    /// place of the input's end; `BadUnsignedLeb128` where the number has more than 64 bits.
+    /// place of the input's end; `BadUnsignedLeb128` where a tenth byte is neither 00 nor 01.
     #[inline]
     #[tactic(auto, unfolding(crate::specs::Reading::uleb_at, crate::specs::Reading::uleb_within))]
     final fn read_uleb128(&mut self) -> Result<u64>
@@ -200,8 +235,8 @@ pub trait Reader: Debug + Drop {
     }
 
     /// The next unsigned LEB128 number of 16 bits, of at most three bytes, as tags, names and forms are written.
-    /// Refusals: `UnexpectedEof`, with the place of the input's end; `BadUnsignedLeb128` where the number has more
-    /// than 16 bits.
+    /// Refusals: `UnexpectedEof`, with the place of the input's end; `BadUnsignedLeb128` where a third byte is above
+    /// 03.
     #[inline]
     #[tactic(auto, unfolding(crate::specs::Reading::uleb16_at, crate::specs::Reading::uleb_within))]
     final fn read_uleb128_u16(&mut self) -> Result<u16>
@@ -228,7 +263,7 @@ pub trait Reader: Debug + Drop {
     }
 
     /// The next signed LEB128 number, of at most ten bytes (DWARF 5, 7.6). Refusals: `UnexpectedEof`, with the place
-    /// of the input's end; `BadSignedLeb128` where the number has more than 64 bits.
+    /// of the input's end; `BadSignedLeb128` where a tenth byte is neither 00 nor 7f.
     #[inline]
     #[tactic(auto, unfolding(crate::specs::Reading::sleb_at, crate::specs::Reading::sleb_within))]
     final fn read_sleb128(&mut self) -> Result<i64>
@@ -250,6 +285,19 @@ pub trait Reader: Debug + Drop {
         let value = long_sleb128(&mut whole)?;
         *self = whole;
         Ok(value)
+    }
+
+    /// Passes a LEB128 number of any length: bytes whose top bit is set, and one more (DWARF 5, 7.6). Refusal:
+    /// `UnexpectedEof`, with the place of the input's end.
+    #[inline]
+    final fn skip_leb128(&mut self) -> Result<()>
+        ensures value { read result (view self.new) ≡ skip_leb_at (view self.old) }
+        ensures kept { OnErr result (view self.new ≡ view self.old) }
+    {
+        let mut rest = self.copy();
+        while rest.read_u8()? >= 128 {}
+        *self = rest;
+        Ok(())
     }
 
     /// The length of a unit, and the format that it shows (DWARF 5, 7.2.2 and 7.4). Refusals: `UnexpectedEof`,
@@ -279,6 +327,23 @@ pub trait Reader: Debug + Drop {
                 Ok(size)
             }
             _ => Err(Error::UnsupportedAddressSize(size)),
+        }
+    }
+
+    /// The next 1, 2, 4 or 8 bytes, as an address of that size. Refusals: `UnsupportedAddressSize` for any other
+    /// size, before anything is read; `UnexpectedEof`.
+    #[inline]
+    #[tactic(auto, using(crate::specs::OneByte::one_byte), unfolding(crate::specs::Reading::address_at))]
+    final fn read_address(&mut self, address_size: u8) -> Result<u64>
+        ensures value { read result (view self.new) ≡ address_at address_size (view self.old) }
+        ensures kept { OnErr result (view self.new ≡ view self.old) }
+    {
+        match address_size {
+            1 => Ok(u64::from(self.read_u8()?)),
+            2 => Ok(u64::from(self.read_u16()?)),
+            4 => Ok(u64::from(self.read_u32()?)),
+            8 => self.read_u64(),
+            _ => Err(Error::UnsupportedAddressSize(address_size)),
         }
     }
 

@@ -1,4 +1,4 @@
-//! Numbers of two, four and eight bytes, by byte order.
+//! Numbers of two, four, eight and sixteen bytes, by byte order.
 
 ghost use Rattle.std.specs.Prelude.{◌≡◌};
 ghost use Rattle.gimli_base.specs.Reading.{number};
@@ -39,5 +39,18 @@ pub(crate) fn word_64(big: bool, bytes: [u8; 8]) -> u64
         u64::from_be_bytes(bytes)
     } else {
         u64::from_le_bytes(bytes)
+    }
+}
+
+/// The number in sixteen bytes.
+#[inline]
+#[tactic(auto, using(crate::proofs::WordBytes::le_16, crate::proofs::WordBytes::be_16))]
+pub(crate) fn word_128(big: bool, bytes: [u8; 16]) -> u128
+    ensures { result ≡ number big bytes }
+{
+    if big {
+        u128::from_be_bytes(bytes)
+    } else {
+        u128::from_le_bytes(bytes)
     }
 }

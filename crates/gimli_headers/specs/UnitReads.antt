@@ -1,10 +1,11 @@
 -- What the reading of a unit takes: the whole length of the unit, of which the header has the size of its kind (DWARF 5, 7.5.1).
-use Rattle.std.specs.Prelude.{◌≡◌, ℕ, ◌+◌, ◌-◌, ◌<◌, ◌≤◌, ◌==◌, ◌&&◌, nat_le, if◌then◌else◌, Bool, true, false, length, Result, Ok, Err}
+use Rattle.std.specs.Prelude.{◌≡◌, ℕ, ◌+◌, ◌-◌, ◌<◌, ◌≤◌, ◌==◌, nat_le, if◌then◌else◌, true, false, length, Ok, Err}
 use Rattle.std.proofs.Common.{refl, sym, ap, ◌∙◌, subst, arith, length-drop}
 use Rattle.std.proofs.lemmas.Bool.{leb-true, ne_eqb}
 use Rattle.gimli_base.specs.declared.common.Format.{Format}
 use Rattle.gimli_base.specs.declared.common.Format.TheVariants.{Dwarf32, Dwarf64}
 use Rattle.gimli_base.specs.declared.common.SectionId.{SectionId}
+use Rattle.gimli_base.specs.Both.{both}
 use Rattle.gimli_base.specs.View.{View, cut}
 use Rattle.gimli_base.specs.Reading.{Reads, ◌>>=◌, made, byte_at, uint_at, offset_at, address_size_at, initial_length_at, initial_length_size_of, split_at, word_size_of}
 use Rattle.gimli_base.specs.Later.{split_at-front}
@@ -22,13 +23,9 @@ common_size format c = 2 + word_size_of format + 1 + (if c.version == 5 then 1 e
 abbrev pub fields_size : Format → Common × UnitType ℕ → ℕ
 fields_size format fields = common_size format fields.0 + added_size format fields.1
 
-both : (a b : Bool) → (a && b) ≡ true → b ≡ true
-both true b h = h
-both false b h = absurd (cc)
-
 old_is_not_5 : (version : ℕ) → is_old version ≡ true → (version == 5) ≡ false
 old_is_not_5 version h =
-    let le : version ≤ 4 = leb-true version 4 (both (nat_le 2 version) (nat_le version 4) h) in
+    let le : version ≤ 4 = leb-true version 4 (both (nat_le 2 version) (nat_le version 4) h).1 in
     ne_eqb version 5 (λ e. omega (arith, le, e))
 
 module _ (limit : ℕ) (format : Format) where
@@ -129,7 +126,8 @@ unit_at-read limit section offset v u w h = begin (initial_length_at limit v) (i
         cut_off field (split_at field.0.0 field.1) (λ own rest is. split_at-front field.0.0 field.1 own rest is) (takes field.0 field.1 refl) (split_at-takes field.0.0 field.1) e
     begin (Err f) takes e = absurd (cc)
 
-some_size : (format : Format) → 0 < initial_length_size_of format
+-- the length field takes bytes
+pub some_size : (format : Format) → 0 < initial_length_size_of format
 some_size Dwarf32 = omega arith
 some_size Dwarf64 = omega arith
 

@@ -1,5 +1,5 @@
 -- The units ahead of a place, as the reading of a header moves it, and how they lie in their section (DWARF 5, 7.5.1).
-use Rattle.std.specs.Prelude.{◌≡◌, ℕ, zero, suc, ◌+◌, ◌-◌, ◌<◌, ◌≤◌, ◌==◌, nat_le, Bool, true, false, if◌then◌else◌, List, [], ◌∷◌, ◌++◌, map, length, Option, Some, None, Result, Ok, Err, MatchOption}
+use Rattle.std.specs.Prelude.{◌≡◌, ℕ, zero, suc, ◌+◌, ◌-◌, ◌<◌, ◌≤◌, ◌==◌, nat_le, true, false, List, [], ◌∷◌, length, Option, Some, None, Result, Ok, Err, MatchOption}
 use Rattle.std.specs.List.{All}
 use Rattle.std.specs.Option.{option_map}
 use Rattle.std.proofs.Common.{refl, sym, ap, ◌∙◌, subst, arith, inl, inr, length-drop, add-zero}
@@ -10,11 +10,11 @@ use Rattle.gimli_base.specs.declared.common.SectionId.{SectionId}
 use Rattle.gimli_base.specs.declared.error.Error.{Error}
 use Rattle.gimli_base.specs.Offset.{answer_of}
 use Rattle.gimli_base.specs.View.{View, cut, ended}
-use Rattle.gimli_base.specs.Reading.{Reads, ◌>>=◌, skip_at, eof}
+use Rattle.gimli_base.specs.Reading.{Reads, skip_at}
 use Rattle.gimli_base.specs.Later.{cut-cut}
 use Rattle.gimli_units.specs.Unit.{UnitView, whole_length}
 use Rattle.gimli_headers.specs.Header.{unit_at}
-use Rattle.gimli_headers.specs.UnitReads.{UnitRead, unit_at-read, unit_at-shorter}
+use Rattle.gimli_headers.specs.UnitReads.{unit_at-read, unit_at-shorter}
 use Rattle.gimli_headers.specs.Units.{UnitsPlace, Units, behind, no_units, then_unit, units_within, units_ahead, units_of, answers, next_unit, answered, transposed, unit_alone, header_at, Tile, EndsAt, Tiles, IsHeaderAt}
 
 module _ (limit : ℕ) (section : SectionId) where

@@ -70,6 +70,15 @@ impl<R: Reader> Section<R> for DebugInfo<R> {
 }
 
 impl<R: Reader> DebugInfo<R> {
+    /// A section of the same bytes.
+    pub fn copy(&self) -> Self
+        ensures { ⟦<DebugInfo<R> as Section<R>>⟧.content result ≡ ⟦<DebugInfo<R> as Section<R>>⟧.content self.now }
+    {
+        DebugInfo {
+            section: self.section.copy(),
+        }
+    }
+
     /// The header of the unit at an offset of the section.
     ///
     /// Refusals: `UnexpectedEof`, also where the offset lies behind the section's end, and those of `next` of the units.
@@ -117,6 +126,16 @@ impl<R: Reader> Model for DebugInfoUnitHeadersIter<R> {
 }
 
 impl<R: Reader> DebugInfoUnitHeadersIter<R> {
+    /// An iterator that stands where this one stands.
+    pub fn copy(&self) -> Self
+        ensures { result ≡ self.now }
+    {
+        DebugInfoUnitHeadersIter {
+            input: self.input.copy(),
+            offset: self.offset,
+        }
+    }
+
     /// The next unit, or none at the end of the section.
     ///
     /// Refusals: `UnexpectedEof`, `UnknownReservedLength`, `UnknownVersion`, `UnknownUnitType`,
@@ -142,6 +161,3 @@ impl<R: Reader> Iterator for DebugInfoUnitHeadersIter<R> {
         DebugInfoUnitHeadersIter::next(self).transpose()
     }
 }
-
-#[cfg(test)]
-mod tests;

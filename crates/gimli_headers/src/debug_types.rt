@@ -69,6 +69,15 @@ impl<R: Reader> Section<R> for DebugTypes<R> {
 }
 
 impl<R: Reader> DebugTypes<R> {
+    /// A section of the same bytes.
+    pub fn copy(&self) -> Self
+        ensures { ⟦<DebugTypes<R> as Section<R>>⟧.content result ≡ ⟦<DebugTypes<R> as Section<R>>⟧.content self.now }
+    {
+        DebugTypes {
+            section: self.section.copy(),
+        }
+    }
+
     /// The units of the section, from its beginning on: they lie one behind the other, and each is the one at its offset.
     pub fn units(&self) -> DebugTypesUnitHeadersIter<R>
         ensures begin { result ≡ record { rest = ⟦<DebugTypes<R> as Section<R>>⟧.content self.now; offset = 0 } }
@@ -99,6 +108,16 @@ impl<R: Reader> Model for DebugTypesUnitHeadersIter<R> {
 }
 
 impl<R: Reader> DebugTypesUnitHeadersIter<R> {
+    /// An iterator that stands where this one stands.
+    pub fn copy(&self) -> Self
+        ensures { result ≡ self.now }
+    {
+        DebugTypesUnitHeadersIter {
+            input: self.input.copy(),
+            offset: self.offset,
+        }
+    }
+
     /// The next unit, or none at the end of the section.
     ///
     /// Refusals: `UnexpectedEof`, `UnknownReservedLength`, `UnknownVersion`, `UnknownUnitType`,
@@ -124,6 +143,3 @@ impl<R: Reader> Iterator for DebugTypesUnitHeadersIter<R> {
         DebugTypesUnitHeadersIter::next(self).transpose()
     }
 }
-
-#[cfg(test)]
-mod tests;

@@ -4,8 +4,6 @@
 mod debug_info;
 mod debug_types;
 mod parse;
-#[cfg(test)]
-mod samples;
 mod units;
 
 pub use debug_info::{DebugInfo, DebugInfoUnitHeadersIter};

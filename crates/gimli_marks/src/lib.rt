@@ -1,37 +1,78 @@
-//! The work of readers and of tables of abbreviations, as a library to be timed: one call for each task and byte order.
+//! The work of readers, of tables of abbreviations and of entries, as a library to be timed: one call for each task and
+//! reader.
 #![tactic(auto)]
 
 mod numbers;
 mod tables;
+mod units;
 mod words;
 
-use gimli_base::{BigEndian, EndianSlice, Endianity, LittleEndian, RunTimeEndian};
+use gimli_base::{
+    BigEndian, EndianSlice, Endianity, LittleEndian, Reader, RunTimeEndian, WholeSlice,
+};
 use std::alloc::Global;
+use units::Work;
 
-/// What a task makes of the bytes `first`, and of the offsets in `second`; of a task that there is not, 0.
+/// What a task makes of the reader `first`, and of `second` or of the offsets in it; of a task that there is not, 0.
 ///
 /// The tasks: 0, the sum of the unsigned LEB128 numbers; 1, 2 and 3, the sum of the words of 2, 4 and 8 bytes; 4, the
 /// sum of the records of 2, 4 and 8 bytes; 5, a checksum of the tables of abbreviations at the offsets, each
 /// declaration looked up by its code; 6, a checksum of their first declarations alone, so that reading the tables is
-/// nearly all of the work; 7, a checksum of the unsigned LEB128 numbers taken in twos.
+/// nearly all of the work; 7, a checksum of the unsigned LEB128 numbers taken in twos; 8, 9 and 10, a checksum of the
+/// entries of `.debug_info`, with `.debug_abbrev` in `second`: read as a whole, their attributes read into a list, and
+/// their attributes passed.
 #[inline(never)]
-fn task_of<E: Endianity>(alloc: Global, task: u64, endian: E, first: &[u8], second: &[u8]) -> u64 {
-    let offsets = EndianSlice::new(second, LittleEndian);
+fn task_of<R: Reader>(
+    alloc: Global,
+    task: u64,
+    first: R,
+    second: R,
+    offsets: EndianSlice<'_, LittleEndian>,
+) -> u64 {
     match task {
-        0 => numbers::sum(EndianSlice::new(first, endian)),
-        1 => words::sum_of_2(EndianSlice::new(first, endian)),
-        2 => words::sum_of_4(EndianSlice::new(first, endian)),
-        3 => words::sum_of_8(EndianSlice::new(first, endian)),
-        4 => words::sum_of_records(EndianSlice::new(first, endian)),
-        5 => tables::checksum(alloc, EndianSlice::new(first, endian), offsets),
-        6 => tables::checksum_of_first(alloc, EndianSlice::new(first, endian), offsets),
-        7 => numbers::checksum_in_twos(EndianSlice::new(first, endian)),
+        0 => numbers::sum(first),
+        1 => words::sum_of_2(first),
+        2 => words::sum_of_4(first),
+        3 => words::sum_of_8(first),
+        4 => words::sum_of_records(first),
+        5 => tables::checksum(alloc, first, offsets),
+        6 => tables::checksum_of_first(alloc, first, offsets),
+        7 => numbers::checksum_in_twos(first),
+        8 => units::checksum(alloc, Work::Entry, first, second),
+        9 => units::checksum(alloc, Work::Attributes, first, second),
+        10 => units::checksum(alloc, Work::Pass, first, second),
         _ => 0,
     }
 }
 
-/// Runs a task (`task_of` lists them) in a byte order: 0 is `LittleEndian`, 1 is `BigEndian`, and 2 and 3 are the
-/// little and the big order of `RunTimeEndian`. The offsets in `second` are words of 8 bytes, little endian.
+fn in_order<E: Endianity>(alloc: Global, task: u64, endian: E, first: &[u8], second: &[u8]) -> u64 {
+    task_of(
+        alloc,
+        task,
+        EndianSlice::new(first, endian),
+        EndianSlice::new(second, endian),
+        EndianSlice::new(second, LittleEndian),
+    )
+}
+
+// Of bytes that are too many for the reader, 0.
+fn in_whole<E: Endianity>(alloc: Global, task: u64, endian: E, first: &[u8], second: &[u8]) -> u64 {
+    let most = u32::MAX as usize;
+    if first.len() > most || second.len() > most {
+        return 0;
+    }
+    task_of(
+        alloc,
+        task,
+        WholeSlice::new(first, endian),
+        WholeSlice::new(second, endian),
+        EndianSlice::new(second, LittleEndian),
+    )
+}
+
+/// Runs a task (`task_of` lists them) over a reader: 0 is `EndianSlice` of `LittleEndian`, 1 of `BigEndian`, 2 and 3 of
+/// the little and the big order of `RunTimeEndian`, and 4 is `WholeSlice` of `LittleEndian`. The offsets in `second` are
+/// words of 8 bytes, little endian.
 #[unsafe(no_mangle)]
 pub extern "C" fn gimli_marks(
     alloc: Global,
@@ -41,10 +82,11 @@ pub extern "C" fn gimli_marks(
     second: &[u8],
 ) -> u64 {
     match order {
-        0 => task_of(alloc, task, LittleEndian, first, second),
-        1 => task_of(alloc, task, BigEndian, first, second),
-        2 => task_of(alloc, task, RunTimeEndian::Little, first, second),
-        _ => task_of(alloc, task, RunTimeEndian::Big, first, second),
+        0 => in_order(alloc, task, LittleEndian, first, second),
+        1 => in_order(alloc, task, BigEndian, first, second),
+        2 => in_order(alloc, task, RunTimeEndian::Little, first, second),
+        3 => in_order(alloc, task, RunTimeEndian::Big, first, second),
+        _ => in_whole(alloc, task, LittleEndian, first, second),
     }
 }
 

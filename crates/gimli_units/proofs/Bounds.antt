@@ -1,17 +1,15 @@
 -- Offsets that are in bounds of a unit.
-use Rattle.std.proofs.Common.{◌≡◌, ℕ, ◌+◌, ◌-◌, ◌<◌, ◌≤◌, Bool, true, false, Some, Ok, Err, pos, refl, sym, ap, ◌∙◌, arith, length, length-drop}
-use Rattle.std.specs.Prelude.{nat_le, nat_lt, ◌&&◌, if◌then◌else◌}
-use Rattle.std.proofs.lemmas.Bool.{ltb-true, leb-true}
+use Rattle.std.proofs.Common.{◌≡◌, ℕ, ◌-◌, ◌<◌, ◌≤◌, Bool, true, false, Some, Result, Ok, Err, pos, refl, sym, ap, ◌∙◌, arith, length, length-drop}
+use Rattle.std.specs.Prelude.{nat_le, nat_lt, not, if◌then◌else◌}
+use Rattle.std.proofs.lemmas.Bool.{ltb-true, leb-true, not-true, not-false}
 use Rattle.gimli_base.specs.declared.error.Error.{Error}
-use Rattle.gimli_base.specs.declared.error.Error.TheVariants.{OffsetOutOfBounds}
+use Rattle.gimli_base.specs.declared.error.Error.TheVariants.{OffsetOutOfBounds, NoEntryAtGivenOffset}
+use Rattle.gimli_base.specs.Both.{both}
 use Rattle.gimli_base.specs.View.{View, cut}
-use Rattle.gimli_base.specs.Table.{Table}
+use Rattle.gimli_base.specs.Table.{Table, found}
+use Rattle.gimli_units.specs.Entry.{Entry, is_null, abbreviation_at, takes_memory, entry_at}
 use Rattle.gimli_units.specs.RawPlace.{RawPlace, next_offset_of}
-use Rattle.gimli_units.specs.Unit.{UnitView, whole_length, header_size, in_bounds, range_from, entries_in, entries_from}
-
-both : (a b : Bool) → (a && b) ≡ true → (a ≡ true) × (b ≡ true)
-both true b h = (refl, h)
-both false b h = absurd (cc)
+use Rattle.gimli_units.specs.Unit.{UnitView, whole_length, header_size, in_bounds, range_from, entries_in, entries_from, some_entry, entry_in, unit_entry_at, takes_memory_in}
 
 -- an offset in bounds is not before the entries, and before the end
 pub bounds : (u : UnitView) (o : ℕ) → in_bounds u o ≡ true → (header_size u ≤ o) × (o < whole_length u)
@@ -30,3 +28,59 @@ begins_at u t o p fits h = cases (in_bounds u o) (bounds u o) h
         let same : p ≡ record { rest = cut (o - header_size u) u.entries; encoding = u.encoding; abbreviations = t; end = whole_length u; depth = pos 0 } = cc in
         ap next_offset_of same ∙ simp length-drop (omega (arith, within refl, fits))
     cases false within e = absurd (cc)
+
+-- what a reader of the entries from an offset on reads first is the entry there
+pub reads_at : (limit : ℕ) (u : UnitView) (t : Table) (o : ℕ) (p : RawPlace) → Ok p ≡ entries_from u t (Some o)
+    → unit_entry_at limit u (found t) o ≡ some_entry o (entry_at limit p.encoding (found p.abbreviations) p.rest)
+unfolding unit_entry_at entries_from
+reads_at limit u t o p h = cases (range_from u o) h
+  where
+    cases : (r : Result View Error) → Ok p ≡ entries_in u t r → entry_in limit u.encoding (found t) o r ≡ some_entry o (entry_at limit p.encoding (found p.abbreviations) p.rest)
+    cases (Ok v) e =
+        let same : p ≡ record { rest = v; encoding = u.encoding; abbreviations = t; end = whole_length u; depth = pos 0 } = cc in
+        ap (λ (q : RawPlace). some_entry o (entry_at limit q.encoding (found q.abbreviations) q.rest)) (sym same)
+    cases (Err x) e = absurd (cc)
+
+-- and it takes memory where that does
+pub memory_at : (u : UnitView) (t : Table) (o : ℕ) (p : RawPlace) → Ok p ≡ entries_from u t (Some o)
+    → takes_memory_in (found t) (range_from u o) ≡ takes_memory (abbreviation_at (found p.abbreviations) p.rest)
+unfolding entries_from
+memory_at u t o p h = cases (range_from u o) h
+  where
+    cases : (r : Result View Error) → Ok p ≡ entries_in u t r → takes_memory_in (found t) r ≡ takes_memory (abbreviation_at (found p.abbreviations) p.rest)
+    cases (Ok v) e =
+        let same : p ≡ record { rest = v; encoding = u.encoding; abbreviations = t; end = whole_length u; depth = pos 0 } = cc in
+        ap (λ (q : RawPlace). takes_memory (abbreviation_at (found q.abbreviations) q.rest)) (sym same)
+    cases (Err x) e = absurd (cc)
+
+-- the reader stands at depth 0
+pub depth_at : (u : UnitView) (t : Table) (o : ℕ) (p : RawPlace) → Ok p ≡ entries_from u t (Some o) → p.depth ≡ pos 0
+unfolding entries_from
+depth_at u t o p h = cases (range_from u o) h
+  where
+    cases : (r : Result View Error) → Ok p ≡ entries_in u t r → p.depth ≡ pos 0
+    cases (Ok v) e =
+        let same : p ≡ record { rest = v; encoding = u.encoding; abbreviations = t; end = whole_length u; depth = pos 0 } = cc in
+        ap (λ (q : RawPlace). q.depth) same
+    cases (Err x) e = absurd (cc)
+
+-- what was read there, and is an entry, is that of the offset
+pub some_read : (limit : ℕ) (u : UnitView) (t : Table) (o : ℕ) (p : RawPlace) → Ok p ≡ entries_from u t (Some o)
+    → (e : Entry) (w : View) (some : Bool) → some ≡ not (is_null e) → some ≡ true → Ok (e, w) ≡ entry_at limit p.encoding (found p.abbreviations) p.rest
+    → Ok e ≡ unit_entry_at limit u (found t) o
+some_read limit u t o p h e w some k t-some read =
+    let null : is_null e ≡ false = not-true (is_null e) (sym k ∙ t-some) in
+    sym (reads_at limit u t o p h ∙ ap (some_entry o) (sym read) ∙ rw null refl)
+
+-- a null that was read there is refused
+pub null_read : (limit : ℕ) (u : UnitView) (t : Table) (o : ℕ) (p : RawPlace) → Ok p ≡ entries_from u t (Some o)
+    → (e : Entry) (w : View) (some : Bool) → some ≡ not (is_null e) → some ≡ false → Ok (e, w) ≡ entry_at limit p.encoding (found p.abbreviations) p.rest
+    → Err (NoEntryAtGivenOffset o) ≡ unit_entry_at limit u (found t) o
+null_read limit u t o p h e w some k t-none read =
+    let null : is_null e ≡ true = not-false (is_null e) (sym k ∙ t-none) in
+    sym (reads_at limit u t o p h ∙ ap (some_entry o) (sym read) ∙ rw null refl)
+
+-- and so is what could not be read
+pub none_read : (limit : ℕ) (u : UnitView) (t : Table) (o : ℕ) (p : RawPlace) → Ok p ≡ entries_from u t (Some o)
+    → (x : Error) → Err x ≡ entry_at limit p.encoding (found p.abbreviations) p.rest → Err x ≡ unit_entry_at limit u (found t) o
+none_read limit u t o p h x read = sym (reads_at limit u t o p h ∙ ap (some_entry o) (sym read))

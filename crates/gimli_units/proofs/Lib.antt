@@ -1,2 +1,4 @@
 pub mod AttributeTurns
 pub mod Bounds
+pub mod Chains
+mod SkipTurns

@@ -1,5 +1,7 @@
 -- The entry at a view, under a finite map of codes to declarations (DWARF 5, 7.5.2 and 7.5.3).
 use Rattle.std.specs.Prelude.{ℕ, ◌==◌, if◌then◌else◌, Bool, true, false, List, [], ◌∷◌, map, Option, Some, None, Ok, Err}
+use Rattle.std.specs.List.{find}
+use Rattle.gimli_base.specs.declared.common.Encoding.{Encoding}
 use Rattle.gimli_base.specs.declared.constants.DwTag.{DwTag}
 use Rattle.gimli_base.specs.declared.error.Error.TheVariants.{InvalidAbbreviationCode}
 use Rattle.gimli_base.specs.View.{View}
@@ -14,13 +16,14 @@ abbrev pub Attr : Type 0
 Attr = Attribute View ℕ
 
 -- the attribute of a specification
-unfoldable pub attribute_at : ℕ → Specification → View → Reads Attr
-attribute_at limit s v = made (λ x. record { name = s.name; form = s.form; value = x }) (value_at limit s.form.0 v)
+unfoldable pub attribute_at : ℕ → Encoding → Specification → View → Reads Attr
+attribute_at limit e s v =
+    made (λ x. record { name = s.name; form = s.form; value = x }) (value_at limit e s.name.0 s.constant s.form.0 v)
 
 -- the attributes of these specifications, in their order
-unfoldable pub attributes_at : ℕ → List Specification → View → Reads (List Attr)
-attributes_at limit [] v = Ok ([], v)
-attributes_at limit (s ∷ ss) v = attribute_at limit s v >>= λ p. made (λ xs. p.0 ∷ xs) (attributes_at limit ss p.1)
+unfoldable pub attributes_at : ℕ → Encoding → List Specification → View → Reads (List Attr)
+attributes_at limit e [] v = Ok ([], v)
+attributes_at limit e (s ∷ ss) v = attribute_at limit e s v >>= λ p. made (λ xs. p.0 ∷ xs) (attributes_at limit e ss p.1)
 
 -- an entry: a tag, whether children follow, and attributes. A null has the tag 0, which no other entry has.
 pub record Entry : Type 0 where
@@ -39,6 +42,10 @@ is_null e = e.tag.0 == 0
 abbrev pub entry_of : {R O : Type 0} → (R → View) → (O → ℕ) → DwTag → Bool → List (Attribute R O) → Entry
 entry_of f g tag has_children attrs = record { tag = tag; has_children = has_children; attributes = map (map_attribute f g) attrs }
 
+-- the first attribute of a name
+abbrev pub first_of : {R O : Type 0} → ℕ → List (Attribute R O) → Option (Attribute R O)
+first_of name attributes = find (λ a. a.name.0 == name) attributes
+
 -- the declaration that the next code names; the code 0 names none
 unfoldable pub abbreviation_at : Map → View → Reads (Option Declaration)
 abbreviation_at declared v = uleb_at v >>= λ code.
@@ -46,14 +53,14 @@ abbreviation_at declared v = uleb_at v >>= λ code.
     else elim (declared code.0) [ Some d ↦ Ok (Some d, code.1) | None ↦ Err (InvalidAbbreviationCode code.0) ]
 
 -- the entry of a declaration, or the null
-abbrev pub content_at : ℕ → Option Declaration → View → Reads Entry
-content_at limit None v = Ok (null_entry, v)
-content_at limit (Some d) v =
-    made (λ xs. record { tag = d.tag; has_children = d.has_children; attributes = xs }) (attributes_at limit d.attributes v)
+abbrev pub content_at : ℕ → Encoding → Option Declaration → View → Reads Entry
+content_at limit e None v = Ok (null_entry, v)
+content_at limit e (Some d) v =
+    made (λ xs. record { tag = d.tag; has_children = d.has_children; attributes = xs }) (attributes_at limit e d.attributes v)
 
 -- the next entry
-unfoldable pub entry_at : ℕ → Map → View → Reads Entry
-entry_at limit declared v = abbreviation_at declared v >>= λ p. content_at limit p.0 p.1
+unfoldable pub entry_at : ℕ → Encoding → Map → View → Reads Entry
+entry_at limit e declared v = abbreviation_at declared v >>= λ p. content_at limit e p.0 p.1
 
 -- whether reading an entry takes memory: only where its declaration has attributes
 abbrev pub takes_memory : Reads (Option Declaration) → Bool

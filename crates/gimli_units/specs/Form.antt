@@ -1,49 +1,84 @@
--- How the value of a form lies in the bytes, and what it reads as (DWARF 5, 7.5.6, table 7.6).
-use Rattle.std.specs.Prelude.{ℕ, ◌==◌, if◌then◌else◌, List, [], ◌∷◌, Option, Some, None, Err}
-use Rattle.gimli_base.specs.declared.error.Error.TheVariants.{UnknownForm}
+-- The value of a form at a view, and the view behind it (DWARF 5, 7.5.5 and 7.5.6).
+use Rattle.std.specs.Prelude.{ℕ, ℤ, zero, suc, ◌==◌, ◌&&◌, ◌||◌, Bool, true, false, if◌then◌else◌, List, [], ◌∷◌, length, Option, Some, None, Ok, Err}
+use Rattle.gimli_base.specs.declared.common.Encoding.{Encoding}
+use Rattle.gimli_base.specs.declared.error.Error.TheVariants.{UnknownForm, InvalidImplicitConst}
 use Rattle.gimli_base.specs.View.{View}
-use Rattle.gimli_base.specs.Reading.{Reads, made, byte_at, uint_offset_at, text_at}
+use Rattle.gimli_base.specs.Reading.{Reads, ◌>>=◌, made, eof, byte_at, uint_at, split_at, uleb_at, uleb16_at, sleb_at, as_offset, uint_offset_at, offset_at, sized_offset_at, address_at, text_at, word_size_of}
 use Rattle.gimli_units.specs.Value.{Value}
-use Rattle.gimli_units.specs.declared.value.AttributeValue.TheVariants.{String, Data1, UnitRef}
+use Rattle.gimli_units.specs.declared.value.AttributeValue.TheVariants.{SecOffset}
+use Rattle.gimli_units.specs.Layout.{Layout, byte, number, section_or, address, uleb, sleb, offset, word_offset, reference, offset_leb, block, block_leb, text, nothing, constant, layout_of}
 
--- the bytes of a value, and the value that is made of what they hold
-pub data Layout : Type 0 where
-  byte : (ℕ → Value) → Layout  -- one byte
-  offset : ℕ → (ℕ → Value) → Layout  -- n bytes, an offset
-  text : (View → Value) → Layout  -- bytes up to a zero, which is passed too
-
--- an offset in the unit
-abbrev pub unit_ref : ℕ → Value
-unit_ref n = UnitRef (record { 0 = n })
-
--- the forms that are read so far, by their codes; any other is refused
-unfoldable pub forms : List (ℕ × Layout)
-forms =
-    (0x08, text String) ∷  -- string
-    (0x0b, byte Data1) ∷  -- data1
-    (0x11, offset 1 unit_ref) ∷  -- ref1
+-- the names whose data4 or data8, where it has the format's width, is an offset into a section
+unfoldable pub section_names : List ℕ
+section_names =
+    0x02 ∷  -- location
+    0x10 ∷  -- stmt_list
+    0x19 ∷  -- string_length
+    0x2a ∷  -- return_addr
+    0x2c ∷  -- start_scope
+    0x40 ∷  -- frame_base
+    0x43 ∷  -- macro_info
+    0x46 ∷  -- segment
+    0x48 ∷  -- static_link
+    0x4a ∷  -- use_location
+    0x4d ∷  -- vtable_elem_location
+    0x55 ∷  -- ranges
+    0x79 ∷  -- macros
     []
 
--- the first layout of a code
-abbrev pub found_in : ℕ → List (ℕ × Layout) → Option Layout
-found_in form [] = None
-found_in form (r ∷ rs) = if form == r.0 then Some r.1 else found_in form rs
+abbrev pub is_in : ℕ → List ℕ → Bool
+is_in n [] = false
+is_in n (x ∷ xs) = if n == x then true else is_in n xs
 
--- how the value of a form lies in the bytes
-unfoldable pub layout_of : ℕ → Option Layout
-unfolding forms
-layout_of form = found_in form forms
+-- in versions 2 and 3 that of data_member_location is one too
+unfoldable pub is_section_name : ℕ → ℕ → Bool
+unfolding section_names
+is_section_name name version = if name == 0x38 then version == 2 || version == 3 else is_in name section_names
 
--- the value in a layout; offsets are below the limit
-abbrev pub value_in : ℕ → Layout → View → Reads Value
-value_in limit (byte f) v = made f (byte_at v)
-value_in limit (offset n f) v = made f (uint_offset_at limit n v)
-value_in limit (text f) v = made f (text_at v)
+-- the next LEB128 number as an offset; offsets are below the limit
+abbrev pub uleb_offset_at : ℕ → View → Reads ℕ
+uleb_offset_at limit v = as_offset limit (uleb_at v)
 
--- the value of a form
-unfoldable pub value_at : ℕ → ℕ → View → Reads Value
+-- the value in a layout, under a name and with the number of its declaration
+abbrev pub value_in : ℕ → Encoding → ℕ → Option ℤ → Layout → View → Reads Value
+value_in limit e name c (byte f) v = made f (byte_at v)
+value_in limit e name c (number n f) v = made f (uint_at n v)
+value_in limit e name c (section_or n f) v =
+    if word_size_of e.format == n && is_section_name name e.version then made SecOffset (uint_offset_at limit n v) else made f (uint_at n v)
+value_in limit e name c (address f) v = made f (address_at e.address_size v)
+value_in limit e name c (uleb f) v = made f (uleb_at v)
+value_in limit e name c (sleb f) v = made f (sleb_at v)
+value_in limit e name c (offset n f) v = made f (uint_offset_at limit n v)
+value_in limit e name c (word_offset f) v = made f (offset_at limit e.format v)
+value_in limit e name c (reference f) v = made f (if e.version == 2 then sized_offset_at limit e.address_size v else offset_at limit e.format v)
+value_in limit e name c (offset_leb f) v = made f (uleb_offset_at limit v)
+value_in limit e name c (block n f) v = made f (uint_offset_at limit n v >>= λ p. split_at p.0 p.1)
+value_in limit e name c (block_leb f) v = made f (uleb_offset_at limit v >>= λ p. split_at p.0 p.1)
+value_in limit e name c (text f) v = made f (text_at v)
+value_in limit e name c (nothing x) v = Ok (x, v)
+value_in limit e name c (constant f) v = elim c [ Some n ↦ Ok (f n, v) | None ↦ Err InvalidImplicitConst ]
+
+-- the value of a form that is not indirect; a form that is not in the table is refused
+unfoldable pub direct_at : ℕ → Encoding → ℕ → Option ℤ → ℕ → View → Reads Value
 unfolding layout_of
-value_at limit form v = elim (layout_of form) [
-  | Some l ↦ value_in limit l v
+direct_at limit e name c form v = elim (layout_of form) [
+  | Some l ↦ value_in limit e name c l v
   | None ↦ Err (UnknownForm (record { 0 = form }))
 ]
+
+-- The form that a chain of indirect forms leads to. Each of them takes a byte at least, so that n, the number of bytes, is
+-- enough.
+unfoldable pub chain : ℕ → ℕ → View → Reads ℕ
+chain zero form v = if form == 0x16 then Err (eof v) else Ok (form, v)
+chain (suc n) form v = if form == 0x16 then (uleb16_at v >>= λ p. chain n p.0 p.1) else Ok (form, v)
+
+unfoldable pub form_at : ℕ → View → Reads ℕ
+form_at form v = chain (length v.bytes) form v
+
+-- the number that stands in a declaration, which an indirect one has none of
+abbrev pub number_of : ℕ → Option ℤ → Option ℤ
+number_of form c = if form == 0x16 then None else c
+
+-- the value of a form; a chain that ends at implicit_const has no number
+unfoldable pub value_at : ℕ → Encoding → ℕ → Option ℤ → ℕ → View → Reads Value
+value_at limit e name c form v = form_at form v >>= λ p. direct_at limit e name (number_of form c) p.0 p.1

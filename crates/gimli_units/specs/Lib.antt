@@ -1,5 +1,7 @@
 pub mod Value
+pub mod Layout
 pub mod Form
+pub mod Passing
 pub mod Entry
 pub mod Rows
 pub mod EntryReads
@@ -7,3 +9,7 @@ pub mod RawPlace
 pub mod RowSteps
 pub mod UnitKind
 pub mod Unit
+pub mod NormalValue
+pub mod PassLaw
+pub mod PassReads
+pub mod WidthLaw

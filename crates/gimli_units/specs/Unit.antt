@@ -104,13 +104,13 @@ some_entry offset (Ok p) = if is_null p.0 then Err (NoEntryAtGivenOffset offset)
 some_entry offset (Err e) = Err e
 
 -- the entry in these bytes of a unit
-abbrev pub entry_in : ℕ → Map → ℕ → Result View Error → Result Entry Error
-entry_in limit declared offset (Ok v) = some_entry offset (entry_at limit declared v)
-entry_in limit declared offset (Err e) = Err e
+abbrev pub entry_in : ℕ → Encoding → Map → ℕ → Result View Error → Result Entry Error
+entry_in limit encoding declared offset (Ok v) = some_entry offset (entry_at limit encoding declared v)
+entry_in limit encoding declared offset (Err e) = Err e
 
 -- the entry at an offset of a unit
 unfoldable pub unit_entry_at : ℕ → UnitView → Map → ℕ → Result Entry Error
-unit_entry_at limit u declared offset = entry_in limit declared offset (range_from u offset)
+unit_entry_at limit u declared offset = entry_in limit u.encoding declared offset (range_from u offset)
 
 -- whether memory is asked for where the entry in these bytes is read
 abbrev pub takes_memory_in : Map → Result View Error → Bool

@@ -1,17 +1,20 @@
 //! Attributes, and how they are read.
 
-ghost use Rattle.std.specs.Prelude.{◌≡◌};
+ghost use Rattle.std.specs.Prelude.{◌≡◌, ◌^◌};
+ghost use Rattle.std.specs.Option.{option_map};
 ghost use Rattle.gimli_base.specs.Offset.{answer_of};
 ghost use Rattle.gimli_base.specs.Reading.{read};
 ghost use Rattle.gimli_units.specs.Value.{map_value, map_attribute};
-ghost use Rattle.gimli_units.specs.Form.{value_at};
+ghost use Rattle.gimli_units.specs.NormalValue.{udata_of, sdata_of, offset_of, exprloc_of, string_of, string_sup_of, below};
 ghost use Rattle.gimli_units.specs.Entry.{attribute_at};
 
-use crate::{AttributeValue, UnitOffset};
+use crate::AttributeValue;
+use crate::form::parse_value;
 use gimli_base::{
-    AttributeSpecification, DW_FORM_data1, DW_FORM_ref1, DW_FORM_string, DwAt, DwForm, Error,
-    Reader, Result,
+    AttributeSpecification, DebugStr, DwAt, DwForm, Encoding, Expression, Reader, Result, Section,
 };
+
+mod normal;
 
 /// An attribute of an entry: a name, the form of its declaration, and a value (DWARF 5, 7.5.4).
 #[derive(Clone, Copy, Debug, PartialEq, Eq, Drop)]
@@ -47,19 +50,79 @@ impl<R: Reader> Attribute<R> {
     {
         self.value.copy()
     }
-}
 
-// The value of a form; where it is refused, the input is left anywhere.
-#[inline(always)]
-#[tactic(auto, unfolding(crate::specs::Form::value_at, gimli_base::specs::Reading::sized_offset_at))]
-fn value<R: Reader>(input: &mut R, form: DwForm) -> Result<AttributeValue<R>>
-    ensures { read (answer_of (map_value R.view R.Offset.number) result) (R.view input.new) ≡ value_at R.Offset.limit form.0 (R.view input.old) }
-{
-    match form {
-        DW_FORM_string => Ok(AttributeValue::String(input.read_null_terminated_slice()?)),
-        DW_FORM_data1 => Ok(AttributeValue::Data1(input.read_u8()?)),
-        DW_FORM_ref1 => Ok(AttributeValue::UnitRef(UnitOffset(input.read_sized_offset(1)?))),
-        _ => Err(Error::UnknownForm(form)),
+    /// The same attribute, its readers copied.
+    #[inline]
+    pub fn copy(&self) -> Attribute<R>
+        ensures { map_attribute R.view R.Offset.number result ≡ map_attribute R.view R.Offset.number self.now }
+    {
+        Attribute {
+            name: self.name,
+            form: self.form,
+            value: self.value.copy(),
+        }
+    }
+
+    /// The value as an unsigned number of 8 bits, where it is one and fits.
+    pub fn u8_value(&self) -> Option<u8>
+        ensures { result ≡ below (2 ^ 8) (udata_of (map_value R.view R.Offset.number self.now.value)) }
+    {
+        self.value.u8_value()
+    }
+
+    /// The value as an unsigned number of 16 bits, where it is one and fits.
+    pub fn u16_value(&self) -> Option<u16>
+        ensures { result ≡ below (2 ^ 16) (udata_of (map_value R.view R.Offset.number self.now.value)) }
+    {
+        self.value.u16_value()
+    }
+
+    /// The value as an unsigned number, where it is one.
+    pub fn udata_value(&self) -> Option<u64>
+        ensures { result ≡ udata_of (map_value R.view R.Offset.number self.now.value) }
+    {
+        self.value.udata_value()
+    }
+
+    /// The value as a signed number, where it is one.
+    pub fn sdata_value(&self) -> Option<i64>
+        ensures { result ≡ sdata_of (map_value R.view R.Offset.number self.now.value) }
+    {
+        self.value.sdata_value()
+    }
+
+    /// The value as an offset into a section that the name gives, where it is one.
+    pub fn offset_value(&self) -> Option<R::Offset>
+        ensures { option_map R.Offset.number result ≡ offset_of (map_value R.view R.Offset.number self.now.value) }
+    {
+        self.value.offset_value()
+    }
+
+    /// The value as an expression, where it is one, or a block.
+    pub fn exprloc_value(&self) -> Option<Expression<R>>
+        ensures { option_map (λ e. R.view e.0) result ≡ exprloc_of (map_value R.view R.Offset.number self.now.value) }
+    {
+        self.value.exprloc_value()
+    }
+
+    /// The value as the bytes of a text, where it is one that stands in the attribute or in `.debug_str`. None too where
+    /// `.debug_str` has no text at the offset.
+    pub fn string_value(&self, debug_str: &DebugStr<R>) -> Option<R>
+        ensures { option_map R.view result ≡ string_of (⟦<DebugStr<R> as Section<R>>⟧.content debug_str.now) (map_value R.view R.Offset.number self.now.value) }
+    {
+        self.value.string_value(debug_str)
+    }
+
+    /// The value as the bytes of a text, as `string_value`, or of one in `.debug_str` of the supplementary file, where
+    /// that is given.
+    pub fn string_value_sup(
+        &self,
+        debug_str: &DebugStr<R>,
+        debug_str_sup: Option<&DebugStr<R>>,
+    ) -> Option<R>
+        ensures { option_map R.view result ≡ string_sup_of (⟦<DebugStr<R> as Section<R>>⟧.content debug_str.now) (option_map (λ s. ⟦<DebugStr<R> as Section<R>>⟧.content s.now) debug_str_sup.entry) (map_value R.view R.Offset.number self.now.value) }
+    {
+        self.value.string_value_sup(debug_str, debug_str_sup)
     }
 }
 
@@ -68,17 +131,15 @@ fn value<R: Reader>(input: &mut R, form: DwForm) -> Result<AttributeValue<R>>
 #[tactic(auto, unfolding(crate::specs::Entry::attribute_at))]
 pub(crate) fn parse_attribute<R: Reader>(
     input: &mut R,
+    encoding: Encoding,
     specification: AttributeSpecification,
 ) -> Result<Attribute<R>>
-    ensures { read (answer_of (map_attribute R.view R.Offset.number) result) (R.view input.new) ≡ attribute_at R.Offset.limit specification (R.view input.old) }
+    ensures { read (answer_of (map_attribute R.view R.Offset.number) result) (R.view input.new) ≡ attribute_at R.Offset.limit encoding specification (R.view input.old) }
 {
-    let value = value(input, specification.form())?;
+    let value = parse_value(input, encoding, specification)?;
     Ok(Attribute {
         name: specification.name(),
         form: specification.form(),
         value,
     })
 }
-
-#[cfg(test)]
-mod tests;

@@ -148,6 +148,3 @@ impl<T: ReaderOffset> UnitOffset<T> {
             .to_debug_types_offset(unit)
     }
 }
-
-#[cfg(test)]
-mod tests;

@@ -1,10 +1,14 @@
 //! Entries, as they are held.
 
-ghost use Rattle.std.specs.Prelude.{◌≡◌, [], false, pos};
-ghost use Rattle.gimli_units.specs.Entry.{Entry, null_entry, is_null, entry_of};
+ghost use Rattle.std.specs.Prelude.{◌≡◌, [], false, pos, map, IsOk, IfOk, IfErr};
+ghost use Rattle.std.specs.Option.{option_map, option_copied, is_some};
+ghost use Rattle.gimli_base.specs.declared.error.Error.TheVariants.{OutOfMemory};
+ghost use Rattle.gimli_units.specs.Value.{map_value, map_attribute};
+ghost use Rattle.gimli_units.specs.NormalValue.{normal};
+ghost use Rattle.gimli_units.specs.Entry.{Entry, null_entry, is_null, entry_of, first_of};
 
-use crate::{Attribute, UnitOffset};
-use gimli_base::{DW_TAG_null, DwTag, Reader, ReaderOffset};
+use crate::{Attribute, AttributeValue, UnitOffset};
+use gimli_base::{DW_TAG_null, DwAt, DwTag, Reader, ReaderOffset, Result};
 use std::alloc::Allocator;
 use std::fmt::Debug;
 
@@ -121,7 +125,66 @@ impl<R: Reader, A: Allocator> DebuggingInformationEntry<R, A> {
     {
         &self.attrs
     }
+
+    /// Whether there is an attribute of this name.
+    pub fn has_attr(&self, name: DwAt) -> bool
+        ensures { result ≡ is_some (first_of name.0 self.now.attrs.items) }
+    {
+        self.attr(name).is_some()
+    }
+
+    /// The first attribute of this name.
+    pub fn attr(&self, name: DwAt) -> Option<&Attribute<R>>
+        ensures { option_copied result ≡ first_of name.0 self.now.attrs.items }
+    {
+        self.attrs.iter().find(|attr| attr.name() == name)
+    }
+
+    /// The value of the first attribute of this name, as its form shows it.
+    pub fn attr_value_raw(&self, name: DwAt) -> Option<AttributeValue<R>>
+        ensures { option_map (map_value R.view R.Offset.number) result ≡ option_map (λ a. map_value R.view R.Offset.number a.value) (first_of name.0 self.now.attrs.items) }
+    {
+        self.attr(name).map(|attr| attr.raw_value())
+    }
+
+    /// The value of the first attribute of this name, as the name makes it.
+    pub fn attr_value(&self, name: DwAt) -> Option<AttributeValue<R>>
+        ensures { option_map (map_value R.view R.Offset.number) result ≡ option_map (λ a. normal a.name.0 (map_value R.view R.Offset.number a.value)) (first_of name.0 self.now.attrs.items) }
+    {
+        self.attr(name).map(|attr| attr.value())
+    }
 }
 
-#[cfg(test)]
-mod tests;
+impl<R: Reader, A: Allocator + Copy> DebuggingInformationEntry<R, A> {
+    /// An equal entry. Refusal: `OutOfMemory`, only where it has attributes.
+    pub fn try_clone(&self, alloc: A) -> Result<Self>
+        ensures value { IfOk result (λ e. entry_of R.view R.Offset.number e.tag e.has_children e.attrs.items ≡ entry_of R.view R.Offset.number self.now.tag self.now.has_children self.now.attrs.items) }
+        ensures offset { IfOk result (λ e. e.offset ≡ self.now.offset) }
+        ensures depth { IfOk result (λ e. e.depth ≡ self.now.depth) }
+        ensures refusal { IfErr result (λ e. e ≡ OutOfMemory) }
+        ensures without_memory { self.now.attrs.items ≡ [] → IsOk result }
+    {
+        let attrs = copies(alloc, &self.attrs)?;
+        Ok(DebuggingInformationEntry {
+            tag: self.tag,
+            has_children: self.has_children,
+            attrs,
+            offset: self.offset,
+            depth: self.depth,
+        })
+    }
+}
+
+// The same attributes.
+fn copies<R: Reader, A: Allocator>(alloc: A, attrs: &[Attribute<R>]) -> Result<Vec<Attribute<R>, A>>
+    ensures value { IfOk result (λ copies. map (map_attribute R.view R.Offset.number) copies.items ≡ map (map_attribute R.view R.Offset.number) attrs.now) }
+    ensures refusal { IfErr result (λ e. e ≡ OutOfMemory) }
+    ensures without_memory { attrs.now ≡ [] → IsOk result }
+{
+    let mut copies = Vec::new(alloc);
+    copies.reserve(attrs.len())?;
+    for attr in attrs {
+        copies.push_reserved(attr.copy());
+    }
+    Ok(copies)
+}

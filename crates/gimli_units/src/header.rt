@@ -98,6 +98,21 @@ impl<R: Reader> UnitHeader<R> {
         }
     }
 
+    /// The same header, its reader copied.
+    pub fn copy(&self) -> Self
+        ensures { ⟦<UnitHeader<R> as HasUnit>⟧.unit result ≡ ⟦<UnitHeader<R> as HasUnit>⟧.unit self.now }
+    {
+        UnitHeader {
+            encoding: self.encoding,
+            unit_length: self.unit_length,
+            unit_type: self.unit_type,
+            debug_abbrev_offset: self.debug_abbrev_offset,
+            section: self.section,
+            unit_offset: self.unit_offset,
+            entries_buf: self.entries_buf.copy(),
+        }
+    }
+
     /// The section that the unit lies in.
     pub fn section(&self) -> SectionId
         ensures { result ≡ (⟦<UnitHeader<R> as HasUnit>⟧.unit self.now).section }
@@ -348,6 +363,3 @@ impl<R: Reader> UnitHeader<R> {
         Ok(EntriesRaw::new(input, self.encoding, abbreviations, start))
     }
 }
-
-#[cfg(test)]
-mod tests;

@@ -2,13 +2,14 @@
 #![tactic(auto)]
 
 mod attribute;
+mod conversions;
 mod convert;
 mod entry;
+mod form;
 mod header;
 mod offset;
 mod raw;
-#[cfg(test)]
-mod samples;
+mod skip;
 mod unit_type;
 mod value;
 

@@ -5,12 +5,15 @@ ghost use Rattle.std.specs.Option.{option_copied};
 ghost use Rattle.gimli_base.specs.Offset.{answer_of};
 ghost use Rattle.gimli_base.specs.View.{View};
 ghost use Rattle.gimli_base.specs.Reading.{read, filled, UnlessMemory};
+ghost use Rattle.gimli_base.specs.Passed.{PassesAs};
 ghost use Rattle.gimli_base.specs.Table.{Table, found};
 ghost use Rattle.gimli_units.specs.Value.{map_attribute};
 ghost use Rattle.gimli_units.specs.Entry.{attribute_at, attributes_at, abbreviation_at, entry_at, entry_of, null_entry, is_null, takes_memory};
+ghost use Rattle.gimli_units.specs.Passing.{pass_all, without_place};
 ghost use Rattle.gimli_units.specs.RawPlace.{RawPlace, next_offset_of, depth_read, depth_after};
 
 use crate::attribute::parse_attribute;
+use crate::skip::skip_all;
 use crate::{Attribute, DebuggingInformationEntry, UnitOffset};
 use gimli_base::{
     Abbreviation, Abbreviations, AttributeSpecification, Encoding, Error, Reader, ReaderOffset,
@@ -23,6 +26,7 @@ use std::marker::Model;
 ///
 /// A refused call leaves it as it was.
 #[derive(Drop)]
+#[derive_where(Debug)]
 pub struct EntriesRaw<'abbrev, R: Reader, A: Allocator> {
     input: R,
     encoding: Encoding,
@@ -59,6 +63,19 @@ impl<'abbrev, R: Reader, A: Allocator> EntriesRaw<'abbrev, R, A> {
             abbreviations,
             end_offset: UnitOffset(end),
             depth: 0,
+        }
+    }
+
+    /// A reader that stands where this one stands.
+    pub fn copy(&self) -> Self
+        ensures { result ≡ self.now }
+    {
+        EntriesRaw {
+            input: self.input.copy(),
+            encoding: self.encoding,
+            abbreviations: self.abbreviations,
+            end_offset: self.end_offset,
+            depth: self.depth,
         }
     }
 
@@ -122,8 +139,8 @@ impl<'abbrev, R: Reader, A: Allocator> EntriesRaw<'abbrev, R, A> {
     /// depth of what was refused. Memory is taken only where the declaration has attributes.
     #[tactic(auto, unfolding(crate::specs::Entry::entry_at))]
     pub fn read_entry(&mut self, entry: &mut DebuggingInformationEntry<R, A>) -> Result<bool>
-        ensures value { UnlessMemory result (read (filled (entry_of R.view R.Offset.number entry.new.tag entry.new.has_children entry.new.attrs.items) result) self.new.rest ≡ entry_at R.Offset.limit (found self.old.abbreviations) self.old.rest) }
-        ensures without_memory { takes_memory (abbreviation_at (found self.old.abbreviations) self.old.rest) ≡ false → read (filled (entry_of R.view R.Offset.number entry.new.tag entry.new.has_children entry.new.attrs.items) result) self.new.rest ≡ entry_at R.Offset.limit (found self.old.abbreviations) self.old.rest }
+        ensures value { UnlessMemory result (read (filled (entry_of R.view R.Offset.number entry.new.tag entry.new.has_children entry.new.attrs.items) result) self.new.rest ≡ entry_at R.Offset.limit self.old.encoding (found self.old.abbreviations) self.old.rest) }
+        ensures without_memory { takes_memory (abbreviation_at (found self.old.abbreviations) self.old.rest) ≡ false → read (filled (entry_of R.view R.Offset.number entry.new.tag entry.new.has_children entry.new.attrs.items) result) self.new.rest ≡ entry_at R.Offset.limit self.old.encoding (found self.old.abbreviations) self.old.rest }
         ensures some { IfOk result (λ some. some ≡ not (is_null (entry_of R.view R.Offset.number entry.new.tag entry.new.has_children entry.new.attrs.items))) }
         ensures offset { R.Offset.number entry.new.offset.0 ≡ next_offset_of self.old }
         ensures entry_depth { entry.new.depth ≡ self.old.depth }
@@ -156,10 +173,11 @@ impl<'abbrev, R: Reader, A: Allocator> EntriesRaw<'abbrev, R, A> {
 
     /// Reads the attribute of a specification.
     ///
-    /// Refusals: `UnexpectedEof`, `UnsupportedOffset`, `UnknownForm`.
+    /// Refusals: `UnexpectedEof`, `BadUnsignedLeb128`, `BadSignedLeb128`, `UnsupportedAddressSize`, `UnsupportedOffset`,
+    /// `UnsupportedOffsetSize`, `UnknownForm`, `InvalidImplicitConst`.
     #[inline(never)]
     pub fn read_attribute(&mut self, specification: AttributeSpecification) -> Result<Attribute<R>>
-        ensures value { read (answer_of (map_attribute R.view R.Offset.number) result) self.new.rest ≡ attribute_at R.Offset.limit specification self.old.rest }
+        ensures value { read (answer_of (map_attribute R.view R.Offset.number) result) self.new.rest ≡ attribute_at R.Offset.limit self.old.encoding specification self.old.rest }
         ensures same { self.new ≡ record self.old { rest = self.new.rest } }
         ensures kept { OnErr result (self.new ≡ self.old) }
     {
@@ -172,14 +190,31 @@ impl<'abbrev, R: Reader, A: Allocator> EntriesRaw<'abbrev, R, A> {
         &mut self,
         specification: AttributeSpecification,
     ) -> Result<Attribute<R>>
-        ensures value { read (answer_of (map_attribute R.view R.Offset.number) result) self.new.rest ≡ attribute_at R.Offset.limit specification self.old.rest }
+        ensures value { read (answer_of (map_attribute R.view R.Offset.number) result) self.new.rest ≡ attribute_at R.Offset.limit self.old.encoding specification self.old.rest }
         ensures same { self.new ≡ record self.old { rest = self.new.rest } }
         ensures kept { OnErr result (self.new ≡ self.old) }
     {
         let mut rest = self.input.copy();
-        let attribute = parse_attribute(&mut rest, specification)?;
+        let attribute = parse_attribute(&mut rest, self.encoding, specification)?;
         self.input = rest;
         Ok(attribute)
+    }
+
+    /// Passes the attributes of these specifications; those of known sizes are passed together.
+    ///
+    /// Refusals, of the first that can't be passed: `UnexpectedEof`, whose place lies between the call's start and the
+    /// input's end, `BadUnsignedLeb128`, `UnsupportedOffset`, `UnknownForm`.
+    #[inline(always)]
+    pub fn skip_attributes(&mut self, specifications: &[AttributeSpecification]) -> Result<()>
+        ensures value { without_place (read result self.new.rest) ≡ without_place (pass_all R.Offset.limit self.old.encoding specifications.now self.old.rest) }
+        ensures as_read { PassesAs (read result self.new.rest) (attributes_at R.Offset.limit self.old.encoding specifications.now self.old.rest) }
+        ensures same { self.new ≡ record self.old { rest = self.new.rest } }
+        ensures kept { OnErr result (self.new ≡ self.old) }
+    {
+        let mut rest = self.input.copy();
+        skip_all(&mut rest, self.encoding, specifications)?;
+        self.input = rest;
+        Ok(())
     }
 
     /// Reads the attributes of these specifications, in their order, in place of those in `attrs`; room for all is
@@ -191,7 +226,7 @@ impl<'abbrev, R: Reader, A: Allocator> EntriesRaw<'abbrev, R, A> {
         specifications: &[AttributeSpecification],
         attrs: &mut Vec<Attribute<R>, A>,
     ) -> Result<()>
-        ensures value { UnlessMemory result (read (filled (map (map_attribute R.view R.Offset.number) attrs.new.items) result) self.new.rest ≡ attributes_at R.Offset.limit specifications.now self.old.rest) }
+        ensures value { UnlessMemory result (read (filled (map (map_attribute R.view R.Offset.number) attrs.new.items) result) self.new.rest ≡ attributes_at R.Offset.limit self.old.encoding specifications.now self.old.rest) }
         ensures none { specifications.now ≡ [] → IsOk result }
         ensures empty { OnErr result (attrs.new.items ≡ []) }
         ensures same { self.new ≡ record self.old { rest = self.new.rest } }
@@ -199,7 +234,7 @@ impl<'abbrev, R: Reader, A: Allocator> EntriesRaw<'abbrev, R, A> {
     {
         attrs.clear();
         let mut rest = self.input.copy();
-        match parse_attributes(&mut rest, specifications, attrs) {
+        match parse_attributes(&mut rest, self.encoding, specifications, attrs) {
             Ok(()) => {
                 self.input = rest;
                 Ok(())
@@ -216,20 +251,18 @@ impl<'abbrev, R: Reader, A: Allocator> EntriesRaw<'abbrev, R, A> {
 // left anywhere.
 fn parse_attributes<R: Reader, A: Allocator>(
     input: &mut R,
+    encoding: Encoding,
     specifications: &[AttributeSpecification],
     attrs: &mut Vec<Attribute<R>, A>,
 ) -> Result<()>
     requires { attrs.old.items ≡ [] }
-    ensures value { UnlessMemory result (read (filled (map (map_attribute R.view R.Offset.number) attrs.new.items) result) (R.view input.new) ≡ attributes_at R.Offset.limit specifications.now (R.view input.old)) }
+    ensures value { UnlessMemory result (read (filled (map (map_attribute R.view R.Offset.number) attrs.new.items) result) (R.view input.new) ≡ attributes_at R.Offset.limit encoding specifications.now (R.view input.old)) }
     ensures none { specifications.now ≡ [] → IsOk result }
 {
     attrs.reserve(specifications.len())?;
     for specification in specifications {
-        let attribute = parse_attribute(input, *specification)?;
+        let attribute = parse_attribute(input, encoding, *specification)?;
         attrs.push_reserved(attribute);
     }
     Ok(())
 }
-
-#[cfg(test)]
-mod tests;

@@ -3,12 +3,9 @@ use Rattle.std.proofs.Common.{◌≡◌, ℕ, ◌-◌, ◌<◌, ◌≤◌, pos, 
 use Rattle.std.specs.Prelude.{nat_le, nat_lt}
 use Rattle.std.specs.Io.KnownBytes.{Appends}
 use Rattle.std.proofs.lemmas.Bool.{le-leb, lt-ltb, le-ltb, cases_lt}
-use Rattle.gimli_base.specs.declared.common.Format.{Format}
-use Rattle.gimli_base.specs.declared.common.Format.TheVariants.{Dwarf32, Dwarf64}
 use Rattle.gimli_base.specs.declared.error.Error.{Error}
 use Rattle.gimli_base.specs.declared.error.Error.TheVariants.{OffsetOutOfBounds}
 use Rattle.gimli_base.specs.View.{View, cut}
-use Rattle.gimli_base.specs.Reading.{initial_length_size_of}
 use Rattle.gimli_base.specs.Abbreviations.{Map}
 use Rattle.gimli_base.specs.Table.{Table, found}
 use Rattle.gimli_units.specs.Entry.{entry_at}
@@ -16,12 +13,9 @@ use Rattle.gimli_units.specs.RawPlace.{RawPlace}
 use Rattle.gimli_units.specs.Rows.{ahead_at}
 use Rattle.gimli_units.specs.RowSteps.{ahead_ended}
 use Rattle.gimli_units.specs.Unit.{UnitView, whole_length, header_size, range_from, entries_in, entries_from}
+use Rattle.gimli_headers.specs.UnitReads.{some_size}
 use Rattle.gimli_walk.specs.Text.{Wrote, end_line, rows_text, unit_text, declared_text}
 use Rattle.gimli_walk.proofs.WrittenLines.{Wrote-only, Wrote-same}
-
-some_size : (format : Format) → 0 < initial_length_size_of format
-some_size Dwarf32 = omega arith
-some_size Dwarf64 = omega arith
 
 cut_none : (v : View) → cut 0 v ≡ v
 cut_none v = rw add-zero refl
@@ -57,12 +51,12 @@ root_cases u t = elim (cases_lt (header_size u) (whole_length u)) [
 module _ (limit : ℕ) (u : UnitView) (t : Table) (m : Result Map Error) (declared : Ok (found t) ≡ m) where
   -- the rows are those from the root on
   pub root_text : (p : RawPlace) → Ok p ≡ entries_from u t None
-      → rows_text (ahead_at (entry_at limit (found p.abbreviations)) p.end p.depth p.rest) ≡ declared_text limit u m
+      → rows_text (ahead_at (entry_at limit p.encoding (found p.abbreviations)) p.end p.depth p.rest) ≡ declared_text limit u m
   root_text p is = elim (root_cases u t) [
     | inl none ↦ absurd (let e : Ok p ≡ Err (OffsetOutOfBounds (header_size u)) = is ∙ none.1 in cc)
     | inr read ↦
         let same : p ≡ root_place u t = (let e : Ok p ≡ Ok (root_place u t) = is ∙ read in cc) in
-        ap (λ (q : RawPlace). rows_text (ahead_at (entry_at limit (found q.abbreviations)) q.end q.depth q.rest)) same
+        ap (λ (q : RawPlace). rows_text (ahead_at (entry_at limit q.encoding (found q.abbreviations)) q.end q.depth q.rest)) same
         ∙ ap (declared_text limit u) declared
   ]
 
@@ -70,6 +64,6 @@ module _ (limit : ℕ) (u : UnitView) (t : Table) (m : Result Map Error) (declar
   pub root_refused : (old new : Option (List ℕ)) (e : Error) → Err e ≡ entries_from u t None → Appends old new end_line → Wrote old new (declared_text limit u m) 0
   root_refused old new e is h = Wrote-same old new (unit_text limit u (found t)) (declared_text limit u m) 0 (ap (declared_text limit u) declared)
       (elim (root_cases u t) [
-        | inl none ↦ rw (ap rows_text (ahead_ended (entry_at limit (found t)) (whole_length u) (pos 0) u.entries none.0)) (Wrote-only old new end_line 0 h)
+        | inl none ↦ rw (ap rows_text (ahead_ended (entry_at limit u.encoding (found t)) (whole_length u) (pos 0) u.entries none.0)) (Wrote-only old new end_line 0 h)
         | inr read ↦ absurd (let e : Err e ≡ Ok (root_place u t) = is ∙ read in cc)
       ])

@@ -15,7 +15,7 @@ use Rattle.gimli_walk.proofs.WrittenLines.{Wrote-more, Wrote-only, Wrote-memory}
 
 -- the text of the rows that are ahead of a reader of entries
 abbrev pub place_text : ℕ → RawPlace → Text
-place_text limit p = rows_text (ahead_at (entry_at limit (found p.abbreviations)) p.end p.depth p.rest)
+place_text limit p = rows_text (ahead_at (entry_at limit p.encoding (found p.abbreviations)) p.end p.depth p.rest)
 
 some_lines_of : (a : Ahead) → 0 < length (rows_text a).lines
 some_lines_of a = simp length-append (omega arith)
@@ -23,28 +23,28 @@ some_lines_of a = simp length-append (omega arith)
 module _ (limit : ℕ) (old new : Option (List ℕ)) (p : RawPlace) where
   -- memory was refused before any other line
   pub rows_memory : Appends old new memory_line → Wrote old new (place_text limit p) 1
-  rows_memory h = Wrote-memory old new (place_text limit p) (some_lines_of (ahead_at (entry_at limit (found p.abbreviations)) p.end p.depth p.rest)) h
+  rows_memory h = Wrote-memory old new (place_text limit p) (some_lines_of (ahead_at (entry_at limit p.encoding (found p.abbreviations)) p.end p.depth p.rest)) h
 
   -- no row is left
   pub rows_ended : length p.rest.bytes ≡ 0 → Appends old new end_line → Wrote old new (place_text limit p) 0
   rows_ended none h =
-      let e = ap rows_text (ahead_ended (entry_at limit (found p.abbreviations)) p.end p.depth p.rest none) in
+      let e = ap rows_text (ahead_ended (entry_at limit p.encoding (found p.abbreviations)) p.end p.depth p.rest none) in
       rw e (Wrote-only old new end_line 0 h)
 
   -- a refusal ends the rows
-  pub rows_refused : (e : Error) → (length p.rest.bytes ≡ 0 → ⊥) → Err e ≡ entry_at limit (found p.abbreviations) p.rest
+  pub rows_refused : (e : Error) → (length p.rest.bytes ≡ 0 → ⊥) → Err e ≡ entry_at limit p.encoding (found p.abbreviations) p.rest
       → Appends old new (error_line_at (number_of e) (next_offset_of p)) → Wrote old new (place_text limit p) 1
   rows_refused e some refused h =
-      let is = ap rows_text (ahead_refused (entry_at limit (found p.abbreviations)) p.end p.depth p.rest e some refused) in
+      let is = ap rows_text (ahead_refused (entry_at limit p.encoding (found p.abbreviations)) p.end p.depth p.rest e some refused) in
       rw is (Wrote-only old new (error_line_at (number_of e) (next_offset_of p)) 1 h)
 
 -- a row's line, and then those of the rows behind it
 pub rows_more : (limit : ℕ) (old mid new : Option (List ℕ)) (p : RawPlace) (e : Entry) (w : View) (given : ℕ)
-    → (length p.rest.bytes ≡ 0 → ⊥) → Ok (e, w) ≡ entry_at limit (found p.abbreviations) p.rest
+    → (length p.rest.bytes ≡ 0 → ⊥) → Ok (e, w) ≡ entry_at limit p.encoding (found p.abbreviations) p.rest
     → Appends old mid (row_line (next_offset_of p) p.depth e.tag.0 e.has_children)
     → Wrote mid new (place_text limit (record p { rest = w; depth = depth_after e p.depth })) given
     → Wrote old new (place_text limit p) given
 rows_more limit old mid new p e w given some read h rest =
-    let next = entry_at limit (found p.abbreviations) in
-    let is = ap rows_text (ahead_more next p.end (λ v u x. entry_at-shorter limit (found p.abbreviations) v u x) p.depth p.rest e w some read) in
+    let next = entry_at limit p.encoding (found p.abbreviations) in
+    let is = ap rows_text (ahead_more next p.end (λ v u x. entry_at-shorter limit p.encoding (found p.abbreviations) v u x) p.depth p.rest e w some read) in
     rw is (Wrote-more old mid new _ _ _ given h rest)

@@ -75,7 +75,7 @@ rows_text a = record { lines = map line_of a.rows ++ last_line a.refusal a.stop 
 
 -- the text of a unit's rows
 abbrev pub unit_text : ℕ → UnitView → Map → Text
-unit_text limit u declared = rows_text (ahead_at (entry_at limit declared) (whole_length u) (pos 0) u.entries)
+unit_text limit u declared = rows_text (ahead_at (entry_at limit u.encoding declared) (whole_length u) (pos 0) u.entries)
 
 -- the text of a unit whose declarations may be refused
 abbrev pub declared_text : ℕ → UnitView → Result Map Error → Text

@@ -64,6 +64,3 @@ pub fn run_type_units<R: Reader, A: Allocator + Copy>(
 {
     run_all(alloc, debug_types.units())
 }
-
-#[cfg(test)]
-mod tests;

@@ -92,17 +92,20 @@ fn walk_rows<R: Reader, A: Allocator + Copy, W: Write>(
     entries: &mut EntriesRaw<'_, R, A>,
     out: &mut W,
 ) -> Result<u8, WriteFault>
-    ensures { IfOk result (λ status. Wrote (W.contents out.old) (W.contents out.new) (rows_text (ahead_at (entry_at R.Offset.limit (found entries.old.abbreviations)) entries.old.end entries.old.depth entries.old.rest)) status) }
+    ensures { IfOk result (λ status. Wrote (W.contents out.old) (W.contents out.new) (rows_text (ahead_at (entry_at R.Offset.limit entries.old.encoding (found entries.old.abbreviations)) entries.old.end entries.old.depth entries.old.rest)) status) }
 {
     let mut entry = DebuggingInformationEntry::null(alloc);
     'rows: while !entries.is_empty() {
-        if let Err(error) = entries.read_entry(&mut entry) {
-            if error == Error::OutOfMemory {
-                write_error(out, error)?;
+        match entries.read_entry(&mut entry) {
+            Ok(_) => {}
+            Err(Error::OutOfMemory) => {
+                write_error(out, Error::OutOfMemory)?;
                 return Ok(1);
             }
-            write_error_at(out, error, entry.offset().0.into_u64())?;
-            return Ok(1);
+            Err(error) => {
+                write_error_at(out, error, entry.offset().0.into_u64())?;
+                return Ok(1);
+            }
         }
         let offset = entry.offset().0.into_u64();
         write_row(
@@ -116,6 +119,3 @@ fn walk_rows<R: Reader, A: Allocator + Copy, W: Write>(
     write_end(out)?;
     Ok(0)
 }
-
-#[cfg(test)]
-mod tests;

@@ -54,6 +54,3 @@ fn cannot_read<E: Write>(err: &mut E, name: &str) -> u8
     let _ = write!(err, "cannot read {name}\n");
     3
 }
-
-#[cfg(test)]
-mod tests;

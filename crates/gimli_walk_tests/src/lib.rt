@@ -1,11 +1,23 @@
-//! Tests of walks, and of the calls below them, where memory is refused.
+//! Tests of `gimli_walk`, and of the calls below it where memory is refused and where the input is large.
 #![tactic(auto)]
 
 #[cfg(test)]
 mod entries;
 #[cfg(test)]
+mod large;
+#[cfg(test)]
+mod rows;
+#[cfg(test)]
+mod run;
+#[cfg(test)]
 mod runs;
+#[cfg(test)]
+mod samples;
 #[cfg(test)]
 mod tables;
 #[cfg(test)]
+mod text;
+#[cfg(test)]
 mod walks;
+#[cfg(test)]
+mod words;

@@ -1,4 +1,4 @@
-use Rattle.std.proofs.Common.{rules, arith, ◌+◌, ◌≤◌, ◌<◌, length, ◌≡◌, ap, Ok}
+use Rattle.std.proofs.Common.{rules, arith, ◌≡◌, Ok}
 use Rattle.gimli_base.specs.Later.{split_at-front}
 use Rattle.gimli_base.specs.Taken.{taken_length, initial_length_at-takes, split_at-takes}
 use Rattle.gimli_units.specs.Unit.{UnitView}

@@ -1,0 +1,71 @@
+//! The section of strings (DWARF 5, 7.26).
+
+ghost use Rattle.std.specs.Prelude.{◌≡◌};
+ghost use Rattle.gimli_base.specs.declared.common.SectionId.TheVariants.{DebugStr as StrSection};
+ghost use Rattle.gimli_base.specs.Offset.{answer_of};
+ghost use Rattle.gimli_base.specs.Reading.{text_from};
+
+use crate::{DebugStrOffset, EndianSlice, Endianity, Reader, Result, Section, SectionId};
+
+/// The section `.debug_str`.
+#[derive(Clone, Copy, Debug, Default, Drop)]
+pub struct DebugStr<R> {
+    section: R,
+}
+
+impl<'a, E: Endianity> DebugStr<EndianSlice<'a, E>> {
+    /// The section of these bytes.
+    pub fn new(bytes: &'a [u8], endian: E) -> Self
+        ensures { ⟦<DebugStr<EndianSlice<'a, E>> as Section<EndianSlice<'a, E>>>⟧.content result ≡ record { big = E.big endian; place = 0; bytes = bytes.now } }
+    {
+        DebugStr {
+            section: EndianSlice::new(bytes, endian),
+        }
+    }
+}
+
+impl<R> From<R> for DebugStr<R> {
+    ghost from_gives = { λ r s. s.section ≡ r };
+
+    fn from(section: R) -> Self {
+        DebugStr { section }
+    }
+}
+
+impl<R: Reader> Section<R> for DebugStr<R> {
+    ghost section = { StrSection };
+
+    ghost content = { λ s. R.view s.section };
+
+    fn id() -> SectionId {
+        SectionId::DebugStr
+    }
+
+    fn reader(&self) -> &R {
+        &self.section
+    }
+}
+
+impl<R: Reader> DebugStr<R> {
+    /// A section of the same bytes.
+    pub fn copy(&self) -> Self
+        ensures { ⟦<DebugStr<R> as Section<R>>⟧.content result ≡ ⟦<DebugStr<R> as Section<R>>⟧.content self.now }
+    {
+        DebugStr {
+            section: self.section.copy(),
+        }
+    }
+
+    /// The string at an offset of the section: its bytes before the first zero.
+    ///
+    /// Refusal: `UnexpectedEof`, where the offset lies behind the section's end, with the section's first place, and
+    /// where no zero follows, with the place where the string begins.
+    #[tactic(auto, unfolding(crate::specs::Reading::text_from))]
+    pub fn get_str(&self, offset: DebugStrOffset<R::Offset>) -> Result<R>
+        ensures { answer_of R.view result ≡ text_from (R.Offset.number offset.0) (⟦<DebugStr<R> as Section<R>>⟧.content self.now) }
+    {
+        let mut input = self.section.copy();
+        input.skip(offset.0)?;
+        input.read_null_terminated_slice()
+    }
+}

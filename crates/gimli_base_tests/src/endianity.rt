@@ -1,0 +1,18 @@
+use gimli_base::{BigEndian, Endianity, LittleEndian, RunTimeEndian};
+use std::process::Abort;
+
+// Tries a byte order: which byte comes first in it, and that its kept form gives it back.
+fn tries_order<E: Endianity>(rt: &impl Abort, endian: E, is_big: bool) {
+    assert_eq!(rt; endian.is_big_endian(), is_big);
+    assert_eq!(rt; E::from_kept(endian.kept()), endian);
+}
+
+#[test]
+fn tries_each_order(rt: HostRuntime) {
+    tries_order(&rt, LittleEndian, false);
+    tries_order(&rt, BigEndian, true);
+    tries_order(&rt, RunTimeEndian::Little, false);
+    tries_order(&rt, RunTimeEndian::Big, true);
+    assert_eq!(rt; LittleEndian::default(), LittleEndian);
+    assert_eq!(rt; BigEndian::default(), BigEndian);
+}

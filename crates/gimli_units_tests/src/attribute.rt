@@ -1,0 +1,87 @@
+use crate::readers::{reads_from, specification};
+use crate::samples::{input, version_4};
+use gimli_base::{DwAt, DwForm, EndianSlice, LittleEndian};
+use gimli_units::{Attribute, AttributeValue, UnitOffset};
+use std::alloc::Global;
+use std::process::Abort;
+use std::test::Fail;
+
+type Input<'a> = EndianSlice<'a, LittleEndian>;
+
+// One value of each kind, in pairs that differ in what the kind holds.
+fn pairs<'a>() -> [(AttributeValue<Input<'a>>, AttributeValue<Input<'a>>); 3] {
+    [
+        (
+            AttributeValue::String(input(b"foo", LittleEndian)),
+            AttributeValue::String(input(b"fop", LittleEndian)),
+        ),
+        (AttributeValue::Data1(5), AttributeValue::Data1(6)),
+        (
+            AttributeValue::UnitRef(UnitOffset(5)),
+            AttributeValue::UnitRef(UnitOffset(6)),
+        ),
+    ]
+}
+
+#[test]
+fn values_are_equal_where_all_parts_are(rt: HostRuntime) -> Result<(), Fail> {
+    for (i, (first, other)) in pairs().into_iter().enumerate() {
+        let copied = first;
+        assert_eq!(rt; copied, first);
+        assert_eq!(rt; first.clone()?, first);
+        assert_ne!(rt; first, other);
+        for (j, (second, _)) in pairs().into_iter().enumerate() {
+            assert_eq!(rt; first == second, i == j);
+        }
+    }
+    Ok(())
+}
+
+// The attribute of a name and a form that is read from these bytes.
+fn attribute<'a>(
+    rt: &impl Abort,
+    alloc: Global,
+    (name, form): (u16, u16),
+    bytes: &'a [u8],
+) -> Result<Attribute<Input<'a>>, Fail> {
+    let given = specification(name, form, 0);
+    let reader = EndianSlice::new(bytes, LittleEndian);
+    Ok(reads_from(rt, alloc, reader, version_4(), given)?.0)
+}
+
+#[test]
+fn attributes_are_equal_where_all_parts_are(rt: HostRuntime) -> Result<(), Fail> {
+    let first = attribute(&rt, rt.alloc(), (0x03, 0x0b), &[5])?;
+    let copied = first;
+    assert_eq!(rt; copied, first);
+    assert_eq!(rt; first.clone()?, first);
+    let others = [
+        // another name
+        attribute(&rt, rt.alloc(), (0x04, 0x0b), &[5])?,
+        // another form, and the same value
+        attribute(&rt, rt.alloc(), (0x03, 0x16), &[0x0b, 5])?,
+        // another value
+        attribute(&rt, rt.alloc(), (0x03, 0x0b), &[6])?,
+    ];
+    for other in others {
+        assert_ne!(rt; other, first);
+    }
+    Ok(())
+}
+
+#[test]
+fn shows_its_parts(rt: HostRuntime) -> Result<(), Fail> {
+    let shown = attribute(&rt, rt.alloc(), (0x03, 0x0b), &[5])?;
+    assert_eq!(rt; shown.name(), DwAt(0x03));
+    assert_eq!(rt; shown.form(), DwForm(0x0b));
+    assert_eq!(rt; shown.raw_value(), AttributeValue::Data1(5));
+    Ok(())
+}
+
+#[test]
+fn an_indirect_attribute_has_the_declared_form(rt: HostRuntime) -> Result<(), Fail> {
+    let shown = attribute(&rt, rt.alloc(), (0x03, 0x16), &[0x0b, 5])?;
+    assert_eq!(rt; shown.form(), DwForm(0x16));
+    assert_eq!(rt; shown.raw_value(), AttributeValue::Data1(5));
+    Ok(())
+}
