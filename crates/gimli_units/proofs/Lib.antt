@@ -1,4 +1,12 @@
 pub mod AttributeTurns
 pub mod Bounds
 pub mod Chains
+pub mod CursorSteps
+pub mod Onward
+mod Flagless
+pub mod Seeking
+pub mod Walking
+pub mod Splits
+mod Jumps
+mod Memory
 mod SkipTurns

@@ -52,11 +52,14 @@ abbreviation_at declared v = uleb_at v >>= λ code.
     if code.0 == 0 then Ok (None, code.1)
     else elim (declared code.0) [ Some d ↦ Ok (Some d, code.1) | None ↦ Err (InvalidAbbreviationCode code.0) ]
 
+-- the entry of a declaration with these attributes; a declaration has no tag 0, so this is never a null with children
+abbrev pub entry_of_declared : Declaration → List Attr → Entry
+entry_of_declared d xs = if d.tag.0 == 0 then null_entry else record { tag = d.tag; has_children = d.has_children; attributes = xs }
+
 -- the entry of a declaration, or the null
 abbrev pub content_at : ℕ → Encoding → Option Declaration → View → Reads Entry
 content_at limit e None v = Ok (null_entry, v)
-content_at limit e (Some d) v =
-    made (λ xs. record { tag = d.tag; has_children = d.has_children; attributes = xs }) (attributes_at limit e d.attributes v)
+content_at limit e (Some d) v = made (entry_of_declared d) (attributes_at limit e d.attributes v)
 
 -- the next entry
 unfoldable pub entry_at : ℕ → Encoding → Map → View → Reads Entry

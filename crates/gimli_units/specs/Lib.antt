@@ -7,8 +7,15 @@ pub mod Rows
 pub mod EntryReads
 pub mod RawPlace
 pub mod RowSteps
+pub mod Kind
+pub mod Honest
+pub mod CursorPlace
+pub mod CursorMoves
+pub mod CursorRead
+pub mod RowChain
 pub mod UnitKind
 pub mod Unit
+pub mod CursorStart
 pub mod NormalValue
 pub mod PassLaw
 pub mod PassReads

@@ -67,7 +67,7 @@ first_behind depth s =
 
 -- the depths of the entries behind a first one are counted from the depth behind it
 rows-first : (depth : ℤ) (s : Sited) (rest : List Sited)
-    → rows_behind depth [] (s ∷ rest) ≡ record { offset = s.offset; depth = depth; entry = s.entry } ∷ rows_behind (depth_after s.entry depth) [] rest
+    → rows_behind depth [] (s ∷ rest) ≡ record { offset = s.offset; next = s.next; depth = depth; entry = s.entry } ∷ rows_behind (depth_after s.entry depth) [] rest
 unfolding rows_behind
 rows-first depth s rest =
     rw (depth_behind-none depth, same_depths depth (depth_after s.entry depth) (s ∷ []) [] rest (first_behind depth s)) refl
@@ -84,7 +84,7 @@ module _ (next : View → Reads Entry) (end : ℕ) where
   within_refused n v e some h = let t : (length v.bytes == 0) ≡ false = ne_eqb (length v.bytes) 0 some in rw (t, ← h) refl
 
   within_more : (n : ℕ) (v : View) (e : Entry) (w : View) → (length v.bytes ≡ 0 → ⊥) → Ok (e, w) ≡ next v
-      → entries_within next end (suc n) v ≡ then_sited (record { offset = offset_of_view end v; entry = e }) (entries_within next end n w)
+      → entries_within next end (suc n) v ≡ then_sited (record { offset = offset_of_view end v; next = offset_of_view end w; entry = e }) (entries_within next end n w)
   unfolding entries_within
   within_more n v e w some h = let t : (length v.bytes == 0) ≡ false = ne_eqb (length v.bytes) 0 some in rw (t, ← h) refl
 
@@ -106,7 +106,7 @@ module _ (next : View → Reads Entry) (end : ℕ) where
       read (Err e) is some rest = within_refused m v e some is ∙ sym (within_refused n v e some is)
       read (Ok p) is some rest =
           within_more m v p.0 p.1 some is
-          ∙ ap (then_sited (record { offset = offset_of_view end v; entry = p.0 })) (rest p.1 (shorter v p.1 p.0 is))
+          ∙ ap (then_sited (record { offset = offset_of_view end v; next = offset_of_view end p.1; entry = p.0 })) (rest p.1 (shorter v p.1 p.0 is))
           ∙ sym (within_more n v p.0 p.1 some is)
 
   -- where no byte is left there is no row
@@ -126,10 +126,10 @@ module _ (next : View → Reads Entry) (end : ℕ) where
   -- an entry is a row, and the others are ahead of what is left
   pub ahead_more : ((v w : View) (e : Entry) → Ok (e, w) ≡ next v → length w.bytes < length v.bytes)
       → (depth : ℤ) (v : View) (e : Entry) (w : View) → (length v.bytes ≡ 0 → ⊥) → Ok (e, w) ≡ next v
-      → ahead_at next end depth v ≡ then_row (record { offset = offset_of_view end v; depth = depth; entry = e }) (ahead_at next end (depth_after e depth) w)
+      → ahead_at next end depth v ≡ then_row (record { offset = offset_of_view end v; next = offset_of_view end w; depth = depth; entry = e }) (ahead_at next end (depth_after e depth) w)
   unfolding ahead_at entries_at
   ahead_more shorter depth v e w some h =
-      let s : Sited = record { offset = offset_of_view end v; entry = e } in
+      let s : Sited = record { offset = offset_of_view end v; next = offset_of_view end w; entry = e } in
       let rest : Entries = entries_at next end w in
       let one : length v.bytes ≡ suc (length v.bytes - 1) = omega (arith, some) in
       let lt = shorter v w e h in

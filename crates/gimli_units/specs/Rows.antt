@@ -5,9 +5,10 @@ use Rattle.gimli_base.specs.View.{View}
 use Rattle.gimli_base.specs.Reading.{Reads}
 use Rattle.gimli_units.specs.Entry.{Entry, is_null}
 
--- an entry where it stands
+-- an entry where it stands, with the offset of what is behind it
 pub record Sited : Type 0 where
   pub offset : ℕ
+  pub next : ℕ
   pub entry : Entry
 
 -- Entries one behind the other, with the refusal that ends them, if it isn't the end of the bytes, and the offset of the
@@ -32,7 +33,7 @@ entries_within next end zero v = record { sited = []; refusal = None; stop = off
 entries_within next end (suc n) v =
     if length v.bytes == 0 then record { sited = []; refusal = None; stop = offset_of_view end v }
     else elim (next v) [
-      | Ok p ↦ then_sited (record { offset = offset_of_view end v; entry = p.0 }) (entries_within next end n p.1)
+      | Ok p ↦ then_sited (record { offset = offset_of_view end v; next = offset_of_view end p.1; entry = p.0 }) (entries_within next end n p.1)
       | Err e ↦ record { sited = []; refusal = Some e; stop = offset_of_view end v }
     ]
 
@@ -45,9 +46,10 @@ unfoldable pub depth_behind : ℤ → List Sited → ℤ
 depth_behind start before =
     start +ℤ (pos (count_by (λ s. s.entry.has_children) before) -ℤ pos (count_by (λ s. is_null s.entry) before))
 
--- an entry with its offset and its depth
+-- an entry with its offset and its depth, and the offset of what is behind it
 pub record Row : Type 0 where
   pub offset : ℕ
+  pub next : ℕ
   pub depth : ℤ
   pub entry : Entry
 
@@ -55,7 +57,7 @@ pub record Row : Type 0 where
 unfoldable pub rows_behind : ℤ → List Sited → List Sited → List Row
 rows_behind start before [] = []
 rows_behind start before (s ∷ rest) =
-    record { offset = s.offset; depth = depth_behind start before; entry = s.entry } ∷ rows_behind start (before ++ s ∷ []) rest
+    record { offset = s.offset; next = s.next; depth = depth_behind start before; entry = s.entry } ∷ rows_behind start (before ++ s ∷ []) rest
 
 -- The rows that are ahead of a place, and how they end. `stop` and `stop_depth` are the offset and the depth of the place
 -- behind the last row.

@@ -98,6 +98,10 @@ entries_in u abbreviations (Err e) = Err e
 unfoldable pub entries_from : UnitView → Table → Option ℕ → Result RawPlace Error
 entries_from u abbreviations offset = entries_in u abbreviations (range_from u (unwrap_or offset (header_size u)))
 
+-- a reader of all the entries of a unit
+abbrev pub entries_of : UnitView → Table → RawPlace
+entries_of u abbreviations = record { rest = u.entries; encoding = u.encoding; abbreviations = abbreviations; end = whole_length u; depth = pos 0 }
+
 -- what was read as an entry, and is one
 abbrev pub some_entry : ℕ → Reads Entry → Result Entry Error
 some_entry offset (Ok p) = if is_null p.0 then Err (NoEntryAtGivenOffset offset) else Ok p.0

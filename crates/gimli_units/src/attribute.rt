@@ -5,11 +5,12 @@ ghost use Rattle.std.specs.Option.{option_map};
 ghost use Rattle.gimli_base.specs.Offset.{answer_of};
 ghost use Rattle.gimli_base.specs.Reading.{read};
 ghost use Rattle.gimli_units.specs.Value.{map_value, map_attribute};
+ghost use Rattle.gimli_units.specs.Kind.{reference};
 ghost use Rattle.gimli_units.specs.NormalValue.{udata_of, sdata_of, offset_of, exprloc_of, string_of, string_sup_of, below};
 ghost use Rattle.gimli_units.specs.Entry.{attribute_at};
 
-use crate::AttributeValue;
 use crate::form::parse_value;
+use crate::{AttributeValue, UnitOffset};
 use gimli_base::{
     AttributeSpecification, DebugStr, DwAt, DwForm, Encoding, Expression, Reader, Result, Section,
 };
@@ -61,6 +62,13 @@ impl<R: Reader> Attribute<R> {
             form: self.form,
             value: self.value.copy(),
         }
+    }
+
+    // Where it leads in its unit, if it is a reference there.
+    pub(crate) fn reference(&self) -> Option<UnitOffset<R::Offset>>
+        ensures { option_map (λ o. R.Offset.number o.0) result ≡ reference (map_value R.view R.Offset.number self.now.value) }
+    {
+        self.value.reference()
     }
 
     /// The value as an unsigned number of 8 bits, where it is one and fits.

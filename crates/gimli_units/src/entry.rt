@@ -5,10 +5,12 @@ ghost use Rattle.std.specs.Option.{option_map, option_copied, is_some};
 ghost use Rattle.gimli_base.specs.declared.error.Error.TheVariants.{OutOfMemory};
 ghost use Rattle.gimli_units.specs.Value.{map_value, map_attribute};
 ghost use Rattle.gimli_units.specs.NormalValue.{normal};
+ghost use Rattle.gimli_units.specs.Kind.{kind_of};
+ghost use Rattle.gimli_units.specs.Honest.{target};
 ghost use Rattle.gimli_units.specs.Entry.{Entry, null_entry, is_null, entry_of, first_of};
 
 use crate::{Attribute, AttributeValue, UnitOffset};
-use gimli_base::{DW_TAG_null, DwAt, DwTag, Reader, ReaderOffset, Result};
+use gimli_base::{DW_AT_sibling, DW_TAG_null, DwAt, DwTag, Reader, ReaderOffset, Result};
 use std::alloc::Allocator;
 use std::fmt::Debug;
 
@@ -138,6 +140,19 @@ impl<R: Reader, A: Allocator> DebuggingInformationEntry<R, A> {
         ensures { option_copied result ≡ first_of name.0 self.now.attrs.items }
     {
         self.attrs.iter().find(|attr| attr.name() == name)
+    }
+
+    // Where the sibling reference leads, if there are children and the first reference is an offset in the unit.
+    pub(crate) fn sibling(&self) -> Option<UnitOffset<R::Offset>>
+        ensures { option_map (λ o. R.Offset.number o.0) result ≡ target (kind_of (entry_of R.view R.Offset.number self.now.tag self.now.has_children self.now.attrs.items)) }
+    {
+        if self.is_null() || !self.has_children {
+            return None;
+        }
+        match self.attr(DW_AT_sibling) {
+            Some(attr) => attr.reference(),
+            None => None,
+        }
     }
 
     /// The value of the first attribute of this name, as its form shows it.

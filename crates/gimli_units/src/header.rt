@@ -1,6 +1,6 @@
 //! Headers of units.
 
-ghost use Rattle.std.specs.Prelude.{◌≡◌, ◌+◌, ◌-◌, ◌<◌, ◌≤◌, length, pos, ⊤, IsTrue, false, ◌↔◌, IfOk};
+ghost use Rattle.std.specs.Prelude.{◌≡◌, ◌+◌, ◌-◌, ◌<◌, ◌≤◌, length, pos, ⊤, IsTrue, false, true, ◌↔◌, IfOk};
 ghost use Rattle.std.specs.Option.{option_map};
 ghost use Rattle.gimli_base.specs.Offset.{answer_of};
 ghost use Rattle.gimli_base.specs.Abbreviations.{map_at};
@@ -8,10 +8,11 @@ ghost use Rattle.gimli_base.specs.Table.{found};
 ghost use Rattle.gimli_base.specs.Reading.{initial_length_size_of, is_size, UnlessMemory};
 ghost use Rattle.gimli_units.specs.Entry.{entry_of};
 ghost use Rattle.gimli_units.specs.UnitKind.{map_type};
+ghost use Rattle.gimli_units.specs.CursorStart.{cursor_of, cursor_from};
 
 use crate::{
-    DebugInfoOffset, DebugTypesOffset, DebuggingInformationEntry, EntriesRaw, UnitOffset,
-    UnitSectionOffset, UnitType,
+    DebugInfoOffset, DebugTypesOffset, DebuggingInformationEntry, EntriesCursor, EntriesRaw,
+    UnitOffset, UnitSectionOffset, UnitType,
 };
 use gimli_base::{
     Abbreviations, DebugAbbrev, DebugAbbrevOffset, Encoding, Error, Format, Reader, ReaderOffset,
@@ -70,7 +71,7 @@ impl<R: Reader> HasUnit for UnitHeader<R> {
 }
 
 impl<R: Reader> UnitHeader<R> {
-    ghost use Rattle.gimli_units.specs.Unit.{UnitView, whole_length, header_size, in_bounds, range_from, entries_from, range_of, range_to, debug_info_offset, debug_types_offset, size_of_header, min_tombstone, unit_entry_at, takes_memory_in};
+    ghost use Rattle.gimli_units.specs.Unit.{UnitView, whole_length, header_size, in_bounds, range_from, entries_of, entries_from, range_of, range_to, debug_info_offset, debug_types_offset, size_of_header, min_tombstone, unit_entry_at, takes_memory_in};
 
     /// A header of these parts. The whole length, which is 4 or 12 and `unit_length`, has to fit the reader's offsets,
     /// and to be no less than the number of bytes in `entries_buf`.
@@ -361,5 +362,69 @@ impl<R: Reader> UnitHeader<R> {
         let start = offset.unwrap_or(self.root_offset());
         let input = self.range_from(start..)?;
         Ok(EntriesRaw::new(input, self.encoding, abbreviations, start))
+    }
+
+    /// A cursor over all the entries, which follows sibling references. It never refuses: where the unit has no bytes of
+    /// entries, it ends at once.
+    pub fn entries<'abbrev, A: Allocator + Copy>(
+        &self,
+        alloc: A,
+        abbreviations: &'abbrev Abbreviations<A>,
+    ) -> EntriesCursor<'abbrev, R, A>
+        ensures { result ≡ cursor_of (⟦<UnitHeader<R> as HasUnit>⟧.unit self.now) abbreviations.now true }
+    {
+        EntriesCursor::new(alloc, self.all_entries(abbreviations), true)
+    }
+
+    /// A cursor over the entries from an offset on, which follows sibling references. Refusal: `OffsetOutOfBounds`.
+    pub fn entries_at_offset<'abbrev, A: Allocator + Copy>(
+        &self,
+        alloc: A,
+        abbreviations: &'abbrev Abbreviations<A>,
+        offset: UnitOffset<R::Offset>,
+    ) -> Result<EntriesCursor<'abbrev, R, A>>
+        ensures { result ≡ cursor_from (⟦<UnitHeader<R> as HasUnit>⟧.unit self.now) abbreviations.now true (R.Offset.number offset.0) }
+    {
+        let raw = self.entries_raw(abbreviations, Some(offset))?;
+        Ok(EntriesCursor::new(alloc, raw, true))
+    }
+
+    /// A cursor over all the entries, which follows no reference. It never refuses.
+    pub fn entries_plain<'abbrev, A: Allocator + Copy>(
+        &self,
+        alloc: A,
+        abbreviations: &'abbrev Abbreviations<A>,
+    ) -> EntriesCursor<'abbrev, R, A>
+        ensures { result ≡ cursor_of (⟦<UnitHeader<R> as HasUnit>⟧.unit self.now) abbreviations.now false }
+    {
+        EntriesCursor::new(alloc, self.all_entries(abbreviations), false)
+    }
+
+    /// A cursor over the entries from an offset on, which follows no reference. Refusal: `OffsetOutOfBounds`.
+    pub fn entries_plain_at_offset<'abbrev, A: Allocator + Copy>(
+        &self,
+        alloc: A,
+        abbreviations: &'abbrev Abbreviations<A>,
+        offset: UnitOffset<R::Offset>,
+    ) -> Result<EntriesCursor<'abbrev, R, A>>
+        ensures { result ≡ cursor_from (⟦<UnitHeader<R> as HasUnit>⟧.unit self.now) abbreviations.now false (R.Offset.number offset.0) }
+    {
+        let raw = self.entries_raw(abbreviations, Some(offset))?;
+        Ok(EntriesCursor::new(alloc, raw, false))
+    }
+
+    // A reader of all the entries.
+    fn all_entries<'abbrev, A: Allocator>(
+        &self,
+        abbreviations: &'abbrev Abbreviations<A>,
+    ) -> EntriesRaw<'abbrev, R, A>
+        ensures { result ≡ entries_of (⟦<UnitHeader<R> as HasUnit>⟧.unit self.now) abbreviations.now }
+    {
+        EntriesRaw::new(
+            self.entries_buf.copy(),
+            self.encoding,
+            abbreviations,
+            self.root_offset(),
+        )
     }
 }

@@ -4,6 +4,7 @@
 mod attribute;
 mod conversions;
 mod convert;
+mod cursor;
 mod entry;
 mod form;
 mod header;
@@ -14,6 +15,7 @@ mod unit_type;
 mod value;
 
 pub use attribute::Attribute;
+pub use cursor::EntriesCursor;
 pub use entry::DebuggingInformationEntry;
 pub use header::{HasUnit, UnitHeader};
 pub use offset::{DebugInfoOffset, DebugTypesOffset, UnitOffset, UnitSectionOffset};

@@ -1,9 +1,9 @@
 //! Entries that are read one behind the other.
 
-ghost use Rattle.std.specs.Prelude.{◌≡◌, ◌+◌, ◌-◌, ◌<◌, ◌≤◌, ◌^◌, ◌==◌, ◌↔◌, pos, not, length, map, IsTrue, IsOk, IfOk, OnOk, OnErr, Option, [], true, false, unsigned_abs};
+ghost use Rattle.std.specs.Prelude.{◌≡◌, ◌+◌, ◌-◌, ◌<◌, ◌≤◌, ◌^◌, ◌==◌, ◌↔◌, pos, not, length, map, IsTrue, IsOk, IfOk, OnOk, OnErr, Option, [], true, false, unsigned_abs, Some};
 ghost use Rattle.std.specs.Option.{option_copied};
 ghost use Rattle.gimli_base.specs.Offset.{answer_of};
-ghost use Rattle.gimli_base.specs.View.{View};
+ghost use Rattle.gimli_base.specs.View.{View, ended};
 ghost use Rattle.gimli_base.specs.Reading.{read, filled, UnlessMemory};
 ghost use Rattle.gimli_base.specs.Passed.{PassesAs};
 ghost use Rattle.gimli_base.specs.Table.{Table, found};
@@ -11,6 +11,8 @@ ghost use Rattle.gimli_units.specs.Value.{map_attribute};
 ghost use Rattle.gimli_units.specs.Entry.{attribute_at, attributes_at, abbreviation_at, entry_at, entry_of, null_entry, is_null, takes_memory};
 ghost use Rattle.gimli_units.specs.Passing.{pass_all, without_place};
 ghost use Rattle.gimli_units.specs.RawPlace.{RawPlace, next_offset_of, depth_read, depth_after};
+ghost use Rattle.gimli_units.specs.Honest.{within};
+ghost use Rattle.gimli_units.specs.CursorRead.{stands_at, stands_if};
 
 use crate::attribute::parse_attribute;
 use crate::skip::skip_all;
@@ -101,6 +103,31 @@ impl<'abbrev, R: Reader, A: Allocator> EntriesRaw<'abbrev, R, A> {
         ensures { result ≡ self.now.depth }
     {
         self.depth
+    }
+
+    // Leaves nothing to read.
+    pub(crate) fn empty(&mut self)
+        ensures { self.new ≡ stands_at self.old (ended self.old.rest) self.old.depth }
+    {
+        self.input.empty();
+    }
+
+    // Goes to an offset at a depth, where the offset is not before what is read next, and not past the end.
+    pub(crate) fn go_to(&mut self, offset: UnitOffset<R::Offset>, new_depth: isize)
+        requires { unsigned_abs new_depth + length self.old.rest.bytes < 2 ^ 63 }
+        ensures { self.new ≡ stands_if self.old (within (next_offset_of self.old) self.old.end (Some (R.Offset.number offset.0))) new_depth }
+    {
+        let Some(count) = offset.0.checked_sub(self.next_offset().0) else {
+            return;
+        };
+        let mut rest = self.input.copy();
+        match rest.skip(count) {
+            Ok(()) => {
+                self.input = rest;
+                self.depth = new_depth;
+            }
+            Err(_) => {}
+        }
     }
 
     /// Reads the code of an entry: its declaration, or none for a null.

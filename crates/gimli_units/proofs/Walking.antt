@@ -1,0 +1,126 @@
+-- Turns of the walk in depth-first order: each null that is passed leaves what is sought.
+use Rattle.std.proofs.Common.{◌≡◌, ℕ, zero, suc, ◌+◌, ◌-◌, ◌<◌, ◌≤◌, ℤ, Bool, true, false, List, [], ◌∷◌, length, Option, Some, None, Result, Ok, Err, refl, sym, ap, ◌∙◌, subst, arith, inl, inr, ◌⊎◌}
+use Rattle.std.specs.Prelude.{not}
+use Rattle.std.proofs.lemmas.Bool.Decides.{eqb_tells}
+use Rattle.gimli_base.specs.declared.error.Error.{Error}
+use Rattle.gimli_base.specs.declared.error.Error.TheVariants.{OutOfMemory}
+use Rattle.gimli_base.specs.View.{View}
+use Rattle.gimli_base.specs.Reading.{Reads, UnlessMemory}
+use Rattle.gimli_units.specs.Entry.{Entry, is_null, null_entry}
+use Rattle.gimli_base.specs.Table.{found}
+use Rattle.gimli_units.specs.EntryReads.{entry_at-shorter}
+use Rattle.gimli_units.specs.RawPlace.{RawPlace, next_offset_of, depth_after}
+use Rattle.gimli_units.specs.Rows.{Row, Ahead}
+use Rattle.gimli_units.specs.CursorPlace.{Place, Moved, some_of, is_entry, ran_out, arrive, skip_until, last_offset, last_depth, next_row, next_in_depth_first_order, next_of_depth, seek, IsPlaceOf}
+use Rattle.gimli_units.specs.CursorMoves.{CursorView, next_of, rows_of, place_of, last_row, Goes, IsAheadOf, IsPlaceAhead, IsReadOnce, reads_ahead, IsSound, IsTrueEntry, IsRefused}
+use Rattle.gimli_units.specs.CursorRead.{stands_at, after_entry, after_refusal, after_end, HasRead, an_entry, the_end, a_refusal}
+use Rattle.gimli_units.proofs.CursorSteps.{rows_entry, rows_end, rows_refusal, rows_over}
+use Rattle.gimli_units.proofs.Onward.{Onward, onward_start, onward_read, read_once}
+
+module _ (limit : ℕ) where
+  -- where a cursor stands is a place ahead of it
+  pub place_here : (p : RawPlace) → IsPlaceAhead limit p (next_offset_of p) p.depth
+  place_here p = elim (eqb_tells (length p.rest.bytes) 0) [
+    | inl none ↦ rw (rows_end limit p none.1) (omega (arith, none.1), refl)
+    | inr some ↦ read (next_of limit p p.rest) refl some.1
+  ]
+    where
+      c : CursorView
+      c = record { raw = p; entry = null_entry; offset = 0; depth = p.depth; follows = false; reads = 0 }
+
+      read : (r : Reads Entry) → r ≡ next_of limit p p.rest → (length p.rest.bytes ≡ 0 → ⊥) → IsPlaceAhead limit p (next_offset_of p) p.depth
+      read (Err e) is some = rw (rows_refusal limit p e some is) (refl, refl)
+      read (Ok q) is some = rw (rows_entry limit c q.0 q.1 some is) (inl (refl, refl))
+
+  -- behind a row that was read, what is ahead was ahead
+  pub place_on : (c : CursorView) (e : Entry) (w : View) → (length c.raw.rest.bytes ≡ 0 → ⊥) → Ok (e, w) ≡ next_of limit c.raw c.raw.rest
+      → (o : ℕ) (x : ℤ) → IsPlaceAhead limit (after_entry c e w).raw o x → IsPlaceAhead limit c.raw o x
+  place_on c e w some reads o x p = rw (rows_entry limit c e w some reads) (inr p)
+
+  -- a walk that began at `start` and has passed nulls alone
+  pub record Walking (start here : CursorView) : Type 0 where
+    pub onward : Onward start here
+    pub same : next_in_depth_first_order here.raw.end (place_of limit here) ≡ next_in_depth_first_order start.raw.end (place_of limit start)
+    pub places : (o : ℕ) (x : ℤ) → IsPlaceAhead limit here.raw o x → IsPlaceAhead limit start.raw o x
+    pub once : IsReadOnce limit start here
+
+  pub walking_start : (c : CursorView) → IsSound c → Walking c c
+  walking_start c s = record { onward = onward_start c s; same = refl; places = λ o x p. p; once = refl }
+
+  null_passed : (c : CursorView) (e : Entry) (w : View) → (length c.raw.rest.bytes ≡ 0 → ⊥) → Ok (e, w) ≡ next_of limit c.raw c.raw.rest → is_null e ≡ true
+      → next_in_depth_first_order c.raw.end (place_of limit (after_entry c e w)) ≡ next_in_depth_first_order c.raw.end (place_of limit c)
+  unfolding next_in_depth_first_order
+  null_passed c e w some reads null = rw (rows_entry limit c e w some reads, null) refl
+
+  -- a null that was read is passed
+  pub walking_on : (start here : CursorView) (outcome : Result Bool Error) (new : CursorView) → Walking start here → HasRead limit here outcome new → outcome ≡ Ok true → is_null new.entry ≡ true
+      → Walking start new
+  walking_on start here outcome new k h holds null = cases h (onward_read limit start here outcome new k.onward h) (read_once limit here outcome new h)
+    where
+      cases : HasRead limit here outcome new → Onward start new → UnlessMemory outcome (IsReadOnce limit here new) → Walking start new
+      cases (an_entry e w some reads is same) onward once =
+          let null_e : is_null e ≡ true = rw same at null in
+          record {
+            onward = onward;
+            same = rw same (null_passed here e w some reads null_e ∙ k.same);
+            places = rw same (λ o x p. k.places o x (place_on here e w some reads o x p));
+            once = (rw is at once) ∙ k.once;
+          }
+      cases (the_end none is same) onward once = let x : ◌≡◌ {A = Result Bool Error} (Ok false) (Ok true) = sym is ∙ holds in absurd (cc)
+      cases (a_refusal x some is same why memory) onward once = let y : ◌≡◌ {A = Result Bool Error} (Err x) (Ok true) = sym is ∙ holds in absurd (cc)
+
+  entry_found : (c : CursorView) (e : Entry) (w : View) → (length c.raw.rest.bytes ≡ 0 → ⊥) → Ok (e, w) ≡ next_of limit c.raw c.raw.rest → is_null e ≡ false
+      → Goes limit (next_in_depth_first_order c.raw.end) c (Ok true) (after_entry c e w)
+  unfolding next_in_depth_first_order
+  entry_found c e w some reads entry = rw (rows_entry limit c e w some reads, entry, entry) refl
+
+  -- an entry that was read is the one
+  pub walked_to : (start here : CursorView) (outcome : Result Bool Error) (new : CursorView) → Walking start here → HasRead limit here outcome new → outcome ≡ Ok true → is_null new.entry ≡ false
+      → Goes limit (next_in_depth_first_order start.raw.end) start (Ok true) new
+  walked_to start here outcome new k (an_entry e w some reads is same) holds entry =
+      let entry_e : is_null e ≡ false = rw same at entry in
+      rw same (entry_found here e w some reads entry_e ∙ k.same)
+  walked_to start here outcome new k (the_end none is same) holds entry = let x : ◌≡◌ {A = Result Bool Error} (Ok false) (Ok true) = sym is ∙ holds in absurd (cc)
+  walked_to start here outcome new k (a_refusal x some is same why memory) holds entry = let y : ◌≡◌ {A = Result Bool Error} (Err x) (Ok true) = sym is ∙ holds in absurd (cc)
+
+  end_found : (c : CursorView) → length c.raw.rest.bytes ≡ 0 → Goes limit (next_in_depth_first_order c.raw.end) c (Ok false) (after_end c)
+  unfolding next_in_depth_first_order
+  end_found c none = rw (rows_end limit c.raw none) refl
+
+  refusal_found : (c : CursorView) (e : Error) → (length c.raw.rest.bytes ≡ 0 → ⊥) → Err e ≡ next_of limit c.raw c.raw.rest
+      → Goes limit (next_in_depth_first_order c.raw.end) c (Err e) (after_refusal c)
+  unfolding next_in_depth_first_order
+  refusal_found c e some reads = rw (rows_refusal limit c.raw e some reads, rows_over limit c) refl
+
+  -- where nothing was read, there is none
+  pub walked_out : (start here : CursorView) (outcome : Result Bool Error) (new : CursorView) → Walking start here → HasRead limit here outcome new → (outcome ≡ Ok true → ⊥)
+      → UnlessMemory outcome (Goes limit (next_in_depth_first_order start.raw.end) start outcome new)
+  walked_out start here outcome new k (an_entry e w some reads is same) never = absurd (never is)
+  walked_out start here outcome new k (the_end none is same) never = rw (is, same) (end_found here none ∙ k.same)
+  walked_out start here outcome new k (a_refusal x some is same why memory) never = rw (is, same) (λ fine. refusal_found here x some (why fine) ∙ k.same)
+
+  -- what was refused stands at a place ahead
+  pub refused_place : (here : CursorView) (outcome : Result Bool Error) (new : CursorView) → HasRead limit here outcome new → (x : Error) → outcome ≡ Err x
+      → IsPlaceAhead limit here.raw new.offset new.depth
+  refused_place here outcome new (an_entry e w some reads is same) x fails = let k : ◌≡◌ {A = Result Bool Error} (Ok true) (Err x) = sym is ∙ fails in absurd (cc)
+  refused_place here outcome new (the_end none is same) x fails = let k : ◌≡◌ {A = Result Bool Error} (Ok false) (Err x) = sym is ∙ fails in absurd (cc)
+  refused_place here outcome new (a_refusal y some is same why memory) x fails = rw same (place_here here.raw)
+
+  -- an entry that was read is no longer there
+  pub read_shorter : (here : CursorView) (outcome : Result Bool Error) (new : CursorView) → HasRead limit here outcome new → outcome ≡ Ok true
+      → length new.raw.rest.bytes < length here.raw.rest.bytes
+  read_shorter here outcome new (an_entry e w some reads is same) holds =
+      rw same (entry_at-shorter limit here.raw.encoding (found here.raw.abbreviations) here.raw.rest w e reads)
+  read_shorter here outcome new (the_end none is same) holds = let x : ◌≡◌ {A = Result Bool Error} (Ok false) (Ok true) = sym is ∙ holds in absurd (cc)
+  read_shorter here outcome new (a_refusal x some is same why memory) holds = let y : ◌≡◌ {A = Result Bool Error} (Err x) (Ok true) = sym is ∙ holds in absurd (cc)
+
+-- from an entry its depth is sought
+pub sibling_sought : (limit : ℕ) (c : CursorView) → is_null c.entry ≡ false
+    → seek c.raw.end c.depth c.offset (rows_of limit c.raw) ≡ next_of_depth c.raw.end (place_of limit c)
+unfolding next_of_depth
+sibling_sought limit c entry = rw entry refl
+
+-- without a current entry nothing moves
+pub no_sibling : (limit : ℕ) (c : CursorView) → is_null c.entry ≡ true → Goes limit (next_of_depth c.raw.end) c (Ok false) c
+unfolding next_of_depth
+no_sibling limit c null = rw null refl

@@ -1,0 +1,21 @@
+use Rattle.std.proofs.Common.{rules, ◌≡◌, refl, sym, ap, ◌∙◌, arith, false, w64, FitsSigned}
+use Rattle.std.proofs.lemmas.Bool.{not-true, not-false}
+use Rattle.std.proofs.lemmas.Int.{to_z-of_z}
+use Rattle.gimli_units.specs.CursorMoves.{CursorView}
+use Rattle.gimli_units.proofs.Onward.{unless_then}
+use Rattle.gimli_units.proofs.Walking.{sibling_sought, no_sibling}
+use Rattle.gimli_units.proofs.cursor.EntriesCursor.next_sibling.Goals as goal
+
+pub returns-then-not-is_on_entry-clause-moves : goal.returns-then-not-is_on_entry-clause-moves
+returns-then-not-is_on_entry-clause-moves g c h =
+    no_sibling g.R.Offset.ReaderOffset.limit c.args.self.now (not-false _ (sym c.is_on_entry.ensures ∙ c.if-not-is_on_entry.true))
+
+pub returns-clause-moves : goal.returns-clause-moves
+returns-clause-moves g c h =
+    let entry = not-true _ (sym c.is_on_entry.ensures ∙ c.if-not-is_on_entry.false) in
+    let e = c.self.inside.entry in
+    let fits : FitsSigned w64 e.depth = search rules in
+    let deep = to_z-of_z w64 e.depth fits ∙ ap (λ (x : CursorView). x.depth) c.self.view_is in
+    let at = ap (λ (x : CursorView). x.offset) c.self.view_is in
+    let found = rw (deep, at) at c.seek.ensures.found in
+    unless_then c.seek.result (found h) (λ k. k ∙ sibling_sought g.R.Offset.ReaderOffset.limit c.args.self.now entry)

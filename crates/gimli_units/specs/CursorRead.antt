@@ -1,0 +1,76 @@
+-- What one read makes of a cursor, and what a search for a depth does, of which the steps are made (DWARF 5, 2.3 and 7.5.2).
+use Rattle.std.specs.Prelude.{◌≡◌, ℕ, ◌+◌, ◌-◌, ◌≤◌, ℤ, pos, ◌-ℤ◌, ◌≤ℤ◌, Bool, true, false, int_le, if◌then◌else◌, length, Option, Some, None, Result, Ok, Err}
+use Rattle.gimli_base.specs.declared.error.Error.{Error}
+use Rattle.gimli_base.specs.declared.error.Error.TheVariants.{OutOfMemory}
+use Rattle.gimli_base.specs.View.{View, ended}
+use Rattle.gimli_base.specs.Reading.{UnlessMemory}
+use Rattle.gimli_units.specs.Entry.{Entry, null_entry, is_null}
+use Rattle.gimli_units.specs.RawPlace.{RawPlace, next_offset_of, depth_after}
+use Rattle.gimli_units.specs.Kind.{kind_of}
+use Rattle.gimli_units.specs.Honest.{target}
+use Rattle.gimli_units.specs.CursorPlace.{Moved, seek, first_of_rows}
+use Rattle.gimli_units.specs.CursorMoves.{CursorView, next_of, rows_of, rows_from, place_of, followed_to, view_from, what_at, takes_memory_at, IsHonestFor, IsSameUnit, IsTrueEntry, IsRefused, IsAheadOf, IsFurther, AreFewReads, IsReadOnce, IsSound}
+
+-- a reader of the same unit that stands elsewhere
+abbrev pub stands_at : RawPlace → View → ℤ → RawPlace
+stands_at p rest depth = record { rest = rest; encoding = p.encoding; abbreviations = p.abbreviations; end = p.end; depth = depth }
+
+-- a reader that goes to an offset at a depth, if it goes
+abbrev pub stands_if : RawPlace → Option ℕ → ℤ → RawPlace
+stands_if p None depth = p
+stands_if p (Some t) depth = stands_at p (view_from p t) depth
+
+-- an entry was read, and this is left
+abbrev pub after_entry : CursorView → Entry → View → CursorView
+after_entry c e w = record { raw = stands_at c.raw w (depth_after e c.raw.depth); entry = e; offset = next_offset_of c.raw; depth = c.raw.depth; follows = c.follows; reads = c.reads + 1 }
+
+-- what stood there was refused
+abbrev pub after_refusal : CursorView → CursorView
+after_refusal c = record { raw = stands_at c.raw (ended c.raw.rest) c.raw.depth; entry = null_entry; offset = next_offset_of c.raw; depth = c.raw.depth; follows = c.follows; reads = c.reads + 1 }
+
+-- nothing was left
+abbrev pub after_end : CursorView → CursorView
+after_end c = record { raw = c.raw; entry = null_entry; offset = c.offset; depth = c.depth; follows = c.follows; reads = c.reads }
+
+-- one read
+pub data HasRead (limit : ℕ) (old : CursorView) (outcome : Result Bool Error) (new : CursorView) : Type 0 where
+  an_entry : (e : Entry) (w : View) → (length old.raw.rest.bytes ≡ 0 → ⊥) → Ok (e, w) ≡ next_of limit old.raw old.raw.rest → outcome ≡ Ok true → new ≡ after_entry old e w → HasRead limit old outcome new
+  the_end : length old.raw.rest.bytes ≡ 0 → outcome ≡ Ok false → new ≡ after_end old → HasRead limit old outcome new
+  a_refusal : (e : Error) → (length old.raw.rest.bytes ≡ 0 → ⊥) → outcome ≡ Err e → new ≡ after_refusal old
+      → ((e ≡ OutOfMemory → ⊥) → Err e ≡ next_of limit old.raw old.raw.rest)
+      → (e ≡ OutOfMemory → takes_memory_at old.raw (next_offset_of old.raw) ≡ true)
+      → HasRead limit old outcome new
+
+-- where the reference of an entry of at least this depth leads, if it is followed
+abbrev pub target_for : ℤ → CursorView → Option ℕ
+target_for sought c = if int_le sought c.depth then followed_to c else None
+
+-- where the reference of an entry of at least this depth leads, if references are followed
+abbrev pub reference_for : ℤ → CursorView → Option ℕ
+reference_for sought c = if int_le sought c.depth then (if c.follows then target (kind_of c.entry) else None) else None
+
+-- the entry is left: for where its reference leads, at its depth, if that is followed
+abbrev pub following : ℤ → CursorView → CursorView
+following sought c = record { raw = stands_if c.raw (target_for sought c) c.depth; entry = null_entry; offset = c.offset; depth = c.depth; follows = c.follows; reads = c.reads }
+
+-- where a search ended, by which a cursor answers and stands as the definition says
+abbrev pub Stands : ℕ → Result Bool Error → CursorView → Moved → Type 0
+Stands limit outcome new m = UnlessMemory outcome (record { outcome = outcome; place = place_of limit new } ≡ m)
+
+-- An entry of this depth was sought: where the rows are honest, the first row ahead that has it was found. Whatever the references,
+-- what was answered is true, and where the current entry has that depth and a reference that is followed, one read was made, and what stands there
+-- was answered.
+pub record HasSought (limit : ℕ) (depth : ℤ) (offset : ℕ) (old : CursorView) (outcome : Result Bool Error) (new : CursorView) : Type 0 where
+  pub unit : IsSameUnit old new
+  pub further : IsFurther old new
+  pub few : AreFewReads old new
+  pub more : old.reads ≤ new.reads
+  pub found : (old.follows ≡ true → IsHonestFor limit depth old) → Stands limit outcome new (seek old.raw.end depth offset (rows_of limit old.raw))
+  pub yes : outcome ≡ Ok true → IsTrueEntry limit old new × (is_null new.entry ≡ false) × (new.depth ≡ depth)
+  pub no : outcome ≡ Ok false → is_null new.entry ≡ true
+  pub refused : (e : Error) → outcome ≡ Err e → IsRefused limit old e new
+  pub place : (e : Error) → outcome ≡ Err e → (old.follows ≡ true → IsHonestFor limit depth old) → IsAheadOf limit old new
+  pub there : (t : ℕ) → followed_to old ≡ Some t → old.depth ≡ depth → Stands limit outcome new (first_of_rows old.raw.end depth offset (rows_from limit old.raw t depth))
+  pub once : (t : ℕ) → followed_to old ≡ Some t → old.depth ≡ depth → new.reads ≤ old.reads + 1
+  pub plain : old.follows ≡ false → UnlessMemory outcome (IsReadOnce limit old new)
+  pub inside : depth ≤ℤ old.raw.depth → (depth -ℤ pos 1) ≤ℤ new.raw.depth

@@ -1,0 +1,298 @@
+//! Cursors over the entries of a unit.
+
+ghost use Rattle.std.specs.Prelude.{◌≡◌, ℕ, ◌+◌, ◌-◌, ◌<◌, ◌≤◌, ◌^◌, length, unsigned_abs, Ok, Err, Some, false, true, not, pos, IfOk, IfErr, IfSome, IsOk, OnErr, OnOk, []};
+ghost use Rattle.std.specs.Ordering.{int_eq};
+ghost use Rattle.std.specs.Option.{option_map};
+ghost use Rattle.gimli_base.specs.declared.error.Error.{Error as SpecError};
+ghost use Rattle.gimli_base.specs.declared.error.Error.TheVariants.{OutOfMemory};
+ghost use Rattle.gimli_base.specs.Reading.{UnlessMemory};
+ghost use Rattle.gimli_units.specs.Entry.{entry_of, is_null, null_entry};
+ghost use Rattle.gimli_units.specs.RawPlace.{RawPlace, next_offset_of, depth_after};
+ghost use Rattle.gimli_units.specs.CursorPlace.{next_row, next_in_depth_first_order, next_of_depth, first_of_rows, some_of};
+ghost use Rattle.gimli_units.specs.CursorMoves.{CursorView, Goes, IsHonestFor, followed_to, rows_from, IsSameUnit, IsTrueEntry, IsRefused, IsAheadOf, IsFurther, AreFewReads, IsReadOnce, one_if_left, StandsBehind, IsSound};
+ghost use Rattle.gimli_units.specs.CursorStart.{before_first};
+ghost use Rattle.gimli_units.specs.CursorRead.{HasRead, HasSought, Stands, following, reference_for};
+
+use crate::{DebuggingInformationEntry, EntriesRaw, UnitOffset};
+use gimli_base::{Reader, ReaderOffset, Result};
+use std::alloc::Allocator;
+use std::marker::Model;
+
+/// A cursor over the entries of a unit, which lie one behind the other as a tree is written in depth-first order
+/// (DWARF 5, 2.3).
+///
+/// A step answers whether there is an entry; behind a refusal the walk is over.
+#[derive(Drop)]
+#[derive_where(Debug)]
+pub struct EntriesCursor<'abbrev, R: Reader, A: Allocator> {
+    raw: EntriesRaw<'abbrev, R, A>,
+    // the entry that was read last, a null where there is no current one
+    entry: DebuggingInformationEntry<R, A>,
+    follows: bool,
+    reads: usize,
+}
+
+impl<'abbrev, R: Reader, A: Allocator> Model for EntriesCursor<'abbrev, R, A> {
+    ghost Value = { CursorView };
+
+    ghost view = { λ c. record { raw = c.raw; entry = entry_of R.view R.Offset.number c.entry.tag c.entry.has_children c.entry.attrs.items; offset = R.Offset.number c.entry.offset.0; depth = c.entry.depth; follows = c.follows; reads = c.reads } };
+
+    ghost invariant = { λ c. IsSound (record { raw = c.raw; entry = entry_of R.view R.Offset.number c.entry.tag c.entry.has_children c.entry.attrs.items; offset = R.Offset.number c.entry.offset.0; depth = c.entry.depth; follows = c.follows; reads = c.reads }) };
+}
+
+impl<'abbrev, R: Reader, A: Allocator + Copy> EntriesCursor<'abbrev, R, A> {
+    // A cursor before the first entry that `raw` reads; it follows sibling references, or reads every entry.
+    pub(crate) fn new(alloc: A, raw: EntriesRaw<'abbrev, R, A>, follows: bool) -> Self
+        requires fits { length raw.rest.bytes ≤ raw.end }
+        requires shallow { unsigned_abs raw.depth + length raw.rest.bytes < 2 ^ 63 }
+        ensures { result ≡ before_first follows raw.entry }
+    {
+        EntriesCursor {
+            raw,
+            entry: DebuggingInformationEntry::null(alloc),
+            follows,
+            reads: 0,
+        }
+    }
+
+    /// A cursor that stands where this one stands. Refusal: `OutOfMemory`, only where there is a current entry with
+    /// attributes.
+    pub fn try_clone(&self, alloc: A) -> Result<Self>
+        ensures value { IfOk result (λ c. c ≡ self.now) }
+        ensures refusal { IfErr result (λ e. e ≡ OutOfMemory) }
+        ensures without_memory { self.now.entry.attributes ≡ [] → IsOk result }
+    {
+        Ok(EntriesCursor {
+            raw: self.raw.copy(),
+            entry: self.entry.try_clone(alloc)?,
+            follows: self.follows,
+            reads: self.reads,
+        })
+    }
+}
+
+impl<'abbrev, R: Reader, A: Allocator> EntriesCursor<'abbrev, R, A> {
+    /// The entry that the cursor stands on, if it is on one and not on a null.
+    pub fn current(&self) -> Option<&DebuggingInformationEntry<R, A>>
+        ensures entry { option_map (λ e. entry_of R.view R.Offset.number e.now.tag e.now.has_children e.now.attrs.items) result ≡ some_of self.now.entry }
+        ensures offset { IfSome result (λ e. R.Offset.number e.now.offset.0 ≡ self.now.offset) }
+        ensures depth { IfSome result (λ e. e.now.depth ≡ self.now.depth) }
+    {
+        if self.entry.is_null() {
+            None
+        } else {
+            Some(&self.entry)
+        }
+    }
+
+    /// The offset of the entry or the null that was read last; 0 before the first step.
+    #[inline]
+    pub fn offset(&self) -> UnitOffset<R::Offset>
+        ensures { R.Offset.number result.0 ≡ self.now.offset }
+    {
+        self.entry.offset
+    }
+
+    /// The depth of the entry or the null that was read last; 0 before the first step.
+    #[inline]
+    pub fn depth(&self) -> isize
+        ensures { result ≡ self.now.depth }
+    {
+        self.entry.depth
+    }
+
+    /// The offset of what is read next.
+    #[inline]
+    pub fn next_offset(&self) -> UnitOffset<R::Offset>
+        ensures { R.Offset.number result.0 ≡ next_offset_of self.now.raw }
+    {
+        self.raw.next_offset()
+    }
+
+    /// The depth of what is read next.
+    #[inline]
+    pub fn next_depth(&self) -> isize
+        ensures { result ≡ self.now.raw.depth }
+    {
+        self.raw.next_depth()
+    }
+
+    /// How many entries were read, nulls and refused ones too.
+    #[inline]
+    pub fn reads(&self) -> usize
+        ensures { result ≡ self.now.reads }
+    {
+        self.reads
+    }
+
+    /// Whether sibling references are followed.
+    #[inline]
+    pub fn follows(&self) -> bool
+        ensures { result ≡ self.now.follows }
+    {
+        self.follows
+    }
+
+    // Whether the cursor stands on an entry, and not on a null.
+    #[inline(always)]
+    fn is_on_entry(&self) -> bool
+        ensures { result ≡ not (is_null self.now.entry) }
+    {
+        !self.entry.is_null()
+    }
+
+    // Reads the next entry. Answers false at the end of the bytes.
+    #[inline(always)]
+    fn read_next(&mut self) -> Result<bool>
+        ensures read { HasRead R.Offset.limit self.old result self.new }
+        ensures sound { IsSound self.old }
+    {
+        if self.raw.is_empty() {
+            self.entry.set_null();
+            return Ok(false);
+        }
+        self.reads += 1;
+        match self.raw.read_entry(&mut self.entry) {
+            Ok(_) => Ok(true),
+            Err(error) => {
+                self.raw.empty();
+                Err(error)
+            }
+        }
+    }
+
+    // Where the reference of the entry leads, if references are followed and it has at least the depth that is sought.
+    fn reference(&self, sought: isize) -> Option<UnitOffset<R::Offset>>
+        ensures { option_map (λ o. R.Offset.number o.0) result ≡ reference_for sought self.now }
+    {
+        if self.entry.depth < sought {
+            return None;
+        }
+        if !self.follows {
+            return None;
+        }
+        self.entry.sibling()
+    }
+
+    // Leaves the entry: for where its reference leads, if that is followed.
+    fn follow(&mut self, sought: isize)
+        ensures { self.new ≡ following sought self.old }
+    {
+        match self.reference(sought) {
+            Some(target) => {
+                self.raw.go_to(target, self.entry.depth);
+                self.entry.set_null();
+            }
+            None => self.entry.set_null(),
+        }
+    }
+
+    /// Reads the next entry, a null too. Answers false at the end, and then there is no current entry.
+    ///
+    /// Refusals: those of `EntriesRaw::read_entry`; the walk is then over, without a current entry, at the offset and the
+    /// depth of what was refused.
+    pub fn next_entry(&mut self) -> Result<bool>
+        ensures moves { UnlessMemory result (Goes R.Offset.limit (next_row self.old.raw.end) self.old result self.new) }
+        ensures true_entry { result ≡ Ok true → IsTrueEntry R.Offset.limit self.old self.new }
+        ensures refused { (e : SpecError) → result ≡ Err e → IsRefused R.Offset.limit self.old e self.new }
+        ensures offset { OnErr result (self.new.offset ≡ next_offset_of self.old.raw) }
+        ensures reads { self.new.reads ≡ self.old.reads + one_if_left self.old.raw.rest }
+        ensures once { UnlessMemory result (IsReadOnce R.Offset.limit self.old self.new) }
+        ensures few { AreFewReads self.old self.new }
+        ensures further { IsFurther self.old self.new }
+        ensures unit { IsSameUnit self.old self.new }
+    {
+        self.read_next()
+    }
+
+    /// Reads on to the next entry that is no null. Answers false at the end, and then there is no current entry.
+    ///
+    /// Refusals: those of `next_entry`.
+    pub fn next_dfs(&mut self) -> Result<bool>
+        ensures moves { UnlessMemory result (Goes R.Offset.limit (next_in_depth_first_order self.old.raw.end) self.old result self.new) }
+        ensures true_entry { result ≡ Ok true → IsTrueEntry R.Offset.limit self.old self.new × (is_null self.new.entry ≡ false) }
+        ensures refused { (e : SpecError) → result ≡ Err e → IsRefused R.Offset.limit self.old e self.new × IsAheadOf R.Offset.limit self.old self.new }
+        ensures once { UnlessMemory result (IsReadOnce R.Offset.limit self.old self.new) }
+        ensures few { AreFewReads self.old self.new }
+        ensures further { IsFurther self.old self.new }
+        ensures unit { IsSameUnit self.old self.new }
+    {
+        let _ = &self.raw;
+        'walk: while self.read_next()? {
+            if self.is_on_entry() {
+                return Ok(true);
+            }
+        }
+        Ok(false)
+    }
+
+    /// Goes to the next sibling of the current entry: the next entry of its depth, before the null that closes their list.
+    /// Answers false where there is none, and then there is no current entry; at the end of the input the cursor is set back
+    /// to the entry's offset and depth. Without a current entry it answers false and moves nothing.
+    ///
+    /// Where the cursor follows references, an entry whose `DW_AT_sibling` leads on in the unit is left for where it leads,
+    /// with its children unread. So it answers as plain walking does where those references are honest; any others lead to an
+    /// entry of the unit, too.
+    ///
+    /// Refusals: those of `next_entry`.
+    pub fn next_sibling(&mut self) -> Result<bool>
+        ensures moves { (self.old.follows ≡ true → IsHonestFor R.Offset.limit self.old.depth self.old) → UnlessMemory result (Goes R.Offset.limit (next_of_depth self.old.raw.end) self.old result self.new) }
+        ensures idle { is_null self.old.entry ≡ true → (result ≡ Ok false) × (self.new ≡ self.old) }
+        ensures true_entry { result ≡ Ok true → IsTrueEntry R.Offset.limit self.old self.new × (is_null self.new.entry ≡ false) × (self.new.depth ≡ self.old.depth) }
+        ensures refused { (e : SpecError) → result ≡ Err e → IsRefused R.Offset.limit self.old e self.new }
+        ensures place { (e : SpecError) → result ≡ Err e → (self.old.follows ≡ true → IsHonestFor R.Offset.limit self.old.depth self.old) → IsAheadOf R.Offset.limit self.old self.new }
+        ensures taken { (t : ℕ) → followed_to self.old ≡ Some t → Stands R.Offset.limit result self.new (first_of_rows self.old.raw.end self.old.depth self.old.offset (rows_from R.Offset.limit self.old.raw t self.old.depth)) }
+        ensures one_read { (t : ℕ) → followed_to self.old ≡ Some t → self.new.reads ≤ self.old.reads + 1 }
+        ensures plain { self.old.follows ≡ false → UnlessMemory result (IsReadOnce R.Offset.limit self.old self.new) }
+        ensures none { result ≡ Ok false → is_null self.new.entry ≡ true }
+        ensures more { self.old.reads ≤ self.new.reads }
+        ensures few { AreFewReads self.old self.new }
+        ensures further { IsFurther self.old self.new }
+        ensures unit { IsSameUnit self.old self.new }
+    {
+        if !self.is_on_entry() {
+            return Ok(false);
+        }
+        let offset = self.entry.offset;
+        let depth = self.entry.depth;
+        self.seek(offset, depth)
+    }
+
+    // Whether the entry or null that was read last has a depth.
+    #[inline(always)]
+    fn has_depth(&self, depth: isize) -> bool
+        ensures { result ≡ int_eq self.now.depth depth }
+    {
+        self.entry.depth == depth
+    }
+
+    // Sets the pair of offset and depth.
+    fn set_pair(&mut self, offset: UnitOffset<R::Offset>, depth: isize)
+        requires shallow { unsigned_abs depth + length self.old.raw.rest.bytes < 2 ^ 63 }
+        requires none { is_null self.old.entry ≡ true }
+        ensures { self.new ≡ record self.old { offset = R.Offset.number offset.0; depth = depth } }
+    {
+        self.entry.offset = offset;
+        self.entry.depth = depth;
+    }
+
+    // Reads on to the first entry of a depth; the references of entries that are at least so deep are followed. At the end
+    // of the input the pair becomes `offset` and that depth.
+    pub(crate) fn seek(&mut self, offset: UnitOffset<R::Offset>, depth: isize) -> Result<bool>
+        requires sound { IsSound self.old }
+        requires shallow { unsigned_abs depth < 2 ^ 63 }
+        ensures { HasSought R.Offset.limit depth (R.Offset.number offset.0) self.old result self.new }
+    {
+        'seeking: loop {
+            self.follow(depth);
+            if !self.read_next()? {
+                break;
+            }
+            if self.has_depth(depth) {
+                return Ok(self.is_on_entry());
+            }
+        }
+        self.set_pair(offset, depth);
+        Ok(false)
+    }
+}
