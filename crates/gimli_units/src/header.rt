@@ -420,11 +420,7 @@ impl<R: Reader> UnitHeader<R> {
     ) -> EntriesRaw<'abbrev, R, A>
         ensures { result ≡ entries_of (⟦<UnitHeader<R> as HasUnit>⟧.unit self.now) abbreviations.now }
     {
-        EntriesRaw::new(
-            self.entries_buf.copy(),
-            self.encoding,
-            abbreviations,
-            self.root_offset(),
-        )
+        let input = self.entries_buf.copy();
+        EntriesRaw::new(input, self.encoding, abbreviations, self.root_offset())
     }
 }
