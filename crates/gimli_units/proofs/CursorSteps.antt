@@ -13,7 +13,7 @@ use Rattle.gimli_units.specs.EntryReads.{entry_at-later, entry_at-shorter}
 use Rattle.gimli_units.specs.RawPlace.{RawPlace, next_offset_of, below_flag, depth_after}
 use Rattle.gimli_units.specs.Rows.{Row, Ahead, offset_of_view, ahead_at}
 use Rattle.gimli_units.specs.RowSteps.{then_row, no_row, ahead_ended, ahead_refused, ahead_more}
-use Rattle.gimli_units.specs.CursorPlace.{Place, Moved, some_of, is_entry, ran_out, arrive, skip_until, next_row, next_in_depth_first_order, seek, IsPlaceOf}
+use Rattle.gimli_units.specs.CursorPlace.{Place, Moved, some_of, is_entry, ran_out, arrive, skip_until, next_row, next_in_depth_first_order, seek}
 use Rattle.gimli_units.specs.CursorMoves.{CursorView, next_of, rows_of, place_of, last_row, Goes, IsAheadOf, view_from, takes_memory_at, IsSound}
 use Rattle.gimli_units.proofs.Memory.{entry_at-never}
 use Rattle.gimli_units.specs.CursorRead.{stands_at, after_entry, after_refusal, after_end, HasRead, an_entry, the_end, a_refusal}

@@ -195,6 +195,7 @@ true_refusal limit start here outcome new o (a_refusal y some is same why memory
       is = λ fine. same_what limit start here (next_offset_of here.raw) o (omega arith) ∙ what_here limit here.raw (Err y) (why fine);
       memory = λ m. same_memory start here (next_offset_of here.raw) o (omega arith) ∙ memory m;
       after = later_offset start here o;
+      before = let fits = o.sound.fits in omega (arith, some, fits, o.unit.end);
       none = refl;
       over = refl;
       depth = refl;

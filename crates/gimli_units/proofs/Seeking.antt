@@ -1,9 +1,9 @@
 -- Turns of the search for a depth: each entry that is passed, or left for where its reference leads, leaves what is sought.
-use Rattle.std.proofs.Common.{◌≡◌, ℕ, zero, suc, ◌+◌, ◌-◌, ◌<◌, ◌≤◌, ℤ, pos, ◌+ℤ◌, ◌-ℤ◌, Bool, true, false, List, [], ◌∷◌, length, Option, Some, None, Result, Ok, Err, refl, sym, ap, ◌∙◌, subst, arith, inl, inr, ◌⊎◌}
+use Rattle.std.proofs.Common.{◌≡◌, ℕ, zero, suc, ◌+◌, ◌-◌, ◌<◌, ◌≤◌, ℤ, pos, ◌+ℤ◌, ◌-ℤ◌, Bool, true, false, List, [], ◌∷◌, length, Option, Some, None, Result, Ok, Err, refl, sym, ap, ◌∙◌, subst, arith, inl, inr, ◌⊎◌, ◌==◌, length-drop}
 use Rattle.std.specs.Prelude.{not, int_le, ◌≤ℤ◌, if◌then◌else◌}
 use Rattle.std.specs.Ordering.{int_eq}
 use Rattle.std.proofs.lemmas.Int.{ints}
-use Rattle.std.proofs.lemmas.Bool.{not-true, not-false}
+use Rattle.std.proofs.lemmas.Bool.{not-true, not-false, ne_eqb}
 use Rattle.gimli_base.specs.Later.{IsLater-length}
 use Rattle.gimli_base.specs.declared.error.Error.{Error}
 use Rattle.gimli_base.specs.View.{View, cut}
@@ -15,8 +15,8 @@ use Rattle.gimli_units.specs.RawPlace.{RawPlace, next_offset_of, below_flag, dep
 use Rattle.gimli_units.specs.Rows.{Row, Ahead}
 use Rattle.gimli_units.specs.Kind.{Kind, null, leaf, parent, kind_of, sibling_of}
 use Rattle.gimli_units.specs.Honest.{past, target, within, usable, IsHonest, AreHonestUntil}
-use Rattle.gimli_units.specs.CursorPlace.{Place, Moved, some_of, is_entry, ran_out, arrive, skip_until, seek, first_of_rows, IsPlaceOf}
-use Rattle.gimli_units.specs.CursorMoves.{CursorView, next_of, rows_of, rows_from, place_of, last_row, followed_to, view_from, IsHonestFor, IsAheadOf, IsPlaceAhead, IsReadOnce, reads_ahead, IsSound, IsTrueEntry, IsRefused}
+use Rattle.gimli_units.specs.CursorPlace.{Place, Moved, some_of, is_entry, ran_out, arrive, skip_until, seek, first_of_rows, has_depth, IsPlaceUntil}
+use Rattle.gimli_units.specs.CursorMoves.{CursorView, next_of, rows_of, rows_from, place_of, last_row, followed_to, view_from, IsHonestFor, IsAheadOf, IsPlaceAhead, IsReadOnce, reads_ahead, one_if_left, IsSound, IsTrueEntry, IsRefused}
 use Rattle.gimli_units.specs.CursorRead.{stands_at, stands_if, after_entry, after_refusal, after_end, HasRead, an_entry, the_end, a_refusal, target_for, following, Stands, HasSought}
 use Rattle.gimli_units.proofs.CursorSteps.{rows_entry, rows_end, rows_refusal, rows_over}
 use Rattle.gimli_units.proofs.Flagless.{entry_at-flagless}
@@ -38,12 +38,18 @@ parent_depth c t leads = cases (is_null c.entry) refl c.entry.has_children refl 
 ok_is : {a b : Bool} → ◌≡◌ {A = Result Bool Error} (Ok a) (Ok b) → a ≡ b
 ok_is h = cc
 
+left_some : (v : View) → (length v.bytes ≡ 0 → ⊥) → one_if_left v ≡ 1
+left_some v some = let t : (length v.bytes == 0) ≡ false = ne_eqb (length v.bytes) 0 some in rw t refl
+
+left_none : (v : View) → length v.bytes ≡ 0 → one_if_left v ≡ 0
+left_none v none = rw none refl
+
 module _ (limit : ℕ) (depth : ℤ) (offset : ℕ) where
   -- a cursor that has gone on, and what is sought is the same
   pub record Keeps (old new : CursorView) : Type 0 where
     pub same : seek new.raw.end depth offset (rows_of limit new.raw) ≡ seek old.raw.end depth offset (rows_of limit old.raw)
     pub ahead : old.follows ≡ true → AreHonestUntil new.raw.end depth (rows_of limit new.raw).rows
-    pub places : (o : ℕ) (x : ℤ) → IsPlaceAhead limit new.raw o x → IsPlaceAhead limit old.raw o x
+    pub places : (o : ℕ) (x : ℤ) → IsPlaceAhead limit (has_depth depth) new.raw o x → IsPlaceAhead limit (has_depth depth) old.raw o x
 
   -- leaving an entry, for where its reference leads or not, keeps what is sought, where it is honest
   follow_keeps : (c : CursorView) → IsSound c → (c.follows ≡ true → IsHonestFor limit depth c) → Keeps c (following depth c)
@@ -84,7 +90,7 @@ module _ (limit : ℕ) (depth : ℤ) (offset : ℕ) where
   pub record Honestly (start here : CursorView) : Type 0 where
     pub same : seek here.raw.end depth offset (rows_of limit here.raw) ≡ seek start.raw.end depth offset (rows_of limit start.raw)
     pub honest : here.follows ≡ true → IsHonestFor limit depth here
-    pub places : (o : ℕ) (x : ℤ) → IsPlaceAhead limit here.raw o x → IsPlaceAhead limit start.raw o x
+    pub places : (o : ℕ) (x : ℤ) → IsPlaceAhead limit (has_depth depth) here.raw o x → IsPlaceAhead limit (has_depth depth) start.raw o x
 
   -- a search that began at `start` and has found nothing yet
   pub record Seeking (start here : CursorView) : Type 0 where
@@ -164,6 +170,16 @@ module _ (limit : ℕ) (depth : ℤ) (offset : ℕ) where
       → following depth here ≡ record { raw = stands_at start.raw (view_from start.raw t) depth; entry = null_entry; offset = start.offset; depth = start.depth; follows = start.follows; reads = start.reads }
   first_mid start here k t leads same = ap (following depth) (k.first t leads same) ∙ first_follow start t leads same
 
+  -- the reader stands at the reference
+  first_place : (start here : CursorView) → Seeking start here → (t : ℕ) → followed_to start ≡ Some t → start.depth ≡ depth
+      → (next_offset_of (following depth here).raw ≡ t) × ((following depth here).raw.depth ≡ depth)
+  first_place start here k t leads same =
+      let m = first_mid start here k t leads same in
+      let b = followed_bounds start t leads in
+      let cut_length = length-drop (t - next_offset_of start.raw) start.raw.rest.bytes in
+      let there : next_offset_of (stands_at start.raw (view_from start.raw t) depth) ≡ t = omega (arith, cut_length, b.2, b.3, k.onward.fits) in
+      (ap (λ (c : CursorView). next_offset_of c.raw) m ∙ there, ap (λ (c : CursorView). c.raw.depth) m)
+
   first_rows : (start here : CursorView) → Seeking start here → (t : ℕ) → followed_to start ≡ Some t → start.depth ≡ depth
       → first_of_rows (following depth here).raw.end depth offset (rows_of limit (following depth here).raw) ≡ first_of_rows start.raw.end depth offset (rows_from limit start.raw t depth)
   first_rows start here k t leads same = ap (λ (c : CursorView). first_of_rows c.raw.end depth offset (rows_of limit c.raw)) (first_mid start here k t leads same)
@@ -196,7 +212,7 @@ module _ (limit : ℕ) (depth : ℤ) (offset : ℕ) where
                 record {
                   same = passed mid e w some reads elsewhere ∙ kept.same ∙ i.same;
                   honest = λ f. passed_honest mid e w some reads elsewhere (kept.ahead f);
-                  places = λ o x p. i.places o x (kept.places o x (place_on limit mid e w some reads o x p));
+                  places = λ o x p. i.places o x (kept.places o x (place_on limit (has_depth depth) mid e w some reads elsewhere o x p));
                 };
           })
       cases (the_end none is same) onward once = let x : ◌≡◌ {A = Result Bool Error} (Ok false) (Ok true) = sym is ∙ holds in absurd (cc)
@@ -233,11 +249,15 @@ module _ (limit : ℕ) (depth : ℤ) (offset : ℕ) where
             more = rw same at onward.more;
             found = λ honest. found_at mid e w some reads deep ∙ sought_there start here k honest;
             yes = λ t. (rw same at true_one, not-true (is_null e) (ok_is t), equal mid.raw.depth depth deep);
-            no = λ t. not-false (is_null e) (ok_is t);
+            no = λ t. (not-false (is_null e) (ok_is t), equal mid.raw.depth depth deep, inl (rw same at true_one));
             refused = λ x t. absurd (cc);
             place = λ x t. absurd (cc);
             there = λ t leads at. first_at mid e w some reads ∙ first_rows start here k t leads at;
-            once = λ t leads at. let reads_mid = ap (λ (c : CursorView). c.reads) (first_mid start here k t leads at) in omega (arith, reads_mid);
+            once = λ t leads at.
+                let m = first_mid start here k t leads at in
+                ap (λ (c : CursorView). c.reads + 1) m ∙ ap (λ n. start.reads + n) (sym (left_some mid.raw.rest some) ∙ ap (λ (c : CursorView). one_if_left c.raw.rest) m);
+            refused_there = λ x t. absurd (cc);
+            counted = λ never. let more = (onward_follow start here depth k.onward).more in omega (arith, more);
             plain = rw (is, same) at once;
             inside = λ low. just_above e mid.raw.depth (low_follow here (k.inside low));
           })
@@ -278,11 +298,16 @@ module _ (limit : ℕ) (depth : ℤ) (offset : ℕ) where
             more = rw same at onward.more;
             found = λ honest. end_at mid none ∙ sought_there start here k honest;
             yes = λ t. absurd (cc);
-            no = λ t. refl;
+            no = λ t. (refl, refl, inr (none, refl));
             refused = λ x t. absurd (cc);
             place = λ x t. absurd (cc);
             there = λ t leads at. first_end_at mid none ∙ first_rows start here k t leads at;
-            once = λ t leads at. let reads_mid = ap (λ (c : CursorView). c.reads) (first_mid start here k t leads at) in omega (arith, reads_mid);
+            once = λ t leads at.
+                let m = first_mid start here k t leads at in
+                let none_left : mid.reads ≡ mid.reads + one_if_left mid.raw.rest = let zero = left_none mid.raw.rest none in omega (arith, zero) in
+                none_left ∙ ap (λ (c : CursorView). c.reads + one_if_left c.raw.rest) m;
+            refused_there = λ x t. absurd (cc);
+            counted = λ never. absurd (never refl);
             plain = rw (is, same) at once;
             inside = λ low. let l = low_follow here (k.inside low) in omega (arith, ints, l);
           })
@@ -304,13 +329,13 @@ module _ (limit : ℕ) (depth : ℤ) (offset : ℕ) where
   sought_out start here outcome new k h x fails =
       cases h (onward_read limit start (following depth here) outcome new (onward_follow start here depth k.onward) h) (plain_once start here outcome new k h)
       (λ y same. true_refusal limit start (following depth here) outcome new (onward_follow start here depth k.onward) h y (fails ∙ same))
-      (refused_place limit (following depth here) outcome new h x fails)
+      (refused_place limit (has_depth depth) (following depth here) outcome new h x fails)
     where
       mid : CursorView
       mid = following depth here
 
       cases : HasRead limit mid outcome new → Onward start new → (start.follows ≡ false → UnlessMemory outcome (IsReadOnce limit start new))
-          → ((y : Error) → ◌≡◌ {A = Result Bool Error} (Err x) (Err y) → IsRefused limit start y new) → IsPlaceAhead limit mid.raw new.offset new.depth
+          → ((y : Error) → ◌≡◌ {A = Result Bool Error} (Err x) (Err y) → IsRefused limit start y new) → IsPlaceAhead limit (has_depth depth) mid.raw new.offset new.depth
           → HasSought limit depth offset start (Err x) new
       cases (an_entry e w some reads is same) onward once refused place = let y : ◌≡◌ {A = Result Bool Error} (Ok true) (Err x) = sym is ∙ fails in absurd (cc)
       cases (the_end none is same) onward once refused place = let y : ◌≡◌ {A = Result Bool Error} (Ok false) (Err x) = sym is ∙ fails in absurd (cc)
@@ -330,7 +355,11 @@ module _ (limit : ℕ) (depth : ℤ) (offset : ℕ) where
                 let i = k.honestly honest in
                 i.places _ _ ((follow_keeps here k.onward.sound i.honest).places _ _ (rw same at place));
             there = λ t leads at. rw one (λ fine. first_refusal_at mid y some (why fine) ∙ first_rows start here k t leads at);
-            once = λ t leads at. let reads_mid = ap (λ (c : CursorView). c.reads) (first_mid start here k t leads at) in omega (arith, reads_mid);
+            once = λ t leads at.
+                let m = first_mid start here k t leads at in
+                ap (λ (c : CursorView). c.reads + 1) m ∙ ap (λ n. start.reads + n) (sym (left_some mid.raw.rest some) ∙ ap (λ (c : CursorView). one_if_left c.raw.rest) m);
+            refused_there = λ v h t leads at. first_place start here k t leads at;
+            counted = λ never. let more = (onward_follow start here depth k.onward).more in omega (arith, more);
             plain = rw (fails, same) at once;
             inside = λ low. let l = low_follow here (k.inside low) in omega (arith, ints, l);
           })

@@ -13,7 +13,7 @@ use Rattle.gimli_units.specs.RawPlace.{below_flag, depth_after}
 use Rattle.gimli_units.specs.Rows.{Row, Ahead, offset_of_view, ahead_at}
 use Rattle.gimli_units.specs.RowChain.{IsRow, AreRows, exist_rows, unique_rows}
 use Rattle.gimli_units.specs.Honest.{closes, past, IsHonest, AreHonestUntil}
-use Rattle.gimli_units.specs.CursorPlace.{Place, Moved, is_entry, ran_out, arrive, skip_until, seek, IsPlaceOf}
+use Rattle.gimli_units.specs.CursorPlace.{Place, Moved, is_entry, ran_out, arrive, skip_until, has_depth, seek, IsPlaceUntil}
 
 pub false_is_true : false ≡ true → ⊥
 false_is_true e = cc
@@ -52,9 +52,9 @@ pub record Split (next : View → Reads Entry) (end : ℕ) (v : View) (d sought 
   pub later : IsLater 0 v view
   pub at : t ≡ offset_of_view end view
   pub are : AreRows next end view d rest refusal stop stop_depth
-  pub same : skip_until (λ r. int_eq r.depth sought) rows ≡ skip_until (λ r. int_eq r.depth sought) rest
+  pub same : skip_until (has_depth sought) rows ≡ skip_until (has_depth sought) rest
   pub honest : AreHonestUntil end sought rows → AreHonestUntil end sought rest
-  pub places : (o : ℕ) (x : ℤ) → IsPlaceOf stop stop_depth o x rest → IsPlaceOf stop stop_depth o x rows
+  pub places : (o : ℕ) (x : ℤ) → IsPlaceUntil (has_depth sought) stop stop_depth o x rest → IsPlaceUntil (has_depth sought) stop stop_depth o x rows
 
 module _ (next : View → Reads Entry) (end : ℕ) (later : (v w : View) (e : Entry) → Ok (e, w) ≡ next v → IsLater 1 v w) (flagless : (v w : View) (e : Entry) → Ok (e, w) ≡ next v → is_null e ≡ true → e.has_children ≡ false) where
   -- the depth behind a closer
@@ -92,7 +92,7 @@ module _ (next : View → Reads Entry) (end : ℕ) (later : (v w : View) (e : En
             are = rw behind at more;
             same = rw deeper refl;
             honest = λ h. (h deeper).1;
-            places = λ o x p. inr p;
+            places = λ o x p. inr (deeper, p);
           }
       cases false other on =
           let leads_on : past d rows ≡ Some t = rw other at leads in
@@ -106,7 +106,7 @@ module _ (next : View → Reads Entry) (end : ℕ) (later : (v w : View) (e : En
             are = s.are;
             same = rw deeper s.same;
             honest = λ h. s.honest (h deeper).1;
-            places = λ o x p. inr (s.places o x p);
+            places = λ o x p. inr (deeper, s.places o x p);
           }
 
   shorter : (v w : View) (e : Entry) → Ok (e, w) ≡ next v → length w.bytes < length v.bytes
@@ -123,8 +123,8 @@ module _ (next : View → Reads Entry) (end : ℕ) (later : (v w : View) (e : En
   pub record Kept (sought : ℤ) (offset : ℕ) (v : View) (depth : ℤ) (w : View) (new_depth : ℤ) : Type 0 where
     pub same : seek end sought offset (ahead_at next end new_depth w) ≡ seek end sought offset (ahead_at next end depth v)
     pub honest : AreHonestUntil end sought (ahead_at next end depth v).rows → AreHonestUntil end sought (ahead_at next end new_depth w).rows
-    pub places : (o : ℕ) (x : ℤ) → IsPlaceOf (ahead_at next end new_depth w).stop (ahead_at next end new_depth w).stop_depth o x (ahead_at next end new_depth w).rows
-        → IsPlaceOf (ahead_at next end depth v).stop (ahead_at next end depth v).stop_depth o x (ahead_at next end depth v).rows
+    pub places : (o : ℕ) (x : ℤ) → IsPlaceUntil (has_depth sought) (ahead_at next end new_depth w).stop (ahead_at next end new_depth w).stop_depth o x (ahead_at next end new_depth w).rows
+        → IsPlaceUntil (has_depth sought) (ahead_at next end depth v).stop (ahead_at next end depth v).stop_depth o x (ahead_at next end depth v).rows
 
   pub jump : (v : View) (depth d sought : ℤ) (offset t : ℕ) → length v.bytes ≤ end → (d +ℤ pos 1) ≤ℤ depth → sought ≤ℤ d
       → past d (ahead_at next end depth v).rows ≡ Some t → Kept sought offset v depth (cut (t - offset_of_view end v) v) d

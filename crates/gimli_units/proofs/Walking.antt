@@ -11,7 +11,7 @@ use Rattle.gimli_base.specs.Table.{found}
 use Rattle.gimli_units.specs.EntryReads.{entry_at-shorter}
 use Rattle.gimli_units.specs.RawPlace.{RawPlace, next_offset_of, depth_after}
 use Rattle.gimli_units.specs.Rows.{Row, Ahead}
-use Rattle.gimli_units.specs.CursorPlace.{Place, Moved, some_of, is_entry, ran_out, arrive, skip_until, last_offset, last_depth, next_row, next_in_depth_first_order, next_of_depth, seek, IsPlaceOf}
+use Rattle.gimli_units.specs.CursorPlace.{Place, Moved, some_of, is_entry, ran_out, arrive, skip_until, last_offset, last_depth, next_row, next_in_depth_first_order, next_of_depth, seek, IsPlaceUntil}
 use Rattle.gimli_units.specs.CursorMoves.{CursorView, next_of, rows_of, place_of, last_row, Goes, IsAheadOf, IsPlaceAhead, IsReadOnce, reads_ahead, IsSound, IsTrueEntry, IsRefused}
 use Rattle.gimli_units.specs.CursorRead.{stands_at, after_entry, after_refusal, after_end, HasRead, an_entry, the_end, a_refusal}
 use Rattle.gimli_units.proofs.CursorSteps.{rows_entry, rows_end, rows_refusal, rows_over}
@@ -19,8 +19,8 @@ use Rattle.gimli_units.proofs.Onward.{Onward, onward_start, onward_read, read_on
 
 module _ (limit : ℕ) where
   -- where a cursor stands is a place ahead of it
-  pub place_here : (p : RawPlace) → IsPlaceAhead limit p (next_offset_of p) p.depth
-  place_here p = elim (eqb_tells (length p.rest.bytes) 0) [
+  pub place_here : (test : Row → Bool) (p : RawPlace) → IsPlaceAhead limit test p (next_offset_of p) p.depth
+  place_here test p = elim (eqb_tells (length p.rest.bytes) 0) [
     | inl none ↦ rw (rows_end limit p none.1) (omega (arith, none.1), refl)
     | inr some ↦ read (next_of limit p p.rest) refl some.1
   ]
@@ -28,20 +28,21 @@ module _ (limit : ℕ) where
       c : CursorView
       c = record { raw = p; entry = null_entry; offset = 0; depth = p.depth; follows = false; reads = 0 }
 
-      read : (r : Reads Entry) → r ≡ next_of limit p p.rest → (length p.rest.bytes ≡ 0 → ⊥) → IsPlaceAhead limit p (next_offset_of p) p.depth
+      read : (r : Reads Entry) → r ≡ next_of limit p p.rest → (length p.rest.bytes ≡ 0 → ⊥) → IsPlaceAhead limit test p (next_offset_of p) p.depth
       read (Err e) is some = rw (rows_refusal limit p e some is) (refl, refl)
       read (Ok q) is some = rw (rows_entry limit c q.0 q.1 some is) (inl (refl, refl))
 
-  -- behind a row that was read, what is ahead was ahead
-  pub place_on : (c : CursorView) (e : Entry) (w : View) → (length c.raw.rest.bytes ≡ 0 → ⊥) → Ok (e, w) ≡ next_of limit c.raw c.raw.rest
-      → (o : ℕ) (x : ℤ) → IsPlaceAhead limit (after_entry c e w).raw o x → IsPlaceAhead limit c.raw o x
-  place_on c e w some reads o x p = rw (rows_entry limit c e w some reads) (inr p)
+  -- behind a row that was read and fails the test, what is ahead was ahead
+  pub place_on : (test : Row → Bool) (c : CursorView) (e : Entry) (w : View) → (length c.raw.rest.bytes ≡ 0 → ⊥) → Ok (e, w) ≡ next_of limit c.raw c.raw.rest
+      → test (last_row (after_entry c e w)) ≡ false
+      → (o : ℕ) (x : ℤ) → IsPlaceAhead limit test (after_entry c e w).raw o x → IsPlaceAhead limit test c.raw o x
+  place_on test c e w some reads other o x p = rw (rows_entry limit c e w some reads) (inr (other, p))
 
   -- a walk that began at `start` and has passed nulls alone
   pub record Walking (start here : CursorView) : Type 0 where
     pub onward : Onward start here
     pub same : next_in_depth_first_order here.raw.end (place_of limit here) ≡ next_in_depth_first_order start.raw.end (place_of limit start)
-    pub places : (o : ℕ) (x : ℤ) → IsPlaceAhead limit here.raw o x → IsPlaceAhead limit start.raw o x
+    pub places : (o : ℕ) (x : ℤ) → IsPlaceAhead limit is_entry here.raw o x → IsPlaceAhead limit is_entry start.raw o x
     pub once : IsReadOnce limit start here
 
   pub walking_start : (c : CursorView) → IsSound c → Walking c c
@@ -63,7 +64,7 @@ module _ (limit : ℕ) where
           record {
             onward = onward;
             same = rw same (null_passed here e w some reads null_e ∙ k.same);
-            places = rw same (λ o x p. k.places o x (place_on here e w some reads o x p));
+            places = rw same (λ o x p. k.places o x (place_on is_entry here e w some reads (rw null_e refl) o x p));
             once = (rw is at once) ∙ k.once;
           }
       cases (the_end none is same) onward once = let x : ◌≡◌ {A = Result Bool Error} (Ok false) (Ok true) = sym is ∙ holds in absurd (cc)
@@ -100,11 +101,11 @@ module _ (limit : ℕ) where
   walked_out start here outcome new k (a_refusal x some is same why memory) never = rw (is, same) (λ fine. refusal_found here x some (why fine) ∙ k.same)
 
   -- what was refused stands at a place ahead
-  pub refused_place : (here : CursorView) (outcome : Result Bool Error) (new : CursorView) → HasRead limit here outcome new → (x : Error) → outcome ≡ Err x
-      → IsPlaceAhead limit here.raw new.offset new.depth
-  refused_place here outcome new (an_entry e w some reads is same) x fails = let k : ◌≡◌ {A = Result Bool Error} (Ok true) (Err x) = sym is ∙ fails in absurd (cc)
-  refused_place here outcome new (the_end none is same) x fails = let k : ◌≡◌ {A = Result Bool Error} (Ok false) (Err x) = sym is ∙ fails in absurd (cc)
-  refused_place here outcome new (a_refusal y some is same why memory) x fails = rw same (place_here here.raw)
+  pub refused_place : (test : Row → Bool) (here : CursorView) (outcome : Result Bool Error) (new : CursorView) → HasRead limit here outcome new → (x : Error) → outcome ≡ Err x
+      → IsPlaceAhead limit test here.raw new.offset new.depth
+  refused_place test here outcome new (an_entry e w some reads is same) x fails = let k : ◌≡◌ {A = Result Bool Error} (Ok true) (Err x) = sym is ∙ fails in absurd (cc)
+  refused_place test here outcome new (the_end none is same) x fails = let k : ◌≡◌ {A = Result Bool Error} (Ok false) (Err x) = sym is ∙ fails in absurd (cc)
+  refused_place test here outcome new (a_refusal y some is same why memory) x fails = rw same (place_here test here.raw)
 
   -- an entry that was read is no longer there
   pub read_shorter : (here : CursorView) (outcome : Result Bool Error) (new : CursorView) → HasRead limit here outcome new → outcome ≡ Ok true

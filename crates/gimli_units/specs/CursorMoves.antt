@@ -1,5 +1,5 @@
 -- Where a cursor stands, and what its steps do to it (DWARF 5, 2.3).
-use Rattle.std.specs.Prelude.{◌≡◌, ℕ, ◌+◌, ◌-◌, ◌≤◌, ◌<◌, ◌^◌, ◌==◌, unsigned_abs, ℤ, Bool, true, false, if◌then◌else◌, length, int_le, Option, Some, None, Result, Ok, Err}
+use Rattle.std.specs.Prelude.{◌≡◌, ◌⊎◌, ℕ, ◌+◌, ◌-◌, ◌≤◌, ◌<◌, ◌^◌, ◌==◌, unsigned_abs, ℤ, Bool, true, false, if◌then◌else◌, length, int_le, Option, Some, None, Result, Ok, Err}
 use Rattle.gimli_base.specs.declared.error.Error.{Error}
 use Rattle.gimli_base.specs.declared.error.Error.TheVariants.{OutOfMemory}
 use Rattle.gimli_base.specs.Offset.{answer_of}
@@ -11,7 +11,7 @@ use Rattle.gimli_units.specs.Entry.{Entry, entry_at, abbreviation_at, takes_memo
 use Rattle.gimli_units.specs.RawPlace.{RawPlace, next_offset_of, depth_after}
 use Rattle.gimli_units.specs.Rows.{Row, Ahead, ahead_at}
 use Rattle.gimli_units.specs.Honest.{usable, IsHonest, AreHonestUntil}
-use Rattle.gimli_units.specs.CursorPlace.{Place, Moved, some_of, IsPlaceOf}
+use Rattle.gimli_units.specs.CursorPlace.{Place, Moved, some_of, IsPlaceUntil}
 
 -- A cursor: where its reader stands, the entry that it read last (a null, where there is no current entry) with its offset and
 -- depth, whether it follows references, and how many entries it has read.
@@ -87,23 +87,31 @@ pub record IsTrueEntry (limit : ℕ) (old new : CursorView) : Type 0 where
 abbrev pub IsOver : CursorView → Type 0
 IsOver c = length c.raw.rest.bytes ≡ 0
 
--- A refusal of bytes is what stands at the pair's offset, which is not before what the step found next; the walk is over, with no
--- current entry, and the next depth is the pair's.
+-- A refusal of bytes is what stands at the pair's offset, which is not before what the step found next and before the end; the walk is over, with
+-- no current entry, and the next depth is the pair's.
 pub record IsRefused (limit : ℕ) (old : CursorView) (e : Error) (new : CursorView) : Type 0 where
   pub is : (e ≡ OutOfMemory → ⊥) → what_at limit old.raw new.offset ≡ Err e
   pub memory : e ≡ OutOfMemory → takes_memory_at old.raw new.offset ≡ true
   pub after : next_offset_of old.raw ≤ new.offset
+  pub before : new.offset < old.raw.end
   pub none : new.entry ≡ null_entry
   pub over : IsOver new
   pub depth : new.raw.depth ≡ new.depth
 
--- a pair of offset and depth is that of a row ahead, or of the place behind the last
-abbrev pub IsPlaceAhead : ℕ → RawPlace → ℕ → ℤ → Type 0
-IsPlaceAhead limit p offset depth = IsPlaceOf (rows_of limit p).stop (rows_of limit p).stop_depth offset depth (rows_of limit p).rows
+-- a pair of offset and depth is that of the first row ahead that passes a test, or of one before it, or of the place behind the
+-- last, where none does
+abbrev pub IsPlaceAhead : ℕ → (Row → Bool) → RawPlace → ℕ → ℤ → Type 0
+IsPlaceAhead limit test p offset depth = IsPlaceUntil test (rows_of limit p).stop (rows_of limit p).stop_depth offset depth (rows_of limit p).rows
 
--- the pair is that of a row ahead, or of the place behind the last
-abbrev pub IsAheadOf : ℕ → CursorView → CursorView → Type 0
-IsAheadOf limit old new = IsPlaceAhead limit old.raw new.offset new.depth
+-- the pair is that of a row that is passed or taken, where the first that passes a test is, or of the place behind the last
+abbrev pub IsAheadOf : ℕ → (Row → Bool) → CursorView → CursorView → Type 0
+IsAheadOf limit test old new = IsPlaceAhead limit test old.raw new.offset new.depth
+
+-- An entry of this depth was not found, whatever the references: a null of it stands at the pair's offset; or nothing is left, and the pair
+-- is that of the entry from which it was sought.
+abbrev pub IsNotFound : ℕ → ℤ → ℕ → CursorView → CursorView → Type 0
+IsNotFound limit depth offset old new =
+    (is_null new.entry ≡ true) × (new.depth ≡ depth) × (IsTrueEntry limit old new ⊎ (IsOver new × (new.offset ≡ offset)))
 
 -- what is left of the bytes is some of what was left
 abbrev pub IsFurther : CursorView → CursorView → Type 0

@@ -66,9 +66,13 @@ unfoldable pub next_in_depth_first_order : ℕ → Place → Moved
 next_in_depth_first_order end p =
     arrive end p.ahead (last_offset p.offset p.ahead.rows) (last_depth p.depth p.ahead.rows) (λ r. true) (skip_until is_entry p.ahead.rows)
 
+-- a row that has this depth
+abbrev pub has_depth : ℤ → Row → Bool
+has_depth depth r = int_eq r.depth depth
+
 -- the least row of this depth; at the end of the bytes the pair is `offset` and that depth
 unfoldable pub seek : ℕ → ℤ → ℕ → Ahead → Moved
-seek end depth offset a = arrive end a offset depth is_entry (skip_until (λ r. int_eq r.depth depth) a.rows)
+seek end depth offset a = arrive end a offset depth is_entry (skip_until (has_depth depth) a.rows)
 
 -- the first row ahead, where a reference led; at the end of the bytes the pair is `offset` and `depth`
 unfoldable pub first_of_rows : ℕ → ℤ → ℕ → Ahead → Moved
@@ -81,10 +85,12 @@ next_of_depth end p = elim p.current [
   | Some e ↦ seek end p.depth p.offset p.ahead
 ]
 
--- a pair of offset and depth is that of one of these rows, or of the place behind them
-abbrev pub IsPlaceOf : ℕ → ℤ → ℕ → ℤ → List Row → Type 0
-IsPlaceOf stop stop_depth offset depth [] = (offset ≡ stop) × (depth ≡ stop_depth)
-IsPlaceOf stop stop_depth offset depth (r ∷ rest) = ((offset ≡ r.offset) × (depth ≡ r.depth)) ⊎ IsPlaceOf stop stop_depth offset depth rest
+-- a pair of offset and depth is that of the first of these rows that passes a test, or of one before it, or of the place behind
+-- them, where none does
+abbrev pub IsPlaceUntil : (Row → Bool) → ℕ → ℤ → ℕ → ℤ → List Row → Type 0
+IsPlaceUntil test stop stop_depth offset depth [] = (offset ≡ stop) × (depth ≡ stop_depth)
+IsPlaceUntil test stop stop_depth offset depth (r ∷ rest) =
+    ((offset ≡ r.offset) × (depth ≡ r.depth)) ⊎ ((test r ≡ false) × IsPlaceUntil test stop stop_depth offset depth rest)
 
 -- the offset and the depth of the next row
 abbrev pub next_offset : Ahead → ℕ

@@ -1,5 +1,5 @@
 -- What one read makes of a cursor, and what a search for a depth does, of which the steps are made (DWARF 5, 2.3 and 7.5.2).
-use Rattle.std.specs.Prelude.{◌≡◌, ℕ, ◌+◌, ◌-◌, ◌≤◌, ℤ, pos, ◌-ℤ◌, ◌≤ℤ◌, Bool, true, false, int_le, if◌then◌else◌, length, Option, Some, None, Result, Ok, Err}
+use Rattle.std.specs.Prelude.{◌≡◌, ℕ, ◌+◌, ◌-◌, ◌<◌, ◌≤◌, ℤ, pos, ◌-ℤ◌, ◌≤ℤ◌, Bool, true, false, int_le, if◌then◌else◌, length, Option, Some, None, Result, Ok, Err}
 use Rattle.gimli_base.specs.declared.error.Error.{Error}
 use Rattle.gimli_base.specs.declared.error.Error.TheVariants.{OutOfMemory}
 use Rattle.gimli_base.specs.View.{View, ended}
@@ -8,8 +8,8 @@ use Rattle.gimli_units.specs.Entry.{Entry, null_entry, is_null}
 use Rattle.gimli_units.specs.RawPlace.{RawPlace, next_offset_of, depth_after}
 use Rattle.gimli_units.specs.Kind.{kind_of}
 use Rattle.gimli_units.specs.Honest.{target}
-use Rattle.gimli_units.specs.CursorPlace.{Moved, seek, first_of_rows}
-use Rattle.gimli_units.specs.CursorMoves.{CursorView, next_of, rows_of, rows_from, place_of, followed_to, view_from, what_at, takes_memory_at, IsHonestFor, IsSameUnit, IsTrueEntry, IsRefused, IsAheadOf, IsFurther, AreFewReads, IsReadOnce, IsSound}
+use Rattle.gimli_units.specs.CursorPlace.{Moved, has_depth, seek, first_of_rows}
+use Rattle.gimli_units.specs.CursorMoves.{CursorView, next_of, rows_of, rows_from, place_of, followed_to, view_from, what_at, takes_memory_at, IsHonestFor, IsSameUnit, IsTrueEntry, IsRefused, IsNotFound, IsAheadOf, IsFurther, AreFewReads, IsReadOnce, one_if_left, IsSound}
 
 -- a reader of the same unit that stands elsewhere
 abbrev pub stands_at : RawPlace → View → ℤ → RawPlace
@@ -67,10 +67,12 @@ pub record HasSought (limit : ℕ) (depth : ℤ) (offset : ℕ) (old : CursorVie
   pub more : old.reads ≤ new.reads
   pub found : (old.follows ≡ true → IsHonestFor limit depth old) → Stands limit outcome new (seek old.raw.end depth offset (rows_of limit old.raw))
   pub yes : outcome ≡ Ok true → IsTrueEntry limit old new × (is_null new.entry ≡ false) × (new.depth ≡ depth)
-  pub no : outcome ≡ Ok false → is_null new.entry ≡ true
+  pub no : outcome ≡ Ok false → IsNotFound limit depth offset old new
   pub refused : (e : Error) → outcome ≡ Err e → IsRefused limit old e new
-  pub place : (e : Error) → outcome ≡ Err e → (old.follows ≡ true → IsHonestFor limit depth old) → IsAheadOf limit old new
+  pub place : (e : Error) → outcome ≡ Err e → (old.follows ≡ true → IsHonestFor limit depth old) → IsAheadOf limit (has_depth depth) old new
   pub there : (t : ℕ) → followed_to old ≡ Some t → old.depth ≡ depth → Stands limit outcome new (first_of_rows old.raw.end depth offset (rows_from limit old.raw t depth))
-  pub once : (t : ℕ) → followed_to old ≡ Some t → old.depth ≡ depth → new.reads ≤ old.reads + 1
+  pub once : (t : ℕ) → followed_to old ≡ Some t → old.depth ≡ depth → new.reads ≡ old.reads + one_if_left (view_from old.raw t)
+  pub refused_there : (e : Error) → outcome ≡ Err e → (t : ℕ) → followed_to old ≡ Some t → old.depth ≡ depth → (new.offset ≡ t) × (new.depth ≡ depth)
+  pub counted : (outcome ≡ Ok false → ⊥) → old.reads < new.reads
   pub plain : old.follows ≡ false → UnlessMemory outcome (IsReadOnce limit old new)
   pub inside : depth ≤ℤ old.raw.depth → (depth -ℤ pos 1) ≤ℤ new.raw.depth

@@ -20,7 +20,11 @@ cursor_of u abbreviations follows = before_first follows (entries_of u abbreviat
 abbrev pub cursor_from : UnitView → Table → Bool → ℕ → Result CursorView Error
 cursor_from u abbreviations follows offset = answer_of (before_first follows) (entries_from u abbreviations (Some offset))
 
+-- a reader of the entries from an offset on, or of all
+abbrev pub raw_start : UnitView → Table → Option ℕ → Result RawPlace Error
+raw_start u abbreviations None = Ok (entries_of u abbreviations)
+raw_start u abbreviations (Some offset) = entries_from u abbreviations (Some offset)
+
 -- a cursor over the entries from an offset on, or over all
 abbrev pub cursor_start : UnitView → Table → Bool → Option ℕ → Result CursorView Error
-cursor_start u abbreviations follows None = Ok (cursor_of u abbreviations follows)
-cursor_start u abbreviations follows (Some offset) = cursor_from u abbreviations follows offset
+cursor_start u abbreviations follows start = answer_of (before_first follows) (raw_start u abbreviations start)

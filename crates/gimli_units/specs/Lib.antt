@@ -16,6 +16,7 @@ pub mod RowChain
 pub mod UnitKind
 pub mod Unit
 pub mod CursorStart
+pub mod CursorLaw
 pub mod NormalValue
 pub mod PassLaw
 pub mod PassReads

@@ -8,8 +8,8 @@ ghost use Rattle.gimli_base.specs.declared.error.Error.TheVariants.{OutOfMemory}
 ghost use Rattle.gimli_base.specs.Reading.{UnlessMemory};
 ghost use Rattle.gimli_units.specs.Entry.{entry_of, is_null, null_entry};
 ghost use Rattle.gimli_units.specs.RawPlace.{RawPlace, next_offset_of, depth_after};
-ghost use Rattle.gimli_units.specs.CursorPlace.{next_row, next_in_depth_first_order, next_of_depth, first_of_rows, some_of};
-ghost use Rattle.gimli_units.specs.CursorMoves.{CursorView, Goes, IsHonestFor, followed_to, rows_from, IsSameUnit, IsTrueEntry, IsRefused, IsAheadOf, IsFurther, AreFewReads, IsReadOnce, one_if_left, StandsBehind, IsSound};
+ghost use Rattle.gimli_units.specs.CursorPlace.{next_row, next_in_depth_first_order, next_of_depth, first_of_rows, some_of, is_entry, has_depth};
+ghost use Rattle.gimli_units.specs.CursorMoves.{CursorView, Goes, IsHonestFor, followed_to, rows_from, view_from, IsSameUnit, IsTrueEntry, IsRefused, IsNotFound, IsAheadOf, IsFurther, AreFewReads, IsReadOnce, one_if_left, StandsBehind, IsSound};
 ghost use Rattle.gimli_units.specs.CursorStart.{before_first};
 ghost use Rattle.gimli_units.specs.CursorRead.{HasRead, HasSought, Stands, following, reference_for};
 
@@ -198,6 +198,7 @@ impl<'abbrev, R: Reader, A: Allocator> EntriesCursor<'abbrev, R, A> {
         ensures offset { OnErr result (self.new.offset ≡ next_offset_of self.old.raw) }
         ensures reads { self.new.reads ≡ self.old.reads + one_if_left self.old.raw.rest }
         ensures once { UnlessMemory result (IsReadOnce R.Offset.limit self.old self.new) }
+        ensures none { result ≡ Ok false → is_null self.new.entry ≡ true }
         ensures few { AreFewReads self.old self.new }
         ensures further { IsFurther self.old self.new }
         ensures unit { IsSameUnit self.old self.new }
@@ -211,8 +212,10 @@ impl<'abbrev, R: Reader, A: Allocator> EntriesCursor<'abbrev, R, A> {
     pub fn next_dfs(&mut self) -> Result<bool>
         ensures moves { UnlessMemory result (Goes R.Offset.limit (next_in_depth_first_order self.old.raw.end) self.old result self.new) }
         ensures true_entry { result ≡ Ok true → IsTrueEntry R.Offset.limit self.old self.new × (is_null self.new.entry ≡ false) }
-        ensures refused { (e : SpecError) → result ≡ Err e → IsRefused R.Offset.limit self.old e self.new × IsAheadOf R.Offset.limit self.old self.new }
+        ensures refused { (e : SpecError) → result ≡ Err e → IsRefused R.Offset.limit self.old e self.new × IsAheadOf R.Offset.limit is_entry self.old self.new }
         ensures once { UnlessMemory result (IsReadOnce R.Offset.limit self.old self.new) }
+        ensures none { result ≡ Ok false → is_null self.new.entry ≡ true }
+        ensures more { self.old.reads ≤ self.new.reads }
         ensures few { AreFewReads self.old self.new }
         ensures further { IsFurther self.old self.new }
         ensures unit { IsSameUnit self.old self.new }
@@ -240,9 +243,12 @@ impl<'abbrev, R: Reader, A: Allocator> EntriesCursor<'abbrev, R, A> {
         ensures idle { is_null self.old.entry ≡ true → (result ≡ Ok false) × (self.new ≡ self.old) }
         ensures true_entry { result ≡ Ok true → IsTrueEntry R.Offset.limit self.old self.new × (is_null self.new.entry ≡ false) × (self.new.depth ≡ self.old.depth) }
         ensures refused { (e : SpecError) → result ≡ Err e → IsRefused R.Offset.limit self.old e self.new }
-        ensures place { (e : SpecError) → result ≡ Err e → (self.old.follows ≡ true → IsHonestFor R.Offset.limit self.old.depth self.old) → IsAheadOf R.Offset.limit self.old self.new }
+        ensures place { (e : SpecError) → result ≡ Err e → (self.old.follows ≡ true → IsHonestFor R.Offset.limit self.old.depth self.old) → IsAheadOf R.Offset.limit (has_depth self.old.depth) self.old self.new }
         ensures taken { (t : ℕ) → followed_to self.old ≡ Some t → Stands R.Offset.limit result self.new (first_of_rows self.old.raw.end self.old.depth self.old.offset (rows_from R.Offset.limit self.old.raw t self.old.depth)) }
-        ensures one_read { (t : ℕ) → followed_to self.old ≡ Some t → self.new.reads ≤ self.old.reads + 1 }
+        ensures one_read { (t : ℕ) → followed_to self.old ≡ Some t → self.new.reads ≡ self.old.reads + one_if_left (view_from self.old.raw t) }
+        ensures refused_there { (e : SpecError) → result ≡ Err e → (t : ℕ) → followed_to self.old ≡ Some t → (self.new.offset ≡ t) × (self.new.depth ≡ self.old.depth) }
+        ensures not_found { result ≡ Ok false → is_null self.old.entry ≡ false → IsNotFound R.Offset.limit self.old.depth self.old.offset self.old self.new }
+        ensures counted { is_null self.old.entry ≡ false → (result ≡ Ok false → ⊥) → self.old.reads < self.new.reads }
         ensures plain { self.old.follows ≡ false → UnlessMemory result (IsReadOnce R.Offset.limit self.old self.new) }
         ensures none { result ≡ Ok false → is_null self.new.entry ≡ true }
         ensures more { self.old.reads ≤ self.new.reads }

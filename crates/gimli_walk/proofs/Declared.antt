@@ -6,7 +6,8 @@ use Rattle.gimli_base.specs.declared.error.Error.TheVariants.{UnexpectedEof, Bad
 use Rattle.gimli_base.specs.Refusal.{number_of}
 use Rattle.gimli_base.specs.Abbreviations.{Map}
 use Rattle.gimli_units.specs.Unit.{UnitView}
-use Rattle.gimli_walk.specs.Text.{Wrote, error_line, declared_text}
+use Rattle.gimli_walk.specs.Lines.{error_line}
+use Rattle.gimli_walk.specs.Text.{Wrote, declared_text}
 use Rattle.gimli_walk.proofs.WrittenLines.{Wrote-only, Wrote-memory}
 
 -- a refusal is that of memory, or another

@@ -3,3 +3,4 @@ pub mod RowLines
 pub mod Roots
 pub mod Declared
 pub mod WordLines
+pub mod CursorRuns

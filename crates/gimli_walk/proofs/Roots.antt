@@ -14,7 +14,8 @@ use Rattle.gimli_units.specs.Rows.{ahead_at}
 use Rattle.gimli_units.specs.RowSteps.{ahead_ended}
 use Rattle.gimli_units.specs.Unit.{UnitView, whole_length, header_size, range_from, entries_in, entries_from}
 use Rattle.gimli_headers.specs.UnitReads.{some_size}
-use Rattle.gimli_walk.specs.Text.{Wrote, end_line, rows_text, unit_text, declared_text}
+use Rattle.gimli_walk.specs.Lines.{end_line}
+use Rattle.gimli_walk.specs.Text.{Wrote, rows_text, unit_text, declared_text}
 use Rattle.gimli_walk.proofs.WrittenLines.{Wrote-only, Wrote-same}
 
 cut_none : (v : View) → cut 0 v ≡ v

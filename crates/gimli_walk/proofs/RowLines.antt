@@ -10,7 +10,8 @@ use Rattle.gimli_units.specs.EntryReads.{entry_at-shorter}
 use Rattle.gimli_units.specs.RawPlace.{RawPlace, next_offset_of, depth_after}
 use Rattle.gimli_units.specs.Rows.{Ahead, ahead_at}
 use Rattle.gimli_units.specs.RowSteps.{ahead_ended, ahead_refused, ahead_more}
-use Rattle.gimli_walk.specs.Text.{Text, Wrote, row_line, end_line, error_line_at, memory_line, rows_text}
+use Rattle.gimli_walk.specs.Lines.{Text, row_line, end_line, error_line_at, memory_line}
+use Rattle.gimli_walk.specs.Text.{Wrote, rows_text}
 use Rattle.gimli_walk.proofs.WrittenLines.{Wrote-more, Wrote-only, Wrote-memory}
 
 -- the text of the rows that are ahead of a reader of entries

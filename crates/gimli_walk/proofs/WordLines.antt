@@ -6,7 +6,8 @@ use Rattle.std.specs.Fn.{Mut, CalledAt}
 use Rattle.std.specs.Borrow.{Bor}
 use Rattle.std.specs.Io.KnownBytes.{Appends, Keeps}
 use Rattle.gimli_walk.specs.declared.mode.Mode.TheVariants.{Rows}
-use Rattle.gimli_walk.specs.Text.{Text, Wrote, all_lines, some_lines, text_of}
+use Rattle.gimli_walk.specs.Lines.{Text}
+use Rattle.gimli_walk.specs.Text.{Wrote, all_lines, some_lines, text_of}
 use Rattle.gimli_walk.specs.Words.{Walked, walked, failed}
 
 Appends-kept : (a b c : Option (List ℕ)) (xs : List ℕ) → Appends a b xs → Keeps b c → Appends a c xs

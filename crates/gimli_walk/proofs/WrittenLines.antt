@@ -4,7 +4,8 @@ use Rattle.std.proofs.lemmas.List.{append-nil}
 use Rattle.std.specs.Prelude.{take, IfOk}
 use Rattle.std.specs.List.{concat}
 use Rattle.std.specs.Io.KnownBytes.{Appends}
-use Rattle.gimli_walk.specs.Text.{Text, only, memory_line, Wrote, all_lines, some_lines}
+use Rattle.gimli_walk.specs.Lines.{Text, only, memory_line}
+use Rattle.gimli_walk.specs.Text.{Wrote, all_lines, some_lines}
 
 -- two writes are one
 Appends-trans : (a b c : Option (List ℕ)) (xs ys : List ℕ) → Appends a b xs → Appends b c ys → Appends a c (xs ++ ys)

@@ -1,17 +1,24 @@
 -- The answers of a list of steps of a cursor, and their text (DWARF 5, 2.3).
-use Rattle.std.specs.Prelude.{ℕ, ℤ, pos, Bool, true, false, ◌++◌, List, [], ◌∷◌, map, codes, Option, Some, None, Result, Ok, Err}
+use Rattle.std.specs.Prelude.{◌≡◌, ℕ, ◌-◌, ℤ, pos, Bool, true, false, ◌||◌, ◌++◌, List, [], ◌∷◌, map, length, codes, Option, Some, None, Result, Ok, Err}
 use Rattle.std.specs.Fmt.{decimal}
+use Rattle.std.specs.Option.{option_map}
 use Rattle.gimli_base.specs.declared.error.Error.{Error}
+use Rattle.gimli_base.specs.declared.error.Error.TheVariants.{NoEntryAtGivenOffset}
+use Rattle.gimli_base.specs.Offset.{answer_of}
 use Rattle.gimli_base.specs.Refusal.{number_of}
-use Rattle.gimli_units.specs.Entry.{Entry}
-use Rattle.gimli_units.specs.Rows.{Ahead}
-use Rattle.gimli_units.specs.Honest.{IsHonest, AreHonest}
-use Rattle.gimli_units.specs.CursorPlace.{Place, Moved, next_row, next_in_depth_first_order, next_of_depth, next_offset, next_depth, current_row}
+use Rattle.gimli_base.specs.View.{View, cut}
+use Rattle.gimli_base.specs.Abbreviations.{Map}
+use Rattle.gimli_units.specs.Entry.{Entry, entry_of, entry_at}
+use Rattle.gimli_units.specs.Rows.{Row, Ahead, ahead_at}
+use Rattle.gimli_units.specs.Unit.{UnitView, whole_length, header_size, range_from, unit_entry_at}
+use Rattle.gimli_units.specs.Honest.{AreHonest, usable}
+use Rattle.gimli_units.specs.CursorPlace.{Place, Moved, next_row, next_in_depth_first_order, next_of_depth, first_of_rows, next_offset, next_depth}
+use Rattle.gimli_walk.specs.declared.cursor.CursorAnswer.{CursorAnswer}
 use Rattle.gimli_walk.specs.declared.cursor.CursorStep.{CursorStep}
 use Rattle.gimli_walk.specs.declared.cursor.CursorStep.TheVariants.{NextEntry, NextDfs, NextSibling}
-use Rattle.gimli_walk.specs.Text.{Text, row_line}
+use Rattle.gimli_walk.specs.Lines.{Text, row_line}
 
--- what a step answers, and where the cursor then stands
+-- what a step answers, and where the cursor then stands; the pair is that of the current entry, where there is one
 pub record Answer : Type 0 where
   pub outcome : Result Bool Error
   pub current : Option Entry
@@ -20,13 +27,24 @@ pub record Answer : Type 0 where
   pub next_offset : ℕ
   pub next_depth : ℤ
 
+-- an answer that code holds, by what its readers and offsets stand for
+abbrev pub seen : {R A O : Type 0} → (R → View) → (O → ℕ) → CursorAnswer R A O → Answer
+seen f g a = record {
+  outcome = a.outcome;
+  current = option_map (λ e. entry_of f g e.tag e.has_children e.attrs.items) a.current;
+  offset = g a.offset.0;
+  depth = a.depth;
+  next_offset = g a.next_offset.0;
+  next_depth = a.next_depth;
+}
+
 abbrev pub step_of : ℕ → CursorStep → Place → Moved
 step_of end NextEntry p = next_row end p
 step_of end NextDfs p = next_in_depth_first_order end p
 step_of end NextSibling p = next_of_depth end p
 
-abbrev pub answer_of : Moved → Answer
-answer_of m = record {
+abbrev pub told : Moved → Answer
+told m = record {
   outcome = m.outcome;
   current = m.place.current;
   offset = m.place.offset;
@@ -35,45 +53,111 @@ answer_of m = record {
   next_depth = next_depth m.place.ahead;
 }
 
--- the answers of these steps, in their order, from a place
+-- the answers of these steps, in their order, from a place; `end` is the offset of the end of the bytes
 abbrev pub answers : ℕ → List CursorStep → Place → List Answer
 answers end [] p = []
-answers end (s ∷ rest) p = answer_of (step_of end s p) ∷ answers end rest (step_of end s p).place
+answers end (s ∷ rest) p = told (step_of end s p) ∷ answers end rest (step_of end s p).place
 
 -- where a cursor stands before its first step
 abbrev pub start_of : Ahead → Place
 start_of a = record { ahead = a; current = None; offset = 0; depth = pos 0 }
 
+-- the rows of a unit from a view of its bytes on, whose place has this depth
+abbrev pub unit_rows_at : ℕ → UnitView → Map → ℤ → View → Ahead
+unit_rows_at limit u declared depth v = ahead_at (entry_at limit u.encoding declared) (whole_length u) depth v
+
+-- the bytes from a start on: an offset, or the first entry
+abbrev pub start_view : UnitView → Option ℕ → Result View Error
+start_view u None = Ok u.entries
+start_view u (Some offset) = range_from u offset
+
+-- the answers of a run over these steps from a view on
+abbrev pub answers_at : ℕ → UnitView → Map → List CursorStep → View → List Answer
+answers_at limit u declared steps v = answers (whole_length u) steps (start_of (unit_rows_at limit u declared (pos 0) v))
+
+-- the answers of a run from a start, which may be refused
+abbrev pub run_answers : ℕ → UnitView → Map → Option ℕ → List CursorStep → Result (List Answer) Error
+run_answers limit u declared start steps = answer_of (answers_at limit u declared steps) (start_view u start)
+
+abbrev pub is_sibling : CursorStep → Bool
+is_sibling NextEntry = false
+is_sibling NextDfs = false
+is_sibling NextSibling = true
+
 -- whether a step among these looks for a sibling
 abbrev pub any_sibling : List CursorStep → Bool
 any_sibling [] = false
-any_sibling (NextSibling ∷ rest) = true
-any_sibling (s ∷ rest) = any_sibling rest
+any_sibling (s ∷ rest) = is_sibling s || any_sibling rest
 
--- the current entry and the rows ahead are honest
-abbrev pub IsHonestPlace : ℕ → Place → Type 0
-IsHonestPlace end p = elim (current_row p) [ None ↦ Unit {0} | Some r ↦ IsHonest end r p.ahead.rows ] × AreHonest end p.ahead.rows
+-- the rows of a unit from a view on are honest
+abbrev pub IsHonestAt : ℕ → UnitView → Map → View → Type 0
+IsHonestAt limit u declared v = AreHonest (whole_length u) (unit_rows_at limit u declared (pos 0) v).rows
 
-abbrev pub outcome_text : Result Bool Error → List ℕ
-outcome_text (Ok true) = codes "yes"
-outcome_text (Ok false) = codes "no"
-outcome_text (Err e) = codes "error " ++ decimal (number_of e)
+-- the rows of a unit from a start on are honest
+abbrev pub IsHonestFrom : ℕ → UnitView → Map → Result View Error → Type 0
+IsHonestFrom limit u declared (Ok v) = IsHonestAt limit u declared v
+IsHonestFrom limit u declared (Err e) = Unit {0}
+
+-- An answer is true, whatever the references: its entry is what the unit has at its offset, a null or a refusal likewise.
+pub record IsTrueAnswer (limit : ℕ) (u : UnitView) (declared : Map) (a : Answer) : Type 0 where
+  pub entry : (e : Entry) → a.current ≡ Some e → unit_entry_at limit u declared a.offset ≡ Ok e
+  pub null : a.outcome ≡ Ok true → a.current ≡ None → unit_entry_at limit u declared a.offset ≡ Err (NoEntryAtGivenOffset a.offset)
+  pub refusal : (x : Error) → a.outcome ≡ Err x → unit_entry_at limit u declared a.offset ≡ Err x
+
+abbrev pub AreTrueAnswers : ℕ → UnitView → Map → List Answer → Type 0
+AreTrueAnswers limit u declared [] = Unit {0}
+AreTrueAnswers limit u declared (a ∷ rest) = IsTrueAnswer limit u declared a × AreTrueAnswers limit u declared rest
+
+-- where the reference of an answer's entry leads, if it can be followed
+abbrev pub usable_of : ℕ → Answer → Option ℕ
+usable_of end a = elim a.current [
+  | None ↦ None
+  | Some e ↦ usable end (record { offset = a.offset; next = a.next_offset; depth = a.depth; entry = e })
+]
+
+-- An answer, and that of a step to a sibling behind it: where the first one's reference can be followed, it is followed, and the second
+-- answers what stands there, with the entry's depth.
+abbrev pub IsTaken : ℕ → UnitView → Map → CursorStep → Answer → Answer → Type 0
+IsTaken limit u declared s a b = is_sibling s ≡ true → (t : ℕ) → usable_of (whole_length u) a ≡ Some t
+    → b ≡ told (first_of_rows (whole_length u) a.depth a.offset (unit_rows_at limit u declared a.depth (cut (t - header_size u) u.entries)))
+
+-- references are followed, from each answer to the next
+abbrev pub AreTakenFrom : ℕ → UnitView → Map → Answer → List CursorStep → List Answer → Type 0
+AreTakenFrom limit u declared a [] rest = Unit {0}
+AreTakenFrom limit u declared a (s ∷ steps) [] = Unit {0}
+AreTakenFrom limit u declared a (s ∷ steps) (b ∷ rest) = IsTaken limit u declared s a b × AreTakenFrom limit u declared b steps rest
+
+abbrev pub AreTaken : ℕ → UnitView → Map → List CursorStep → List Answer → Type 0
+AreTaken limit u declared [] all = Unit {0}
+AreTaken limit u declared (s ∷ steps) [] = Unit {0}
+AreTaken limit u declared (s ∷ steps) (a ∷ rest) = AreTakenFrom limit u declared a steps rest
+
+-- what a step answered, before the row that it ended on
+unfoldable pub outcome_text : Result Bool Error → List ℕ
+outcome_text (Ok true) = codes "yes "
+outcome_text (Ok false) = codes "no "
+outcome_text (Err e) = codes "error " ++ (decimal (number_of e) ++ (32 ∷ []))
+
+abbrev pub tag_of : Option Entry → ℕ
+tag_of None = 0
+tag_of (Some e) = e.tag.0
+
+abbrev pub flag_of : Option Entry → Bool
+flag_of None = false
+flag_of (Some e) = e.has_children
 
 -- the outcome, and the pair with the tag and the children flag of the current entry, both 0 where there is none
 abbrev pub answer_line : Answer → List ℕ
-answer_line a = outcome_text a.outcome ++ (32 ∷ elim a.current [
-  | None ↦ row_line a.offset a.depth 0 false
-  | Some e ↦ row_line a.offset a.depth e.tag.0 e.has_children
-])
+answer_line a = outcome_text a.outcome ++ row_line a.offset a.depth (tag_of a.current) (flag_of a.current)
 
-abbrev pub is_refusal : Result Bool Error → Bool
-is_refusal (Ok b) = false
-is_refusal (Err e) = true
+abbrev pub status_with : Result Bool Error → ℕ → ℕ
+status_with (Ok b) rest = rest
+status_with (Err e) rest = 1
 
 abbrev pub status_of : List Answer → ℕ
 status_of [] = 0
-status_of (a ∷ rest) = elim (is_refusal a.outcome) [ true ↦ 1 | false ↦ status_of rest ]
+status_of (a ∷ rest) = status_with a.outcome (status_of rest)
 
 -- a line an answer; the status is 1 where one is a refusal
 abbrev pub answers_text : List Answer → Text
-answers_text as = record { lines = map answer_line as; status = status_of as }
+answers_text all = record { lines = map answer_line all; status = status_of all }

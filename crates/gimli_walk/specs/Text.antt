@@ -1,11 +1,9 @@
 -- The text of a walk over the first unit of `.debug_info`, as a function of the bytes of two sections.
 use Rattle.std.specs.Prelude.{◌≡◌, ℕ, ◌<◌, ◌^◌, ◌==◌, if◌then◌else◌, Bool, true, false, ℤ, pos, List, [], ◌∷◌, ◌++◌, map, take, length, codes, Option, Some, None, Result, Ok, Err}
 use Rattle.std.specs.List.{concat}
-use Rattle.std.specs.Fmt.{digits, signed_decimal, decimal}
 use Rattle.std.specs.Io.KnownBytes.{Appends}
 use Rattle.gimli_base.specs.declared.common.SectionId.TheVariants.{DebugInfo}
 use Rattle.gimli_base.specs.declared.error.Error.{Error}
-use Rattle.gimli_base.specs.declared.error.Error.TheVariants.{OutOfMemory}
 use Rattle.gimli_base.specs.Refusal.{number_of}
 use Rattle.gimli_base.specs.View.{View}
 use Rattle.gimli_base.specs.Reading.{Reads}
@@ -14,51 +12,12 @@ use Rattle.gimli_units.specs.Entry.{entry_at}
 use Rattle.gimli_units.specs.Rows.{Row, Ahead, ahead_at}
 use Rattle.gimli_units.specs.Unit.{UnitView, whole_length}
 use Rattle.gimli_headers.specs.Header.{unit_at}
+use Rattle.gimli_walk.specs.Lines.{Text, row_line, end_line, no_unit_line, error_line, error_line_at, memory_line, only}
 use Rattle.gimli_walk.specs.declared.mode.Mode.{Mode}
 use Rattle.gimli_walk.specs.declared.mode.Mode.TheVariants.{Rows}
 
--- the lines of a walk, and the exit status
-pub record Text : Type 0 where
-  pub lines : List (List ℕ)
-  pub status : ℕ
-
--- a number in hexadecimal, in lower case and without a prefix
-abbrev pub hexadecimal : ℕ → List ℕ
-hexadecimal n = digits 16 false n
-
-abbrev pub bit : Bool → ℕ
-bit true = 1
-bit false = 0
-
--- offset, depth, tag, and whether children follow
-unfoldable pub row_line : ℕ → ℤ → ℕ → Bool → List ℕ
-row_line offset depth tag has_children =
-    hexadecimal offset ++ (32 ∷ (signed_decimal depth ++ (32 ∷ (hexadecimal tag ++ (32 ∷ (decimal (bit has_children) ++ 10 ∷ []))))))
-
 abbrev pub line_of : Row → List ℕ
 line_of r = row_line r.offset r.depth r.entry.tag.0 r.entry.has_children
-
-abbrev pub end_line : List ℕ
-end_line = codes "end\n"
-
-abbrev pub no_unit_line : List ℕ
-no_unit_line = codes "no unit\n"
-
--- a refusal, by its number
-unfoldable pub error_line : ℕ → List ℕ
-error_line number = codes "error " ++ (decimal number ++ (10 ∷ []))
-
--- a refusal at an offset of the unit
-unfoldable pub error_line_at : ℕ → ℕ → List ℕ
-error_line_at number offset = codes "error " ++ (decimal number ++ (32 ∷ (hexadecimal offset ++ (10 ∷ []))))
-
--- the line that ends a walk for want of memory
-abbrev pub memory_line : List ℕ
-memory_line = error_line (number_of OutOfMemory)
-
--- a text of one line
-abbrev pub only : List ℕ → ℕ → Text
-only line status = record { lines = line ∷ []; status = status }
 
 -- how the rows end
 abbrev pub last_line : Option Error → ℕ → List ℕ

@@ -1,12 +1,22 @@
 //! Runs of a cursor over a list of steps.
 
-ghost use Rattle.std.specs.Prelude.{◌≡◌, false, map, Result, IfOk};
+ghost use Rattle.std.specs.Prelude.{◌≡◌, ℕ, ◌<◌, true, false, map, length, IfOk, IfErr, Ok, Err, Some, Option};
+ghost use Rattle.std.specs.Option.{option_map};
+ghost use Rattle.gimli_base.specs.declared.error.Error.{Error as SpecError};
+ghost use Rattle.gimli_base.specs.declared.error.Error.TheVariants.{OutOfMemory};
+ghost use Rattle.gimli_base.specs.Reading.{UnlessMemory};
+ghost use Rattle.gimli_base.specs.Table.{found};
+ghost use Rattle.gimli_units.specs.Entry.{entry_of, is_null};
+ghost use Rattle.gimli_units.specs.CursorPlace.{some_of, first_of_rows};
+ghost use Rattle.gimli_units.specs.CursorMoves.{Goes, IsHonestFor, followed_to, rows_from, IsSameUnit, IsTrueEntry, IsRefused, IsFurther};
+ghost use Rattle.gimli_units.specs.CursorRead.{Stands};
 ghost use Rattle.gimli_walk.specs.Runs.{IsFront};
+ghost use Rattle.gimli_walk.specs.Cursors.{seen, step_of, is_sibling, any_sibling, run_answers, start_view, IsHonestFrom, AreTrueAnswers, AreTaken};
+ghost use Rattle.gimli_walk.specs.CursorTurns.{HasStepped, HasAnswered, HasRun};
 
 use crate::Run;
-use gimli_base::{Error, Reader, Result};
-use gimli_units::{DebuggingInformationEntry, EntriesCursor, UnitHeader, UnitOffset};
-use gimli_base::Abbreviations;
+use gimli_base::{Abbreviations, Error, Reader, Result};
+use gimli_units::{DebuggingInformationEntry, EntriesCursor, HasUnit, UnitHeader, UnitOffset};
 use std::alloc::Allocator;
 
 /// A step of a cursor.
@@ -21,31 +31,122 @@ pub enum CursorStep {
 }
 
 /// What a step answered, and where the cursor then stood.
-#[derive_where(Debug)]
 #[derive(Drop)]
-pub struct CursorAnswer<R: Reader, A: Allocator> {
-    /// Whether there is an entry, or the refusal.
+#[derive_where(Debug; R, Offset)]
+pub struct CursorAnswer<R, A: Allocator, Offset = <R as Reader>::Offset> {
+    /// Whether there is an entry, for `NextEntry` also a null, or the refusal.
     pub outcome: Result<bool>,
     /// The current entry.
-    pub current: Option<DebuggingInformationEntry<R, A>>,
+    pub current: Option<DebuggingInformationEntry<R, A, Offset>>,
     /// The offset of the entry or null that was read last.
-    pub offset: UnitOffset<R::Offset>,
+    pub offset: UnitOffset<Offset>,
     /// The depth of the entry or null that was read last.
     pub depth: isize,
     /// The offset of what is read next.
-    pub next_offset: UnitOffset<R::Offset>,
+    pub next_offset: UnitOffset<Offset>,
     /// The depth of what is read next.
     pub next_depth: isize,
 }
 
 // Takes a step.
-pub(crate) fn take<R: Reader, A: Allocator + Copy>(
+fn take<R: Reader, A: Allocator>(
     cursor: &mut EntriesCursor<'_, R, A>,
     step: CursorStep,
-) -> Result<bool> {
+) -> Result<bool>
+    ensures moves { (is_sibling step ≡ true → cursor.old.follows ≡ true → IsHonestFor R.Offset.limit cursor.old.depth cursor.old) → UnlessMemory result (Goes R.Offset.limit (step_of cursor.old.raw.end step) cursor.old result cursor.new) }
+    ensures true_entry { result ≡ Ok true → IsTrueEntry R.Offset.limit cursor.old cursor.new }
+    ensures none { (result ≡ Ok true → ⊥) → is_null cursor.new.entry ≡ true }
+    ensures refused { (e : SpecError) → result ≡ Err e → IsRefused R.Offset.limit cursor.old e cursor.new }
+    ensures taken { is_sibling step ≡ true → (t : ℕ) → followed_to cursor.old ≡ Some t → Stands R.Offset.limit result cursor.new (first_of_rows cursor.old.raw.end cursor.old.depth cursor.old.offset (rows_from R.Offset.limit cursor.old.raw t cursor.old.depth)) }
+    ensures further { IsFurther cursor.old cursor.new }
+    ensures unit { IsSameUnit cursor.old cursor.new }
+{
     match step {
         CursorStep::NextEntry => cursor.next_entry(),
         CursorStep::NextDfs => cursor.next_dfs(),
         CursorStep::NextSibling => cursor.next_sibling(),
+    }
+}
+
+// Whether memory was refused.
+fn wants_memory(outcome: &Result<bool>) -> bool
+    ensures { result ≡ false → outcome.now ≡ Err OutOfMemory → ⊥ }
+{
+    match outcome {
+        Err(Error::OutOfMemory) => true,
+        _ => false,
+    }
+}
+
+// A copy of the current entry, if there is one. Refusal: `OutOfMemory`.
+fn current_of<R: Reader, A: Allocator + Copy>(
+    alloc: A,
+    cursor: &EntriesCursor<'_, R, A>,
+) -> Result<Option<DebuggingInformationEntry<R, A>>>
+    ensures { IfOk result (λ o. option_map (λ e. entry_of R.view R.Offset.number e.tag e.has_children e.attrs.items) o ≡ some_of cursor.now.entry) }
+{
+    match cursor.current() {
+        Some(entry) => {
+            let copy = entry.try_clone(alloc)?;
+            Ok(Some(copy))
+        }
+        None => Ok(None),
+    }
+}
+
+// Takes a step, and tells its answer. Refusal: `OutOfMemory`.
+fn next_answer<R: Reader, A: Allocator + Copy>(
+    alloc: A,
+    cursor: &mut EntriesCursor<'_, R, A>,
+    step: CursorStep,
+) -> Result<CursorAnswer<R, A>>
+    ensures answered { IfOk result (λ a. HasAnswered R.Offset.limit step cursor.old (seen R.view R.Offset.number a) cursor.new) }
+{
+    let outcome = take(cursor, step);
+    if wants_memory(&outcome) {
+        return Err(Error::OutOfMemory);
+    }
+    let current = current_of(alloc, cursor)?;
+    Ok(CursorAnswer {
+        outcome,
+        current,
+        offset: cursor.offset(),
+        depth: cursor.depth(),
+        next_offset: cursor.next_offset(),
+        next_depth: cursor.next_depth(),
+    })
+}
+
+// The answers of these steps, as far as there is memory for them.
+fn run_steps<R: Reader, A: Allocator + Copy>(
+    alloc: A,
+    cursor: &mut EntriesCursor<'_, R, A>,
+    steps: &[CursorStep],
+) -> Run<CursorAnswer<R, A>, A>
+    ensures run { HasRun R.Offset.limit cursor.old steps.now (map (seen R.view R.Offset.number) result.answers.items) }
+    ensures stopped { result.stopped ≡ true → length result.answers.items < length steps.now }
+    ensures whole { result.stopped ≡ false → length result.answers.items ≡ length steps.now }
+{
+    let mut answers = Vec::new(alloc);
+    'steps: for step in steps {
+        let Ok(answer) = next_answer(alloc, cursor, *step) else {
+            return Run {
+                answers,
+                stopped: true,
+            };
+        };
+        match answers.push(answer) {
+            Ok(()) => {}
+            Err(_) => {
+                return Run {
+                    answers,
+                    stopped: true,
+                };
+            }
+        }
+    }
+    Run {
+        answers,
+        stopped: false,
     }
 }

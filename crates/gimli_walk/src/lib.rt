@@ -1,12 +1,14 @@
 //! Whole walks over a unit, as text.
 #![tactic(auto)]
 
+mod cursor;
 mod lines;
 mod mode;
 mod run;
 mod text;
 mod words;
 
+pub use cursor::{CursorAnswer, CursorStep};
 pub use lines::WriteFault;
 pub use mode::Mode;
 pub use run::{Run, run_type_units, run_units};

@@ -3,7 +3,7 @@
 ghost use Rattle.std.specs.Prelude.{◌≡◌, OnOk};
 ghost use Rattle.std.specs.Io.KnownBytes.{Appends};
 ghost use Rattle.gimli_base.specs.Refusal.{number_of};
-ghost use Rattle.gimli_walk.specs.Text.{row_line, end_line, no_unit_line, error_line, error_line_at};
+ghost use Rattle.gimli_walk.specs.Lines.{row_line, end_line, no_unit_line, error_line, error_line_at};
 
 use gimli_base::Error;
 use std::io::Write;
@@ -13,7 +13,7 @@ use std::io::Write;
 pub struct WriteFault;
 
 /// Writes the line of a row: its offset and tag in hexadecimal, its depth, and whether children follow.
-#[tactic(auto, unfolding(crate::specs::Text::row_line))]
+#[tactic(auto, unfolding(crate::specs::Lines::row_line))]
 pub(crate) fn write_row<W: Write>(
     out: &mut W,
     offset: u64,
@@ -42,7 +42,7 @@ pub(crate) fn write_no_unit<W: Write>(out: &mut W) -> Result<(), WriteFault>
 }
 
 /// Writes the line of a refusal.
-#[tactic(auto, unfolding(crate::specs::Text::error_line))]
+#[tactic(auto, unfolding(crate::specs::Lines::error_line))]
 pub(crate) fn write_error<W: Write>(out: &mut W, error: Error) -> Result<(), WriteFault>
     ensures { OnOk result (Appends (W.contents out.old) (W.contents out.new) (error_line (number_of error))) }
 {
@@ -51,7 +51,7 @@ pub(crate) fn write_error<W: Write>(out: &mut W, error: Error) -> Result<(), Wri
 }
 
 /// Writes the line of a refusal at an offset of the unit.
-#[tactic(auto, unfolding(crate::specs::Text::error_line_at))]
+#[tactic(auto, unfolding(crate::specs::Lines::error_line_at))]
 pub(crate) fn write_error_at<W: Write>(
     out: &mut W,
     error: Error,

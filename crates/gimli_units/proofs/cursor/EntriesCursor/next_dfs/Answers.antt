@@ -2,6 +2,7 @@ use Rattle.std.proofs.Common.{rules, ◌≡◌, refl, sym, ap, ◌∙◌, arith,
 use Rattle.std.specs.Prelude.{Bool, Result, not}
 use Rattle.std.proofs.lemmas.Bool.{not-true, not-false}
 use Rattle.gimli_base.specs.declared.error.Error.{Error}
+use Rattle.gimli_units.specs.CursorPlace.{is_entry}
 use Rattle.gimli_units.proofs.Onward.{Onward, onward_read, read_once, true_entry, true_refusal, unless_then}
 use Rattle.gimli_units.proofs.Walking.{Walking, walking_start, walking_on, walked_to, walked_out, refused_place, read_shorter}
 use Rattle.gimli_units.proofs.cursor.EntriesCursor.next_dfs.Goals as goal
@@ -48,7 +49,7 @@ returns-in_err-read_next-clause-refused g c e h =
     let r : c.from_residual.result ≡ c.read_next.result = search rules in
     let fails : c.read_next.result ≡ Err e = sym r ∙ h in (
       true_refusal limit c.args.self.now c.walk.self c.read_next.result c.read_next.new.self c.walk.invariant.onward c.read_next.ensures.read e fails,
-      c.walk.invariant.places _ _ (refused_place limit c.walk.self c.read_next.result c.read_next.new.self c.read_next.ensures.read e fails),
+      c.walk.invariant.places _ _ (refused_place limit is_entry c.walk.self c.read_next.result c.read_next.new.self c.read_next.ensures.read e fails),
     )
 
 pub returns-in_err-read_next-clause-once : goal.returns-in_err-read_next-clause-once

@@ -19,3 +19,18 @@ returns-clause-moves g c h =
     let at = ap (λ (x : CursorView). x.offset) c.self.view_is in
     let found = rw (deep, at) at c.seek.ensures.found in
     unless_then c.seek.result (found h) (λ k. k ∙ sibling_sought g.R.Offset.ReaderOffset.limit c.args.self.now entry)
+
+pub returns-clause-refused_there : goal.returns-clause-refused_there
+returns-clause-refused_there g c e h t leads =
+    let x = c.self.inside.entry in
+    let fits : FitsSigned w64 x.depth = search rules in
+    let deep = to_z-of_z w64 x.depth fits ∙ ap (λ (x : CursorView). x.depth) c.self.view_is in
+    (rw deep at c.seek.ensures.refused_there) e h t leads refl
+
+pub returns-clause-not_found : goal.returns-clause-not_found
+returns-clause-not_found g c h some =
+    let x = c.self.inside.entry in
+    let fits : FitsSigned w64 x.depth = search rules in
+    let deep = to_z-of_z w64 x.depth fits ∙ ap (λ (x : CursorView). x.depth) c.self.view_is in
+    let at = ap (λ (x : CursorView). x.offset) c.self.view_is in
+    (rw (deep, at) at c.seek.ensures.no) h

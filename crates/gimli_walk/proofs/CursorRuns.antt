@@ -1,0 +1,26 @@
+-- The answers of a run, step by step.
+use Rattle.std.proofs.Common.{◌≡◌, ℕ, ◌+◌, ◌-◌, ◌<◌, ◌≤◌, ◌++◌, ℤ, pos, Bool, true, false, List, [], ◌∷◌, length, map, drop, Option, Some, None, Result, Ok, Err, refl, sym, ap, ◌∙◌, subst, arith, get_or, append_assoc}
+use Rattle.std.proofs.lemmas.List.{drop_more, drop_all, map-append, append-nil}
+use Rattle.gimli_units.specs.CursorMoves.{CursorView}
+use Rattle.gimli_walk.specs.declared.cursor.CursorStep.{CursorStep}
+use Rattle.gimli_walk.specs.Cursors.{Answer}
+use Rattle.gimli_walk.specs.CursorTurns.{HasAnswered, HasRun}
+
+-- one more answer
+pub run_more : (limit : ℕ) (start here new : CursorView) (steps : List CursorStep) (i : ℕ) (s : CursorStep) (before after : List Answer) (a : Answer)
+    → drop i steps ≡ s ∷ drop (i + 1) steps → HasAnswered limit s here a new → after ≡ before ++ (a ∷ [])
+    → ((rest : List Answer) → HasRun limit here (drop i steps) rest → HasRun limit start steps (before ++ rest))
+    → (rest : List Answer) → HasRun limit new (drop (i + 1) steps) rest → HasRun limit start steps (after ++ rest)
+run_more limit start here new steps i s before after a next answered is completes rest more =
+    let joined : after ++ rest ≡ before ++ (a ∷ rest) = ap (λ xs. xs ++ rest) is ∙ append_assoc before (a ∷ []) rest in
+    let one : HasRun limit here (drop i steps) (a ∷ rest) = rw next (new, answered, more) in
+    rw joined (completes (a ∷ rest) one)
+
+-- no more answers
+pub run_done : (limit : ℕ) (start here : CursorView) (steps : List CursorStep) (i : ℕ) (before : List Answer)
+    → ((rest : List Answer) → HasRun limit here (drop i steps) rest → HasRun limit start steps (before ++ rest)) → HasRun limit start steps before
+run_done limit start here steps i before completes = rw (append-nil before) at (completes [] (none (drop i steps)))
+  where
+    none : (left : List CursorStep) → HasRun limit here left []
+    none [] = tt
+    none (s ∷ left) = tt

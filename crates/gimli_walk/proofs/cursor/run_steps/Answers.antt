@@ -1,0 +1,19 @@
+use Rattle.std.proofs.Common.{rules, ◌≡◌, ◌++◌, [], ◌∷◌, refl, sym, ap, ◌∙◌, arith, map, drop}
+use Rattle.std.proofs.lemmas.List.{drop_more, map-append}
+use Rattle.gimli_walk.specs.Cursors.{seen}
+use Rattle.gimli_walk.proofs.CursorRuns.{run_more, run_done}
+use Rattle.gimli_walk.proofs.cursor.run_steps.Goals as goal
+
+pub returns-clause-run : goal.returns-clause-run
+returns-clause-run g c = run_done _ _ _ _ _ _ c.steps.invariant.completes
+
+pub returns-in_default-clause-run : goal.returns-in_default-clause-run
+returns-in_default-clause-run g c = run_done _ _ _ _ _ _ c.steps.invariant.completes
+
+pub steps-preserved : goal.steps-preserved
+steps-preserved g c =
+    let f = seen g.R.Reader.view g.R.Offset.ReaderOffset.number in
+    let items = c.in-Ok-push.ensures.items in
+    let seen_items = ap (map f) items ∙ map-append f c.steps.answers.items (c.in-Ok.answer ∷ []) in
+    let next = drop_more _ _ _ c.steps-test.true in
+    ?

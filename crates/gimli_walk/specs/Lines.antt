@@ -1,0 +1,45 @@
+-- The lines that a walk writes (DWARF 5, 2.3).
+use Rattle.std.specs.Prelude.{ℕ, Bool, true, false, ℤ, List, [], ◌∷◌, ◌++◌, codes}
+use Rattle.std.specs.Fmt.{digits, signed_decimal, decimal}
+use Rattle.gimli_base.specs.declared.error.Error.TheVariants.{OutOfMemory}
+use Rattle.gimli_base.specs.Refusal.{number_of}
+
+-- the lines of a walk, and the exit status
+pub record Text : Type 0 where
+  pub lines : List (List ℕ)
+  pub status : ℕ
+
+-- a number in hexadecimal, in lower case and without a prefix
+abbrev pub hexadecimal : ℕ → List ℕ
+hexadecimal n = digits 16 false n
+
+abbrev pub bit : Bool → ℕ
+bit true = 1
+bit false = 0
+
+-- offset, depth, tag, and whether children follow
+unfoldable pub row_line : ℕ → ℤ → ℕ → Bool → List ℕ
+row_line offset depth tag has_children =
+    hexadecimal offset ++ (32 ∷ (signed_decimal depth ++ (32 ∷ (hexadecimal tag ++ (32 ∷ (decimal (bit has_children) ++ 10 ∷ []))))))
+
+abbrev pub end_line : List ℕ
+end_line = codes "end\n"
+
+abbrev pub no_unit_line : List ℕ
+no_unit_line = codes "no unit\n"
+
+-- a refusal, by its number
+unfoldable pub error_line : ℕ → List ℕ
+error_line number = codes "error " ++ (decimal number ++ (10 ∷ []))
+
+-- a refusal at an offset of the unit
+unfoldable pub error_line_at : ℕ → ℕ → List ℕ
+error_line_at number offset = codes "error " ++ (decimal number ++ (32 ∷ (hexadecimal offset ++ (10 ∷ []))))
+
+-- the line that ends a walk for want of memory
+abbrev pub memory_line : List ℕ
+memory_line = error_line (number_of OutOfMemory)
+
+-- a text of one line
+abbrev pub only : List ℕ → ℕ → Text
+only line status = record { lines = line ∷ []; status = status }
