@@ -17,6 +17,7 @@ pub mod UnitKind
 pub mod Unit
 pub mod CursorStart
 pub mod CursorLaw
+pub mod PlaceLaw
 pub mod NormalValue
 pub mod PassLaw
 pub mod PassReads

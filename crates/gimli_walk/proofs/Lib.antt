@@ -4,3 +4,4 @@ pub mod Roots
 pub mod Declared
 pub mod WordLines
 pub mod CursorRuns
+pub mod CursorTruth
