@@ -1,13 +1,16 @@
 -- The text of a unit whose declarations are refused.
-use Rattle.std.proofs.Common.{◌≡◌, ℕ, ◌<◌, List, Option, Result, Ok, Err, refl, arith, length, ◌⊎◌, inl, inr, length-append}
+use Rattle.std.proofs.Common.{◌≡◌, ℕ, ◌<◌, List, [], ◌∷◌, sym, ap, Option, Result, Ok, Err, refl, arith, length, ◌⊎◌, inl, inr, length-append}
 use Rattle.std.specs.Io.KnownBytes.{Appends}
 use Rattle.gimli_base.specs.declared.error.Error.{Error}
 use Rattle.gimli_base.specs.declared.error.Error.TheVariants.{UnexpectedEof, BadUnsignedLeb128, BadSignedLeb128, UnknownReservedLength, UnknownVersion, UnknownUnitType, UnsupportedAddressSize, UnsupportedSegmentSize, UnsupportedOffset, UnsupportedOffsetSize, OffsetOutOfBounds, NoEntryAtGivenOffset, InvalidAbbreviationCode, UnknownForm, InvalidImplicitConst, UnknownRangeListsEntry, UnknownLocListsEntry, AddressOverflow, AbbreviationTagZero, InvalidAbbreviationChildren, AttributeNameZero, AttributeFormZero, DuplicateAbbreviationCode, OutOfMemory}
 use Rattle.gimli_base.specs.Refusal.{number_of}
 use Rattle.gimli_base.specs.Abbreviations.{Map}
 use Rattle.gimli_units.specs.Unit.{UnitView}
-use Rattle.gimli_walk.specs.Lines.{error_line}
-use Rattle.gimli_walk.specs.Text.{Wrote, declared_text}
+use Rattle.gimli_walk.specs.declared.mode.Mode.{Mode}
+use Rattle.gimli_walk.proofs.AnswerLines.{if_ok}
+use Rattle.std.specs.Prelude.{IfOk}
+use Rattle.gimli_walk.specs.Lines.{Text, error_line, memory_line}
+use Rattle.gimli_walk.specs.Text.{Wrote, WroteText, wrote, no_line, declared_text, mode_text, IsHonestMode, IsHonestDeclared}
 use Rattle.gimli_walk.proofs.WrittenLines.{Wrote-only, Wrote-memory}
 
 -- a refusal is that of memory, or another
@@ -37,14 +40,22 @@ memory_or_not AttributeFormZero = inr (λ h. cc)
 memory_or_not DuplicateAbbreviationCode = inr (λ h. cc)
 memory_or_not OutOfMemory = inl refl
 
-some_line : (limit : ℕ) (u : UnitView) (m : Result Map Error) → 0 < length (declared_text limit u m).lines
-some_line limit u (Ok declared) = simp length-append (omega arith)
-some_line limit u (Err e) = omega arith
-
 -- the line of a refusal, be it that of memory
-pub undeclared : (limit : ℕ) (old new : Option (List ℕ)) (u : UnitView) (m : Result Map Error) (e : Error)
-    → ((e ≡ OutOfMemory → ⊥) → Err e ≡ m) → Appends old new (error_line (number_of e)) → Wrote old new (declared_text limit u m) 1
-undeclared limit old new u m e refused h = elim (memory_or_not e) [
-  | inl memory ↦ Wrote-memory old new (declared_text limit u m) (some_line limit u m) (rw memory at h)
-  | inr other ↦ rw (← refused other) (Wrote-only old new (error_line (number_of e)) 1 h)
+pub undeclared : (old new : Option (List ℕ)) (text : UnitView → Map → Text) (u : UnitView) (m : Result Map Error) (e : Error)
+    → ((e ≡ OutOfMemory → ⊥) → Err e ≡ m) → Appends old new (error_line (number_of e)) → WroteText old new (declared_text text u m) 1
+undeclared old new text u m e refused h = elim (memory_or_not e) [
+  | inl memory ↦ memory_only (declared_text text u m).lines refl (rw memory at h)
+  | inr other ↦ wrote (rw (← refused other) (Wrote-only old new (error_line (number_of e)) 1 h))
 ]
+  where
+    memory_only : (lines : List (List ℕ)) → lines ≡ (declared_text text u m).lines → Appends old new memory_line → WroteText old new (declared_text text u m) 1
+    memory_only [] is k = no_line (sym is) k refl
+    memory_only (line ∷ rest) is k = wrote (Wrote-memory old new (declared_text text u m) (let some = ap length is in omega (arith, some)) k)
+
+-- the text of a unit whose declarations were read
+pub walked_declared : {E : Type 0} → (limit : ℕ) (mode : Mode) (u : UnitView) (declared : Map) (m : Result Map Error) (old new : Option (List ℕ)) (r : Result ℕ E) → Ok declared ≡ m
+    → IsHonestDeclared limit mode u m → (IsHonestMode limit mode u declared → IfOk r (λ status. Wrote old new (mode_text limit mode u declared) status))
+    → IfOk r (λ status. WroteText old new (declared_text (mode_text limit mode) u m) status)
+walked_declared limit mode u declared m old new r is h walked =
+    let honest = rw (← is) at h in
+    rw (← is) (if_ok r (λ status w. wrote w) (walked honest))

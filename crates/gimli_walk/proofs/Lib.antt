@@ -5,3 +5,4 @@ pub mod Declared
 pub mod WordLines
 pub mod CursorRuns
 pub mod CursorTruth
+pub mod AnswerLines

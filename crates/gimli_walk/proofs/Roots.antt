@@ -15,7 +15,7 @@ use Rattle.gimli_units.specs.RowSteps.{ahead_ended}
 use Rattle.gimli_units.specs.Unit.{UnitView, whole_length, header_size, range_from, entries_in, entries_from}
 use Rattle.gimli_headers.specs.UnitReads.{some_size}
 use Rattle.gimli_walk.specs.Lines.{end_line}
-use Rattle.gimli_walk.specs.Text.{Wrote, rows_text, unit_text, declared_text}
+use Rattle.gimli_walk.specs.Text.{Wrote, rows_text, unit_text}
 use Rattle.gimli_walk.proofs.WrittenLines.{Wrote-only, Wrote-same}
 
 cut_none : (v : View) → cut 0 v ≡ v
@@ -49,22 +49,20 @@ root_cases u t = elim (cases_lt (header_size u) (whole_length u)) [
   | inr ge ↦ inl (omega (arith, ge, some_size u.encoding.format), ap (entries_in u t) (range_nowhere u ge))
 ]
 
-module _ (limit : ℕ) (u : UnitView) (t : Table) (m : Result Map Error) (declared : Ok (found t) ≡ m) where
+module _ (limit : ℕ) (u : UnitView) (t : Table) where
   -- the rows are those from the root on
   pub root_text : (p : RawPlace) → Ok p ≡ entries_from u t None
-      → rows_text (ahead_at (entry_at limit p.encoding (found p.abbreviations)) p.end p.depth p.rest) ≡ declared_text limit u m
+      → rows_text (ahead_at (entry_at limit p.encoding (found p.abbreviations)) p.end p.depth p.rest) ≡ unit_text limit u (found t)
   root_text p is = elim (root_cases u t) [
     | inl none ↦ absurd (let e : Ok p ≡ Err (OffsetOutOfBounds (header_size u)) = is ∙ none.1 in cc)
     | inr read ↦
         let same : p ≡ root_place u t = (let e : Ok p ≡ Ok (root_place u t) = is ∙ read in cc) in
         ap (λ (q : RawPlace). rows_text (ahead_at (entry_at limit q.encoding (found q.abbreviations)) q.end q.depth q.rest)) same
-        ∙ ap (declared_text limit u) declared
   ]
 
   -- where the reader is refused there is no row
-  pub root_refused : (old new : Option (List ℕ)) (e : Error) → Err e ≡ entries_from u t None → Appends old new end_line → Wrote old new (declared_text limit u m) 0
-  root_refused old new e is h = Wrote-same old new (unit_text limit u (found t)) (declared_text limit u m) 0 (ap (declared_text limit u) declared)
-      (elim (root_cases u t) [
-        | inl none ↦ rw (ap rows_text (ahead_ended (entry_at limit u.encoding (found t)) (whole_length u) (pos 0) u.entries none.0)) (Wrote-only old new end_line 0 h)
-        | inr read ↦ absurd (let e : Err e ≡ Ok (root_place u t) = is ∙ read in cc)
-      ])
+  pub root_refused : (old new : Option (List ℕ)) (e : Error) → Err e ≡ entries_from u t None → Appends old new end_line → Wrote old new (unit_text limit u (found t)) 0
+  root_refused old new e is h = elim (root_cases u t) [
+    | inl none ↦ rw (ap rows_text (ahead_ended (entry_at limit u.encoding (found t)) (whole_length u) (pos 0) u.entries none.0)) (Wrote-only old new end_line 0 h)
+    | inr read ↦ absurd (let e : Err e ≡ Ok (root_place u t) = is ∙ read in cc)
+  ]

@@ -1,5 +1,5 @@
 -- Lines that were written, joined to those that are still to come.
-use Rattle.std.proofs.Common.{◌≡◌, ℕ, ◌<◌, suc, List, ◌∷◌, ◌++◌, Option, None, Some, refl, ap, ◌∙◌, append_assoc, arith, length, subst, Result}
+use Rattle.std.proofs.Common.{◌≡◌, ℕ, ◌<◌, suc, List, [], ◌∷◌, sym, ◌++◌, Option, None, Some, refl, ap, ◌∙◌, append_assoc, arith, length, subst, Result}
 use Rattle.std.proofs.lemmas.List.{append-nil}
 use Rattle.std.specs.Prelude.{take, IfOk}
 use Rattle.std.specs.List.{concat}
@@ -8,11 +8,16 @@ use Rattle.gimli_walk.specs.Lines.{Text, only, memory_line}
 use Rattle.gimli_walk.specs.Text.{Wrote, all_lines, some_lines}
 
 -- two writes are one
-Appends-trans : (a b c : Option (List ℕ)) (xs ys : List ℕ) → Appends a b xs → Appends b c ys → Appends a c (xs ++ ys)
+pub Appends-trans : (a b c : Option (List ℕ)) (xs ys : List ℕ) → Appends a b xs → Appends b c ys → Appends a c (xs ++ ys)
 Appends-trans None b c xs ys h t = tt
 Appends-trans (Some p) None c xs ys h t = absurd h
 Appends-trans (Some p) (Some q) None xs ys h t = absurd t
 Appends-trans (Some p) (Some q) (Some r) xs ys h t = t ∙ ap (λ z. z ++ ys) h ∙ append_assoc p xs ys
+
+-- nothing is written
+pub Appends-none : (a : Option (List ℕ)) → Appends a a []
+Appends-none None = tt
+Appends-none (Some p) = sym (append-nil p)
 
 -- a line, and then all that follows it
 pub Wrote-more : (a b c : Option (List ℕ)) (line : List ℕ) (lines : List (List ℕ)) (status given : ℕ)

@@ -1,6 +1,8 @@
 -- The answers of a list of steps of a cursor, and their text (DWARF 5, 2.3).
-use Rattle.std.specs.Prelude.{◌≡◌, ℕ, ◌-◌, ℤ, pos, Bool, true, false, ◌||◌, ◌++◌, List, [], ◌∷◌, map, length, codes, Option, Some, None, Result, Ok, Err}
+use Rattle.std.specs.Prelude.{◌≡◌, ℕ, ◌-◌, ◌<◌, ℤ, pos, Bool, true, false, ◌||◌, if◌then◌else◌, ◌++◌, List, [], ◌∷◌, map, length, codes, Option, Some, None, Result, Ok, Err}
 use Rattle.std.specs.Fmt.{decimal}
+use Rattle.std.specs.List.{list_any}
+use Rattle.std.specs.Result.{is_err}
 use Rattle.std.specs.Option.{option_map}
 use Rattle.gimli_base.specs.declared.error.Error.{Error}
 use Rattle.gimli_base.specs.declared.error.Error.TheVariants.{NoEntryAtGivenOffset}
@@ -16,6 +18,7 @@ use Rattle.gimli_units.specs.CursorPlace.{Place, Moved, next_row, next_in_depth_
 use Rattle.gimli_walk.specs.declared.cursor.CursorAnswer.{CursorAnswer}
 use Rattle.gimli_walk.specs.declared.cursor.CursorStep.{CursorStep}
 use Rattle.gimli_walk.specs.declared.cursor.CursorStep.TheVariants.{NextEntry, NextDfs, NextSibling}
+use Rattle.gimli_walk.specs.Runs.{IsFront}
 use Rattle.gimli_walk.specs.Lines.{Text, row_line}
 
 -- what a step answers, and where the cursor then stands; the pair is that of the current entry, where there is one
@@ -98,6 +101,18 @@ abbrev pub IsHonestFrom : ℕ → UnitView → Map → Result View Error → Typ
 IsHonestFrom limit u declared (Ok v) = IsHonestAt limit u declared v
 IsHonestFrom limit u declared (Err e) = Unit {0}
 
+-- a run gives the first of these answers, and all of them where it was not stopped; or it is refused as they are
+abbrev pub RunsAs : Result (List Answer × Bool) Error → Result (List Answer) Error → Type 0
+RunsAs (Ok p) (Ok all) = IsFront p.0 all × (p.1 ≡ false → p.0 ≡ all)
+RunsAs (Ok p) (Err e) = ⊥
+RunsAs (Err x) (Ok all) = ⊥
+RunsAs (Err x) (Err e) = x ≡ e
+
+-- a run was stopped before its last answer, or has an answer to each step
+abbrev pub IsStopped : Bool → ℕ → ℕ → Type 0
+IsStopped true count steps = count < steps
+IsStopped false count steps = count ≡ steps
+
 -- An answer is true, whatever the references: its entry is what the unit has at its offset, a null or a refusal likewise.
 pub record IsTrueAnswer (limit : ℕ) (u : UnitView) (declared : Map) (a : Answer) : Type 0 where
   pub entry : (e : Entry) → a.current ≡ Some e → unit_entry_at limit u declared a.offset ≡ Ok e
@@ -150,13 +165,9 @@ flag_of (Some e) = e.has_children
 abbrev pub answer_line : Answer → List ℕ
 answer_line a = outcome_text a.outcome ++ row_line a.offset a.depth (tag_of a.current) (flag_of a.current)
 
-abbrev pub status_with : Result Bool Error → ℕ → ℕ
-status_with (Ok b) rest = rest
-status_with (Err e) rest = 1
-
+-- 1 where one of these answers is a refusal
 abbrev pub status_of : List Answer → ℕ
-status_of [] = 0
-status_of (a ∷ rest) = status_with a.outcome (status_of rest)
+status_of all = if list_any (λ a. is_err a.outcome) all then 1 else 0
 
 -- a line an answer; the status is 1 where one is a refusal
 abbrev pub answers_text : List Answer → Text

@@ -14,7 +14,9 @@ use Rattle.gimli_units.specs.Unit.{UnitView, whole_length}
 use Rattle.gimli_headers.specs.Header.{unit_at}
 use Rattle.gimli_walk.specs.Lines.{Text, row_line, end_line, no_unit_line, error_line, error_line_at, memory_line, only}
 use Rattle.gimli_walk.specs.declared.mode.Mode.{Mode}
-use Rattle.gimli_walk.specs.declared.mode.Mode.TheVariants.{Rows}
+use Rattle.gimli_walk.specs.declared.mode.Mode.TheVariants.{Rows, Cursor, Plain}
+use Rattle.gimli_walk.specs.declared.cursor.CursorStep.{CursorStep}
+use Rattle.gimli_walk.specs.Cursors.{Answer, answers_at, answers_text, answer_line, status_of, any_sibling, IsHonestAt}
 
 abbrev pub line_of : Row → List ℕ
 line_of r = row_line r.offset r.depth r.entry.tag.0 r.entry.has_children
@@ -37,19 +39,47 @@ abbrev pub unit_text : ℕ → UnitView → Map → Text
 unit_text limit u declared = rows_text (ahead_at (entry_at limit u.encoding declared) (whole_length u) (pos 0) u.entries)
 
 -- the text of a unit whose declarations may be refused
-abbrev pub declared_text : ℕ → UnitView → Result Map Error → Text
-declared_text limit u (Ok declared) = unit_text limit u declared
-declared_text limit u (Err e) = only (error_line (number_of e)) 1
+abbrev pub declared_text : (UnitView → Map → Text) → UnitView → Result Map Error → Text
+declared_text text u (Ok declared) = text u declared
+declared_text text u (Err e) = only (error_line (number_of e)) 1
 
 -- the text of a unit that may be refused, with the section of its declarations
-abbrev pub first_text : ℕ → Reads UnitView → View → Text
-first_text limit (Ok p) abbreviations = declared_text limit p.0 (map_at p.0.abbreviations abbreviations)
-first_text limit (Err e) abbreviations = only (error_line (number_of e)) 1
+abbrev pub first_text : (UnitView → Map → Text) → Reads UnitView → View → Text
+first_text text (Ok p) abbreviations = declared_text text p.0 (map_at p.0.abbreviations abbreviations)
+first_text text (Err e) abbreviations = only (error_line (number_of e)) 1
 
--- the text of the rows of the first unit of `.debug_info`; offsets are below the limit
-unfoldable pub sections_text : ℕ → View → View → Text
-sections_text limit info abbreviations =
-    if length info.bytes == 0 then only no_unit_line 1 else first_text limit (unit_at limit DebugInfo 0 info) abbreviations
+-- the text of the first unit of `.debug_info`; offsets are below the limit
+unfoldable pub sections_text : ℕ → (UnitView → Map → Text) → View → View → Text
+sections_text limit text info abbreviations =
+    if length info.bytes == 0 then only no_unit_line 1 else first_text text (unit_at limit DebugInfo 0 info) abbreviations
+
+-- the text of a cursor's answers to these steps, from the first entry of a unit on
+abbrev pub cursor_text : ℕ → List CursorStep → UnitView → Map → Text
+cursor_text limit steps u declared = answers_text (answers_at limit u declared steps u.entries)
+
+-- the text of a unit, as a mode says
+abbrev pub mode_text : ℕ → Mode → UnitView → Map → Text
+mode_text limit Rows u declared = unit_text limit u declared
+mode_text limit (Cursor steps) u declared = cursor_text limit steps.now u declared
+mode_text limit (Plain steps) u declared = cursor_text limit steps.now u declared
+
+-- what a mode asks of the sibling references of a unit: that they are honest, where a step that follows them looks for a sibling
+abbrev pub IsHonestMode : ℕ → Mode → UnitView → Map → Type 0
+IsHonestMode limit Rows u declared = Unit {0}
+IsHonestMode limit (Cursor steps) u declared = any_sibling steps.now ≡ true → IsHonestAt limit u declared u.entries
+IsHonestMode limit (Plain steps) u declared = Unit {0}
+
+abbrev pub IsHonestDeclared : ℕ → Mode → UnitView → Result Map Error → Type 0
+IsHonestDeclared limit mode u (Ok declared) = IsHonestMode limit mode u declared
+IsHonestDeclared limit mode u (Err e) = Unit {0}
+
+abbrev pub IsHonestFirst : ℕ → Mode → Reads UnitView → View → Type 0
+IsHonestFirst limit mode (Ok p) abbreviations = IsHonestDeclared limit mode p.0 (map_at p.0.abbreviations abbreviations)
+IsHonestFirst limit mode (Err e) abbreviations = Unit {0}
+
+-- the same of the first unit of `.debug_info`
+abbrev pub IsHonestWalk : ℕ → Mode → View → View → Type 0
+IsHonestWalk limit mode info abbreviations = IsHonestFirst limit mode (unit_at limit DebugInfo 0 info) abbreviations
 
 -- the view of a section's bytes in little endian
 abbrev pub little : List ℕ → View
@@ -57,7 +87,7 @@ little bytes = record { big = false; place = 0; bytes = bytes }
 
 -- the text of a walk over the bytes of `.debug_info` and `.debug_abbrev`, in little endian and with offsets of 64 bits
 abbrev pub text_of : Mode → List ℕ → List ℕ → Text
-text_of Rows info abbreviations = sections_text (2 ^ 64) (little info) (little abbreviations)
+text_of mode info abbreviations = sections_text (2 ^ 64) (mode_text (2 ^ 64) mode) (little info) (little abbreviations)
 
 -- whether `.debug_info` begins with a unit; memory is asked for behind its header alone
 abbrev pub is_read : Reads UnitView → Bool
@@ -76,3 +106,14 @@ pub record WroteAll (old new : Option (List ℕ)) (text : Text) (status : ℕ) :
 pub data Wrote (old new : Option (List ℕ)) (text : Text) (status : ℕ) : Type 0 where
   all_lines : Appends old new (concat text.lines) → status ≡ text.status → Wrote old new text status
   some_lines : (k : ℕ) → k < length text.lines → Appends old new (concat (take k text.lines) ++ memory_line) → status ≡ 1 → Wrote old new text status
+
+-- what is written is all lines; or, where memory was refused, whole lines from the front, but not all, where there are any, and then the
+-- line that says so
+pub data WroteText (old new : Option (List ℕ)) (text : Text) (status : ℕ) : Type 0 where
+  wrote : Wrote old new text status → WroteText old new text status
+  no_line : text.lines ≡ [] → Appends old new memory_line → status ≡ 1 → WroteText old new text status
+
+-- the lines of a run that was stopped, or not
+abbrev pub WroteRun : Option (List ℕ) → Option (List ℕ) → List Answer → Bool → ℕ → Type 0
+WroteRun old new all true status = Appends old new (concat (map answer_line all) ++ memory_line) × (status ≡ 1)
+WroteRun old new all false status = Appends old new (concat (map answer_line all)) × (status ≡ status_of all)

@@ -5,13 +5,15 @@ ghost use Rattle.std.specs.Option.{option_map};
 ghost use Rattle.gimli_base.specs.declared.error.Error.{Error as SpecError};
 ghost use Rattle.gimli_base.specs.declared.error.Error.TheVariants.{OutOfMemory};
 ghost use Rattle.gimli_base.specs.Reading.{UnlessMemory};
+ghost use Rattle.gimli_base.specs.Offset.{answer_of};
 ghost use Rattle.gimli_base.specs.Table.{found};
 ghost use Rattle.gimli_units.specs.Entry.{entry_of, is_null};
 ghost use Rattle.gimli_units.specs.CursorPlace.{some_of, first_of_rows};
 ghost use Rattle.gimli_units.specs.CursorMoves.{Goes, IsHonestFor, followed_to, rows_from, IsSameUnit, IsTrueEntry, IsRefused, IsFurther};
 ghost use Rattle.gimli_units.specs.CursorRead.{Stands};
+ghost use Rattle.gimli_units.specs.CursorStart.{cursor_start};
 ghost use Rattle.gimli_walk.specs.Runs.{IsFront};
-ghost use Rattle.gimli_walk.specs.Cursors.{seen, step_of, is_sibling, any_sibling, run_answers, start_view, IsHonestFrom, AreTrueAnswers, AreTaken};
+ghost use Rattle.gimli_walk.specs.Cursors.{seen, step_of, is_sibling, any_sibling, run_answers, start_view, RunsAs, IsStopped, IsHonestFrom, AreTrueAnswers, AreTaken};
 ghost use Rattle.gimli_walk.specs.CursorTurns.{HasStepped, HasAnswered, HasRun};
 
 use crate::Run;
@@ -149,4 +151,72 @@ fn run_steps<R: Reader, A: Allocator + Copy>(
         answers,
         stopped: false,
     }
+}
+
+// A cursor at a start, or at the first entry. Refusal: `OffsetOutOfBounds` of the start.
+fn start_cursor<'abbrev, R: Reader, A: Allocator + Copy>(
+    alloc: A,
+    unit: &UnitHeader<R>,
+    abbreviations: &'abbrev Abbreviations<A>,
+    start: Option<UnitOffset<R::Offset>>,
+    follows: bool,
+) -> Result<EntriesCursor<'abbrev, R, A>>
+    ensures { result ≡ cursor_start (⟦<UnitHeader<R> as HasUnit>⟧.unit unit.now) abbreviations.now follows (option_map (λ o. R.Offset.number o.0) start) }
+{
+    match start {
+        None => {
+            if follows {
+                Ok(unit.entries(alloc, abbreviations))
+            } else {
+                Ok(unit.entries_plain(alloc, abbreviations))
+            }
+        }
+        Some(offset) => {
+            if follows {
+                unit.entries_at_offset(alloc, abbreviations, offset)
+            } else {
+                unit.entries_plain_at_offset(alloc, abbreviations, offset)
+            }
+        }
+    }
+}
+
+/// The answers of a cursor from a start, or from the first entry, to these steps; the cursor follows sibling references.
+///
+/// Where the rows from the start are honest, or no step looks for a sibling, they are the definition's answers. Whatever the
+/// references, each is true: its entry is what the unit has at its offset. Refusal: `OffsetOutOfBounds` of the start. Where
+/// memory is refused the run is stopped, and holds the answers before.
+pub fn run_cursor<R: Reader, A: Allocator + Copy>(
+    alloc: A,
+    unit: &UnitHeader<R>,
+    abbreviations: &Abbreviations<A>,
+    start: Option<UnitOffset<R::Offset>>,
+    steps: &[CursorStep],
+) -> Result<Run<CursorAnswer<R, A>, A>>
+    ensures answers { (any_sibling steps.now ≡ true → IsHonestFrom R.Offset.limit (⟦<UnitHeader<R> as HasUnit>⟧.unit unit.now) (found abbreviations.now) (start_view (⟦<UnitHeader<R> as HasUnit>⟧.unit unit.now) (option_map (λ o. R.Offset.number o.0) start))) → RunsAs (answer_of (λ r. (map (seen R.view R.Offset.number) r.answers.items, r.stopped)) result) (run_answers R.Offset.limit (⟦<UnitHeader<R> as HasUnit>⟧.unit unit.now) (found abbreviations.now) (option_map (λ o. R.Offset.number o.0) start) steps.now) }
+    ensures true_answers { IfOk result (λ r. AreTrueAnswers R.Offset.limit (⟦<UnitHeader<R> as HasUnit>⟧.unit unit.now) (found abbreviations.now) (map (seen R.view R.Offset.number) r.answers.items)) }
+    ensures taken { IfOk result (λ r. AreTaken R.Offset.limit (⟦<UnitHeader<R> as HasUnit>⟧.unit unit.now) (found abbreviations.now) steps.now (map (seen R.view R.Offset.number) r.answers.items)) }
+    ensures stopped { IfOk result (λ r. IsStopped r.stopped (length r.answers.items) (length steps.now)) }
+{
+    let mut cursor = start_cursor(alloc, unit, abbreviations, start, true)?;
+    Ok(run_steps(alloc, &mut cursor, steps))
+}
+
+/// The answers of a cursor that follows no reference, from a start, or from the first entry, to these steps. They are the
+/// definition's, whatever the references.
+///
+/// Refusal: `OffsetOutOfBounds` of the start. Where memory is refused the run is stopped, and holds the answers before.
+pub fn run_cursor_plain<R: Reader, A: Allocator + Copy>(
+    alloc: A,
+    unit: &UnitHeader<R>,
+    abbreviations: &Abbreviations<A>,
+    start: Option<UnitOffset<R::Offset>>,
+    steps: &[CursorStep],
+) -> Result<Run<CursorAnswer<R, A>, A>>
+    ensures answers { RunsAs (answer_of (λ r. (map (seen R.view R.Offset.number) r.answers.items, r.stopped)) result) (run_answers R.Offset.limit (⟦<UnitHeader<R> as HasUnit>⟧.unit unit.now) (found abbreviations.now) (option_map (λ o. R.Offset.number o.0) start) steps.now) }
+    ensures true_answers { IfOk result (λ r. AreTrueAnswers R.Offset.limit (⟦<UnitHeader<R> as HasUnit>⟧.unit unit.now) (found abbreviations.now) (map (seen R.view R.Offset.number) r.answers.items)) }
+    ensures stopped { IfOk result (λ r. IsStopped r.stopped (length r.answers.items) (length steps.now)) }
+{
+    let mut cursor = start_cursor(alloc, unit, abbreviations, start, false)?;
+    Ok(run_steps(alloc, &mut cursor, steps))
 }

@@ -1,6 +1,7 @@
 //! Whole walks over a unit, as text.
 #![tactic(auto)]
 
+mod answers;
 mod cursor;
 mod lines;
 mod mode;
@@ -8,7 +9,7 @@ mod run;
 mod text;
 mod words;
 
-pub use cursor::{CursorAnswer, CursorStep};
+pub use cursor::{CursorAnswer, CursorStep, run_cursor, run_cursor_plain};
 pub use lines::WriteFault;
 pub use mode::Mode;
 pub use run::{Run, run_type_units, run_units};

@@ -1,8 +1,14 @@
 //! What a walk does.
 
+use crate::CursorStep;
+
 /// What a walk does, and so which lines it writes.
 #[derive(Clone, Copy, Debug, PartialEq, Eq)]
-pub enum Mode {
+pub enum Mode<'a> {
     /// A line for each row, nulls too.
     Rows,
+    /// A line for each step of a cursor that follows sibling references.
+    Cursor(&'a [CursorStep]),
+    /// A line for each step of a cursor that follows no reference.
+    Plain(&'a [CursorStep]),
 }

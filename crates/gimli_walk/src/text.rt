@@ -5,11 +5,14 @@ ghost use Rattle.gimli_base.specs.Table.{found};
 ghost use Rattle.gimli_units.specs.Entry.{entry_at};
 ghost use Rattle.gimli_units.specs.Rows.{ahead_at};
 ghost use Rattle.gimli_base.specs.Abbreviations.{map_at};
-ghost use Rattle.gimli_walk.specs.Text.{Wrote, WroteAll, has_unit, little, rows_text, declared_text, sections_text, text_of};
+ghost use Rattle.gimli_walk.specs.Text.{Wrote, WroteAll, WroteText, has_unit, little, rows_text, declared_text, mode_text, sections_text, text_of, IsHonestMode, IsHonestDeclared, IsHonestWalk};
 
-use crate::Mode;
+use crate::answers::write_run;
 use crate::lines::{WriteFault, write_end, write_error, write_error_at, write_no_unit, write_row};
-use gimli_base::{DebugAbbrev, EndianSlice, Error, LittleEndian, Reader, ReaderOffset, Section};
+use crate::{Mode, run_cursor, run_cursor_plain};
+use gimli_base::{
+    Abbreviations, DebugAbbrev, EndianSlice, Error, LittleEndian, Reader, ReaderOffset, Section,
+};
 use gimli_headers::DebugInfo;
 use gimli_units::{DebuggingInformationEntry, EntriesRaw, HasUnit, UnitHeader};
 use std::alloc::Allocator;
@@ -22,38 +25,37 @@ use std::io::Write;
 /// header of the unit is read no memory is asked for. Nothing is said of what is written where a write fails.
 pub fn walk_text<A: Allocator + Copy, W: Write>(
     alloc: A,
-    mode: Mode,
+    mode: Mode<'_>,
     info: &[u8],
     abbreviations: &[u8],
     out: &mut W,
 ) -> Result<u8, WriteFault>
-    ensures text { IfOk result (λ status. Wrote (W.contents out.old) (W.contents out.new) (text_of mode info.now abbreviations.now) status) }
-    ensures without_memory { has_unit (2 ^ 64) (little info.now) ≡ false → IfOk result (λ status. WroteAll (W.contents out.old) (W.contents out.new) (text_of mode info.now abbreviations.now) status) }
+    ensures text { IsHonestWalk (2 ^ 64) mode.entry (little info.now) (little abbreviations.now) → IfOk result (λ status. WroteText (W.contents out.old) (W.contents out.new) (text_of mode.entry info.now abbreviations.now) status) }
+    ensures without_memory { has_unit (2 ^ 64) (little info.now) ≡ false → IfOk result (λ status. WroteAll (W.contents out.old) (W.contents out.new) (text_of mode.entry info.now abbreviations.now) status) }
 {
     let debug_info = DebugInfo::new(info, LittleEndian);
     let debug_abbrev = DebugAbbrev::new(abbreviations, LittleEndian);
-    match mode {
-        Mode::Rows => walk_sections(alloc, &debug_info, &debug_abbrev, out),
-    }
+    walk_sections(alloc, mode, &debug_info, &debug_abbrev, out)
 }
 
-// The rows of the first unit of a section.
+// The lines of the first unit of a section.
 #[tactic(auto, unfolding(crate::specs::Text::sections_text, gimli_headers::specs::Units::next_unit))]
 fn walk_sections<R: Reader, A: Allocator + Copy, W: Write>(
     alloc: A,
+    mode: Mode<'_>,
     debug_info: &DebugInfo<R>,
     debug_abbrev: &DebugAbbrev<R>,
     out: &mut W,
 ) -> Result<u8, WriteFault>
-    ensures without_memory { has_unit R.Offset.limit (⟦<DebugInfo<R> as Section<R>>⟧.content debug_info.now) ≡ false → IfOk result (λ status. WroteAll (W.contents out.old) (W.contents out.new) (sections_text R.Offset.limit (⟦<DebugInfo<R> as Section<R>>⟧.content debug_info.now) (⟦<DebugAbbrev<R> as Section<R>>⟧.content debug_abbrev.now)) status) }
-    ensures text { IfOk result (λ status. Wrote (W.contents out.old) (W.contents out.new) (sections_text R.Offset.limit (⟦<DebugInfo<R> as Section<R>>⟧.content debug_info.now) (⟦<DebugAbbrev<R> as Section<R>>⟧.content debug_abbrev.now)) status) }
+    ensures without_memory { has_unit R.Offset.limit (⟦<DebugInfo<R> as Section<R>>⟧.content debug_info.now) ≡ false → IfOk result (λ status. WroteAll (W.contents out.old) (W.contents out.new) (sections_text R.Offset.limit (mode_text R.Offset.limit mode.entry) (⟦<DebugInfo<R> as Section<R>>⟧.content debug_info.now) (⟦<DebugAbbrev<R> as Section<R>>⟧.content debug_abbrev.now)) status) }
+    ensures text { IsHonestWalk R.Offset.limit mode.entry (⟦<DebugInfo<R> as Section<R>>⟧.content debug_info.now) (⟦<DebugAbbrev<R> as Section<R>>⟧.content debug_abbrev.now) → IfOk result (λ status. WroteText (W.contents out.old) (W.contents out.new) (sections_text R.Offset.limit (mode_text R.Offset.limit mode.entry) (⟦<DebugInfo<R> as Section<R>>⟧.content debug_info.now) (⟦<DebugAbbrev<R> as Section<R>>⟧.content debug_abbrev.now)) status) }
 {
     match debug_info.units().next() {
         Ok(None) => {
             write_no_unit(out)?;
             Ok(1)
         }
-        Ok(Some(unit)) => walk_unit(alloc, &unit, debug_abbrev, out),
+        Ok(Some(unit)) => walk_unit(alloc, mode, &unit, debug_abbrev, out),
         Err(error) => {
             write_error(out, error)?;
             Ok(1)
@@ -61,28 +63,57 @@ fn walk_sections<R: Reader, A: Allocator + Copy, W: Write>(
     }
 }
 
-// The rows of a unit.
+// The lines of a unit.
 fn walk_unit<R: Reader, A: Allocator + Copy, W: Write>(
     alloc: A,
+    mode: Mode<'_>,
     unit: &UnitHeader<R>,
     debug_abbrev: &DebugAbbrev<R>,
     out: &mut W,
 ) -> Result<u8, WriteFault>
-    ensures { IfOk result (λ status. Wrote (W.contents out.old) (W.contents out.new) (declared_text R.Offset.limit (⟦<UnitHeader<R> as HasUnit>⟧.unit unit.now) (map_at (⟦<UnitHeader<R> as HasUnit>⟧.unit unit.now).abbreviations (⟦<DebugAbbrev<R> as Section<R>>⟧.content debug_abbrev.now))) status) }
+    ensures { IsHonestDeclared R.Offset.limit mode.entry (⟦<UnitHeader<R> as HasUnit>⟧.unit unit.now) (map_at (⟦<UnitHeader<R> as HasUnit>⟧.unit unit.now).abbreviations (⟦<DebugAbbrev<R> as Section<R>>⟧.content debug_abbrev.now)) → IfOk result (λ status. WroteText (W.contents out.old) (W.contents out.new) (declared_text (mode_text R.Offset.limit mode.entry) (⟦<UnitHeader<R> as HasUnit>⟧.unit unit.now) (map_at (⟦<UnitHeader<R> as HasUnit>⟧.unit unit.now).abbreviations (⟦<DebugAbbrev<R> as Section<R>>⟧.content debug_abbrev.now))) status) }
 {
-    let abbreviations = match unit.abbreviations(alloc, debug_abbrev) {
-        Ok(abbreviations) => abbreviations,
+    match unit.abbreviations(alloc, debug_abbrev) {
+        Ok(abbreviations) => walk_declared(alloc, mode, unit, &abbreviations, out),
         Err(error) => {
             write_error(out, error)?;
-            return Ok(1);
+            Ok(1)
         }
-    };
-    match unit.entries_raw(&abbreviations, None) {
-        Ok(mut entries) => walk_rows(alloc, &mut entries, out),
-        Err(_) => {
-            write_end(out)?;
-            Ok(0)
-        }
+    }
+}
+
+// The lines of a unit with its abbreviations.
+fn walk_declared<R: Reader, A: Allocator + Copy, W: Write>(
+    alloc: A,
+    mode: Mode<'_>,
+    unit: &UnitHeader<R>,
+    abbreviations: &Abbreviations<A>,
+    out: &mut W,
+) -> Result<u8, WriteFault>
+    ensures { IsHonestMode R.Offset.limit mode.entry (⟦<UnitHeader<R> as HasUnit>⟧.unit unit.now) (found abbreviations.now) → IfOk result (λ status. Wrote (W.contents out.old) (W.contents out.new) (mode_text R.Offset.limit mode.entry (⟦<UnitHeader<R> as HasUnit>⟧.unit unit.now) (found abbreviations.now)) status) }
+{
+    match mode {
+        Mode::Rows => match unit.entries_raw(abbreviations, None) {
+            Ok(mut entries) => walk_rows(alloc, &mut entries, out),
+            Err(_) => {
+                write_end(out)?;
+                Ok(0)
+            }
+        },
+        Mode::Cursor(steps) => match run_cursor(alloc, unit, abbreviations, None, steps) {
+            Ok(run) => write_run(out, &run),
+            Err(error) => {
+                write_error(out, error)?;
+                Ok(1)
+            }
+        },
+        Mode::Plain(steps) => match run_cursor_plain(alloc, unit, abbreviations, None, steps) {
+            Ok(run) => write_run(out, &run),
+            Err(error) => {
+                write_error(out, error)?;
+                Ok(1)
+            }
+        },
     }
 }
 

@@ -1,10 +1,10 @@
 //! The words of the command line.
 
 ghost use Rattle.std.specs.Prelude.{◌≡◌};
-ghost use Rattle.gimli_walk.specs.Words.{AsksRows, Walked, word};
+ghost use Rattle.gimli_walk.specs.Words.{AsksRows, AsksSteps, Walked, word};
 
-use crate::{Mode, walk_text};
-use std::alloc::Allocator;
+use crate::{CursorStep, Mode, walk_text};
+use std::alloc::{AllocError, Allocator};
 use std::io::Write;
 
 const USAGE: &str = "usage: gimli_walk rows|cursor|tree INFO ABBREV [STEPS]\n";
@@ -21,7 +21,7 @@ pub fn run_words<A: Allocator + Copy, F: FnMut(&str) -> Option<Vec<u8>>, W: Writ
     err: &mut E,
 ) -> u8
     requires { F.IsAlwaysCallable read }
-    ensures usage { (AsksRows words.now → ⊥) → (result ≡ 2) × (out.new ≡ out.old) }
+    ensures usage { (AsksRows words.now → ⊥) → (AsksSteps words.now → ⊥) → (result ≡ 2) × (out.new ≡ out.old) }
     ensures rows { AsksRows words.now → Walked F.FnMut (λ v. v.items) read (word words.now 1) (word words.now 2) (W.contents out.old) (W.contents out.new) result }
 {
     match words {
@@ -35,8 +35,65 @@ pub fn run_words<A: Allocator + Copy, F: FnMut(&str) -> Option<Vec<u8>>, W: Writ
             let status = walk_text(alloc, Mode::Rows, &info_bytes, &abbrev_bytes, out).unwrap_or(3);
             if out.flush().is_err() { 3 } else { status }
         }
+        ["cursor", info, abbrev, letters] => {
+            walk_steps(alloc, true, [info, abbrev, letters], read, out, err)
+        }
+        ["plain", info, abbrev, letters] => {
+            walk_steps(alloc, false, [info, abbrev, letters], read, out, err)
+        }
         _ => usage(err),
     }
+}
+
+// Walks by the steps that letters name, over two files.
+fn walk_steps<A: Allocator + Copy, F: FnMut(&str) -> Option<Vec<u8>>, W: Write, E: Write>(
+    alloc: A,
+    follows: bool,
+    words: [&str; 3],
+    mut read: F,
+    out: &mut W,
+    err: &mut E,
+) -> u8
+    requires { F.IsAlwaysCallable read }
+{
+    let [info, abbrev, letters] = words;
+    let Ok(steps) = steps_in(alloc, letters) else {
+        return 3;
+    };
+    let Some(steps) = steps else {
+        return usage(err);
+    };
+    let Some(info_bytes) = read(info) else {
+        return cannot_read(err, info);
+    };
+    let Some(abbrev_bytes) = read(abbrev) else {
+        return cannot_read(err, abbrev);
+    };
+    let mode = if follows {
+        Mode::Cursor(&steps)
+    } else {
+        Mode::Plain(&steps)
+    };
+    let status = walk_text(alloc, mode, &info_bytes, &abbrev_bytes, out).unwrap_or(3);
+    if out.flush().is_err() { 3 } else { status }
+}
+
+// The steps that these letters name, or none where one names no step.
+fn steps_in<A: Allocator>(
+    alloc: A,
+    letters: &str,
+) -> Result<Option<Vec<CursorStep, A>>, AllocError> {
+    let mut steps = Vec::new(alloc);
+    'letters: for letter in letters.as_bytes() {
+        let step = match letter {
+            b'e' => CursorStep::NextEntry,
+            b'd' => CursorStep::NextDfs,
+            b's' => CursorStep::NextSibling,
+            _ => return Ok(None),
+        };
+        steps.push(step)?;
+    }
+    Ok(Some(steps))
 }
 
 // Says how the program is called.

@@ -1,12 +1,12 @@
+use Rattle.std.proofs.Common.{rules, ◌≡◌, refl, sym, ap, ◌∙◌}
 use Rattle.gimli_units.specs.UnitKind.{map_type}
 use Rattle.gimli_units.specs.Unit.{UnitView}
-use Rattle.gimli_walk.proofs.WrittenLines.{Wrote-same_if}
-use Rattle.gimli_walk.proofs.Roots.{root_text, root_refused}
-use Rattle.gimli_walk.proofs.Declared.{undeclared}
+use Rattle.gimli_walk.specs.Text.{IsHonestDeclared, declared_text, mode_text}
+use Rattle.gimli_walk.proofs.Declared.{undeclared, walked_declared}
 use Rattle.gimli_walk.proofs.text.walk_unit.Goals as goal
 
-pub returns-in-Err : goal.returns-in-Err
-returns-in-Err g c =
+pub returns-in-Ok : goal.returns-in-Ok
+returns-in-Ok g c h =
     let number = g.R.Offset.ReaderOffset.number in
     let unit : UnitView = record {
       encoding = c.args.unit.now.encoding;
@@ -17,12 +17,18 @@ returns-in-Err g c =
       offset = number c.args.unit.now.unit_offset.0;
       entries = g.R.Reader.view c.args.unit.now.entries_buf;
     } in
-    undeclared _ _ _ unit _ _ c.in-Err.ensures c.in_ok-write_error-in-Err.ensures
+    walked_declared g.R.Offset.ReaderOffset.limit c.args.mode unit _ _ _ _ c.walk_declared.result c.in-Ok.ensures h c.walk_declared.ensures
 
-pub returns-in-Ok-entries_raw : goal.returns-in-Ok-entries_raw
-returns-in-Ok-entries_raw g c =
-    Wrote-same_if _ _ _ _ _ (root_text g.R.Offset.ReaderOffset.limit _ _ _ c.in-Ok.ensures _ c.in-Ok-entries_raw.ensures) c.walk_rows.ensures
-
-pub returns : goal.returns
-returns g c =
-    root_refused g.R.Offset.ReaderOffset.limit _ _ _ c.in-Ok.ensures _ _ _ c.in-Err-entries_raw.ensures c.in_ok-write_end-in-Err-entries_raw.ensures
+pub returns-in_ok-write_error-in-Err : goal.returns-in_ok-write_error-in-Err
+returns-in_ok-write_error-in-Err g c h =
+    let number = g.R.Offset.ReaderOffset.number in
+    let unit : UnitView = record {
+      encoding = c.args.unit.now.encoding;
+      unit_length = number c.args.unit.now.unit_length;
+      kind = map_type number c.args.unit.now.unit_type;
+      abbreviations = number c.args.unit.now.debug_abbrev_offset.0;
+      section = c.args.unit.now.section;
+      offset = number c.args.unit.now.unit_offset.0;
+      entries = g.R.Reader.view c.args.unit.now.entries_buf;
+    } in
+    undeclared _ _ (mode_text g.R.Offset.ReaderOffset.limit c.args.mode) unit _ c.in-Err.error c.in-Err.ensures c.in_ok-write_error-in-Err.ensures

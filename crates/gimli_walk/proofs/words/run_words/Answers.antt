@@ -1,7 +1,7 @@
 use Rattle.std.proofs.Common.{rules, refl, subst}
 use Rattle.std.specs.Fn.{CalledAt}
 use Rattle.gimli_walk.specs.Words.{word, no_info, no_table, failed}
-use Rattle.gimli_walk.proofs.WordLines.{Walked-both}
+use Rattle.gimli_walk.proofs.WordLines.{Walked-both, rows_honest}
 use Rattle.gimli_walk.proofs.words.run_words.Goals as goal
 
 pub returns-in_default-read-clause-rows : goal.returns-in_default-read-clause-rows
@@ -28,4 +28,4 @@ returns-in-rows-clause-rows g c =
     c.walk_text.result c.unwrap_or-status.result
     (subst (λ o. CalledAt g.F.FnMut c.args.read (word c.args.words.now 1) o c.read.new.self) c.in-Some.is (record { shown = _; shows = refl; called = c.read.ensures }))
     (subst (λ o. CalledAt g.F.FnMut c.read.new.self (word c.args.words.now 2) o c.read-in-rows.new.self) c.in-Some-read.is (record { shown = _; shows = refl; called = c.read-in-rows.ensures }))
-    (rw (← c.deref.ensures.value, ← c.deref-in-rows.ensures.value) c.walk_text.ensures.text) c.unwrap_or-status.ensures c.flush.ensures.bytes
+    (rw (← c.deref.ensures.value, ← c.deref-in-rows.ensures.value) (c.walk_text.ensures.text (rows_honest _ _ _))) c.unwrap_or-status.ensures c.flush.ensures.bytes

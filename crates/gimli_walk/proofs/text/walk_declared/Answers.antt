@@ -1,0 +1,69 @@
+use Rattle.std.proofs.Common.{rules, ◌≡◌, refl, sym, ap, ◌∙◌}
+use Rattle.gimli_base.specs.Table.{found}
+use Rattle.gimli_units.specs.UnitKind.{map_type}
+use Rattle.gimli_units.specs.Unit.{UnitView}
+use Rattle.gimli_walk.proofs.WrittenLines.{Wrote-same_if}
+use Rattle.gimli_walk.proofs.Roots.{root_text, root_refused}
+use Rattle.gimli_walk.proofs.AnswerLines.{run_lines}
+use Rattle.gimli_walk.proofs.text.walk_declared.Goals as goal
+
+pub returns-in-Ok : goal.returns-in-Ok
+returns-in-Ok g c h =
+    let number = g.R.Offset.ReaderOffset.number in
+    let unit : UnitView = record {
+      encoding = c.args.unit.now.encoding;
+      unit_length = number c.args.unit.now.unit_length;
+      kind = map_type number c.args.unit.now.unit_type;
+      abbreviations = number c.args.unit.now.debug_abbrev_offset.0;
+      section = c.args.unit.now.section;
+      offset = number c.args.unit.now.unit_offset.0;
+      entries = g.R.Reader.view c.args.unit.now.entries_buf;
+    } in
+    rw c.in-Rows.is (Wrote-same_if _ _ _ _ _ (root_text g.R.Offset.ReaderOffset.limit unit c.args.abbreviations.now _ c.in-Ok.ensures) c.walk_rows.ensures)
+
+pub returns-in_ok-write_end-in-Err : goal.returns-in_ok-write_end-in-Err
+returns-in_ok-write_end-in-Err g c h =
+    let number = g.R.Offset.ReaderOffset.number in
+    let unit : UnitView = record {
+      encoding = c.args.unit.now.encoding;
+      unit_length = number c.args.unit.now.unit_length;
+      kind = map_type number c.args.unit.now.unit_type;
+      abbreviations = number c.args.unit.now.debug_abbrev_offset.0;
+      section = c.args.unit.now.section;
+      offset = number c.args.unit.now.unit_offset.0;
+      entries = g.R.Reader.view c.args.unit.now.entries_buf;
+    } in
+    rw c.in-Rows.is (root_refused g.R.Offset.ReaderOffset.limit unit c.args.abbreviations.now _ _ _ c.in-Err.ensures c.in_ok-write_end-in-Err.ensures)
+
+pub returns-in-Ok-run_cursor : goal.returns-in-Ok-run_cursor
+returns-in-Ok-run_cursor g c h =
+    let number = g.R.Offset.ReaderOffset.number in
+    let unit : UnitView = record {
+      encoding = c.args.unit.now.encoding;
+      unit_length = number c.args.unit.now.unit_length;
+      kind = map_type number c.args.unit.now.unit_type;
+      abbreviations = number c.args.unit.now.debug_abbrev_offset.0;
+      section = c.args.unit.now.section;
+      offset = number c.args.unit.now.unit_offset.0;
+      entries = g.R.Reader.view c.args.unit.now.entries_buf;
+    } in
+    let honest = rw c.in-Cursor.is at h in
+    let run = c.in-Ok-run_cursor.run' in
+    rw c.in-Cursor.is (run_lines g.R.Reader.view number g.R.Offset.ReaderOffset.limit unit (found c.args.abbreviations.now) c.in-Cursor.steps.now _ _ run.answers.items run.stopped c.write_run.result
+    (c.in-Ok-run_cursor.ensures.answers honest) c.in-Ok-run_cursor.ensures.stopped c.write_run.ensures)
+
+pub returns-in-Ok-run_cursor_plain : goal.returns-in-Ok-run_cursor_plain
+returns-in-Ok-run_cursor_plain g c h =
+    let number = g.R.Offset.ReaderOffset.number in
+    let unit : UnitView = record {
+      encoding = c.args.unit.now.encoding;
+      unit_length = number c.args.unit.now.unit_length;
+      kind = map_type number c.args.unit.now.unit_type;
+      abbreviations = number c.args.unit.now.debug_abbrev_offset.0;
+      section = c.args.unit.now.section;
+      offset = number c.args.unit.now.unit_offset.0;
+      entries = g.R.Reader.view c.args.unit.now.entries_buf;
+    } in
+    let run = c.in-Ok-run_cursor_plain.run' in
+    rw c.in-Plain.is (run_lines g.R.Reader.view number g.R.Offset.ReaderOffset.limit unit (found c.args.abbreviations.now) c.in-Plain.steps.now _ _ run.answers.items run.stopped c.write_run-in-Ok-run_cursor_plain.result
+    c.in-Ok-run_cursor_plain.ensures.answers c.in-Ok-run_cursor_plain.ensures.stopped c.write_run-in-Ok-run_cursor_plain.ensures)
