@@ -213,6 +213,18 @@ module _ (limit : ℕ) (u : UnitView) (t : Table) (start : Option ℕ) (steps : 
           at_offset : (o : ℕ) → Err e ≡ cursor_start u t follows (Some o) → RunsAs (Err e) (run_answers limit u (found t) (Some o) steps)
           at_offset o k = range (range_from u o) k
 
+  pub start_refused : (follows : Bool) (e : Error) → Err e ≡ cursor_start u t follows start → start_view u start ≡ Err e
+  unfolding entries_from
+  start_refused follows e is = first start is
+    where
+      range : (r : Result View Error) → Err e ≡ answer_of (before_first follows) (entries_in u t r) → r ≡ Err e
+      range (Ok v) k = absurd (cc)
+      range (Err x) k = cc
+
+      first : (o : Option ℕ) → Err e ≡ cursor_start u t follows o → start_view u o ≡ Err e
+      first None k = absurd (cc)
+      first (Some o) k = range (range_from u o) k
+
   -- a cursor stands in its unit from the first
   pub start_in : (follows : Bool) (c : CursorView) → length u.entries.bytes ≤ whole_length u → Ok c ≡ cursor_start u t follows start → StandsIn u t c × (c.follows ≡ follows)
   start_in follows c fits begins = cases (raw_start u t start) refl begins

@@ -16,7 +16,7 @@ use Rattle.gimli_walk.specs.Lines.{Text, row_line, end_line, no_unit_line, error
 use Rattle.gimli_walk.specs.declared.mode.Mode.{Mode}
 use Rattle.gimli_walk.specs.declared.mode.Mode.TheVariants.{Rows, Cursor, Plain}
 use Rattle.gimli_walk.specs.declared.cursor.CursorStep.{CursorStep}
-use Rattle.gimli_walk.specs.Cursors.{Answer, answers_at, answers_text, answer_line, status_of, any_sibling, IsHonestAt}
+use Rattle.gimli_walk.specs.Cursors.{Answer, answers_at, answers_text, answer_line, status_of, any_sibling, IsHonestAt, AreTrueAnswers}
 
 abbrev pub line_of : Row → List ℕ
 line_of r = row_line r.offset r.depth r.entry.tag.0 r.entry.has_children
@@ -117,3 +117,31 @@ pub data WroteText (old new : Option (List ℕ)) (text : Text) (status : ℕ) : 
 abbrev pub WroteRun : Option (List ℕ) → Option (List ℕ) → List Answer → Bool → ℕ → Type 0
 WroteRun old new all true status = Appends old new (concat (map answer_line all) ++ memory_line) × (status ≡ 1)
 WroteRun old new all false status = Appends old new (concat (map answer_line all)) × (status ≡ status_of all)
+
+-- the lines of true answers, whatever the references: all of them, or, where memory was refused, the first, and then the line that says so
+pub record WroteTrue (limit : ℕ) (u : UnitView) (declared : Map) (old new : Option (List ℕ)) (status : ℕ) : Type 0 where
+  pub all : List Answer
+  pub stopped : Bool
+  pub are_true : AreTrueAnswers limit u declared all
+  pub written : WroteRun old new all stopped status
+
+-- a mode that steps a cursor writes such lines
+abbrev pub WroteTrueMode : ℕ → Mode → UnitView → Map → Option (List ℕ) → Option (List ℕ) → ℕ → Type 0
+WroteTrueMode limit Rows u declared old new status = Unit {0}
+WroteTrueMode limit (Cursor steps) u declared old new status = WroteTrue limit u declared old new status
+WroteTrueMode limit (Plain steps) u declared old new status = WroteTrue limit u declared old new status
+
+abbrev pub WroteTrueDeclared : ℕ → Mode → UnitView → Result Map Error → Option (List ℕ) → Option (List ℕ) → ℕ → Type 0
+WroteTrueDeclared limit mode u (Ok declared) old new status = WroteTrueMode limit mode u declared old new status
+WroteTrueDeclared limit mode u (Err e) old new status = Unit {0}
+
+abbrev pub WroteTrueFirst : ℕ → Mode → Reads UnitView → View → Option (List ℕ) → Option (List ℕ) → ℕ → Type 0
+WroteTrueFirst limit mode (Ok p) abbreviations old new status = WroteTrueDeclared limit mode p.0 (map_at p.0.abbreviations abbreviations) old new status
+WroteTrueFirst limit mode (Err e) abbreviations old new status = Unit {0}
+
+-- the same of the first unit of `.debug_info`
+abbrev pub WroteTrueWalk : ℕ → Mode → View → View → Option (List ℕ) → Option (List ℕ) → ℕ → Type 0
+WroteTrueWalk limit mode info abbreviations old new status = elim (length info.bytes == 0) [
+  | true ↦ Unit {0}
+  | false ↦ WroteTrueFirst limit mode (unit_at limit DebugInfo 0 info) abbreviations old new status
+]

@@ -196,6 +196,7 @@ pub fn run_cursor<R: Reader, A: Allocator + Copy>(
     ensures answers { (any_sibling steps.now ≡ true → IsHonestFrom R.Offset.limit (⟦<UnitHeader<R> as HasUnit>⟧.unit unit.now) (found abbreviations.now) (start_view (⟦<UnitHeader<R> as HasUnit>⟧.unit unit.now) (option_map (λ o. R.Offset.number o.0) start))) → RunsAs (answer_of (λ r. (map (seen R.view R.Offset.number) r.answers.items, r.stopped)) result) (run_answers R.Offset.limit (⟦<UnitHeader<R> as HasUnit>⟧.unit unit.now) (found abbreviations.now) (option_map (λ o. R.Offset.number o.0) start) steps.now) }
     ensures true_answers { IfOk result (λ r. AreTrueAnswers R.Offset.limit (⟦<UnitHeader<R> as HasUnit>⟧.unit unit.now) (found abbreviations.now) (map (seen R.view R.Offset.number) r.answers.items)) }
     ensures taken { IfOk result (λ r. AreTaken R.Offset.limit (⟦<UnitHeader<R> as HasUnit>⟧.unit unit.now) (found abbreviations.now) steps.now (map (seen R.view R.Offset.number) r.answers.items)) }
+    ensures refused { IfErr result (λ e. start_view (⟦<UnitHeader<R> as HasUnit>⟧.unit unit.now) (option_map (λ o. R.Offset.number o.0) start) ≡ Err e) }
     ensures stopped { IfOk result (λ r. IsStopped r.stopped (length r.answers.items) (length steps.now)) }
 {
     let mut cursor = start_cursor(alloc, unit, abbreviations, start, true)?;
@@ -215,6 +216,7 @@ pub fn run_cursor_plain<R: Reader, A: Allocator + Copy>(
 ) -> Result<Run<CursorAnswer<R, A>, A>>
     ensures answers { RunsAs (answer_of (λ r. (map (seen R.view R.Offset.number) r.answers.items, r.stopped)) result) (run_answers R.Offset.limit (⟦<UnitHeader<R> as HasUnit>⟧.unit unit.now) (found abbreviations.now) (option_map (λ o. R.Offset.number o.0) start) steps.now) }
     ensures true_answers { IfOk result (λ r. AreTrueAnswers R.Offset.limit (⟦<UnitHeader<R> as HasUnit>⟧.unit unit.now) (found abbreviations.now) (map (seen R.view R.Offset.number) r.answers.items)) }
+    ensures refused { IfErr result (λ e. start_view (⟦<UnitHeader<R> as HasUnit>⟧.unit unit.now) (option_map (λ o. R.Offset.number o.0) start) ≡ Err e) }
     ensures stopped { IfOk result (λ r. IsStopped r.stopped (length r.answers.items) (length steps.now)) }
 {
     let mut cursor = start_cursor(alloc, unit, abbreviations, start, false)?;

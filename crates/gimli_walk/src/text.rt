@@ -5,7 +5,7 @@ ghost use Rattle.gimli_base.specs.Table.{found};
 ghost use Rattle.gimli_units.specs.Entry.{entry_at};
 ghost use Rattle.gimli_units.specs.Rows.{ahead_at};
 ghost use Rattle.gimli_base.specs.Abbreviations.{map_at};
-ghost use Rattle.gimli_walk.specs.Text.{Wrote, WroteAll, WroteText, has_unit, little, rows_text, declared_text, mode_text, sections_text, text_of, IsHonestMode, IsHonestDeclared, IsHonestWalk};
+ghost use Rattle.gimli_walk.specs.Text.{Wrote, WroteAll, WroteText, has_unit, little, rows_text, declared_text, mode_text, sections_text, text_of, IsHonestMode, IsHonestDeclared, IsHonestWalk, WroteTrueMode, WroteTrueDeclared, WroteTrueWalk};
 
 use crate::answers::write_run;
 use crate::lines::{WriteFault, write_end, write_error, write_error_at, write_no_unit, write_row};
@@ -31,6 +31,7 @@ pub fn walk_text<A: Allocator + Copy, W: Write>(
     out: &mut W,
 ) -> Result<u8, WriteFault>
     ensures text { IsHonestWalk (2 ^ 64) mode.entry (little info.now) (little abbreviations.now) → IfOk result (λ status. WroteText (W.contents out.old) (W.contents out.new) (text_of mode.entry info.now abbreviations.now) status) }
+    ensures true_lines { IfOk result (λ status. WroteTrueWalk (2 ^ 64) mode.entry (little info.now) (little abbreviations.now) (W.contents out.old) (W.contents out.new) status) }
     ensures without_memory { has_unit (2 ^ 64) (little info.now) ≡ false → IfOk result (λ status. WroteAll (W.contents out.old) (W.contents out.new) (text_of mode.entry info.now abbreviations.now) status) }
 {
     let debug_info = DebugInfo::new(info, LittleEndian);
@@ -48,6 +49,7 @@ fn walk_sections<R: Reader, A: Allocator + Copy, W: Write>(
     out: &mut W,
 ) -> Result<u8, WriteFault>
     ensures without_memory { has_unit R.Offset.limit (⟦<DebugInfo<R> as Section<R>>⟧.content debug_info.now) ≡ false → IfOk result (λ status. WroteAll (W.contents out.old) (W.contents out.new) (sections_text R.Offset.limit (mode_text R.Offset.limit mode.entry) (⟦<DebugInfo<R> as Section<R>>⟧.content debug_info.now) (⟦<DebugAbbrev<R> as Section<R>>⟧.content debug_abbrev.now)) status) }
+    ensures true_lines { IfOk result (λ status. WroteTrueWalk R.Offset.limit mode.entry (⟦<DebugInfo<R> as Section<R>>⟧.content debug_info.now) (⟦<DebugAbbrev<R> as Section<R>>⟧.content debug_abbrev.now) (W.contents out.old) (W.contents out.new) status) }
     ensures text { IsHonestWalk R.Offset.limit mode.entry (⟦<DebugInfo<R> as Section<R>>⟧.content debug_info.now) (⟦<DebugAbbrev<R> as Section<R>>⟧.content debug_abbrev.now) → IfOk result (λ status. WroteText (W.contents out.old) (W.contents out.new) (sections_text R.Offset.limit (mode_text R.Offset.limit mode.entry) (⟦<DebugInfo<R> as Section<R>>⟧.content debug_info.now) (⟦<DebugAbbrev<R> as Section<R>>⟧.content debug_abbrev.now)) status) }
 {
     match debug_info.units().next() {
@@ -71,7 +73,8 @@ fn walk_unit<R: Reader, A: Allocator + Copy, W: Write>(
     debug_abbrev: &DebugAbbrev<R>,
     out: &mut W,
 ) -> Result<u8, WriteFault>
-    ensures { IsHonestDeclared R.Offset.limit mode.entry (⟦<UnitHeader<R> as HasUnit>⟧.unit unit.now) (map_at (⟦<UnitHeader<R> as HasUnit>⟧.unit unit.now).abbreviations (⟦<DebugAbbrev<R> as Section<R>>⟧.content debug_abbrev.now)) → IfOk result (λ status. WroteText (W.contents out.old) (W.contents out.new) (declared_text (mode_text R.Offset.limit mode.entry) (⟦<UnitHeader<R> as HasUnit>⟧.unit unit.now) (map_at (⟦<UnitHeader<R> as HasUnit>⟧.unit unit.now).abbreviations (⟦<DebugAbbrev<R> as Section<R>>⟧.content debug_abbrev.now))) status) }
+    ensures true_lines { IfOk result (λ status. WroteTrueDeclared R.Offset.limit mode.entry (⟦<UnitHeader<R> as HasUnit>⟧.unit unit.now) (map_at (⟦<UnitHeader<R> as HasUnit>⟧.unit unit.now).abbreviations (⟦<DebugAbbrev<R> as Section<R>>⟧.content debug_abbrev.now)) (W.contents out.old) (W.contents out.new) status) }
+    ensures text { IsHonestDeclared R.Offset.limit mode.entry (⟦<UnitHeader<R> as HasUnit>⟧.unit unit.now) (map_at (⟦<UnitHeader<R> as HasUnit>⟧.unit unit.now).abbreviations (⟦<DebugAbbrev<R> as Section<R>>⟧.content debug_abbrev.now)) → IfOk result (λ status. WroteText (W.contents out.old) (W.contents out.new) (declared_text (mode_text R.Offset.limit mode.entry) (⟦<UnitHeader<R> as HasUnit>⟧.unit unit.now) (map_at (⟦<UnitHeader<R> as HasUnit>⟧.unit unit.now).abbreviations (⟦<DebugAbbrev<R> as Section<R>>⟧.content debug_abbrev.now))) status) }
 {
     match unit.abbreviations(alloc, debug_abbrev) {
         Ok(abbreviations) => walk_declared(alloc, mode, unit, &abbreviations, out),
@@ -90,7 +93,8 @@ fn walk_declared<R: Reader, A: Allocator + Copy, W: Write>(
     abbreviations: &Abbreviations<A>,
     out: &mut W,
 ) -> Result<u8, WriteFault>
-    ensures { IsHonestMode R.Offset.limit mode.entry (⟦<UnitHeader<R> as HasUnit>⟧.unit unit.now) (found abbreviations.now) → IfOk result (λ status. Wrote (W.contents out.old) (W.contents out.new) (mode_text R.Offset.limit mode.entry (⟦<UnitHeader<R> as HasUnit>⟧.unit unit.now) (found abbreviations.now)) status) }
+    ensures true_lines { IfOk result (λ status. WroteTrueMode R.Offset.limit mode.entry (⟦<UnitHeader<R> as HasUnit>⟧.unit unit.now) (found abbreviations.now) (W.contents out.old) (W.contents out.new) status) }
+    ensures text { IsHonestMode R.Offset.limit mode.entry (⟦<UnitHeader<R> as HasUnit>⟧.unit unit.now) (found abbreviations.now) → IfOk result (λ status. Wrote (W.contents out.old) (W.contents out.new) (mode_text R.Offset.limit mode.entry (⟦<UnitHeader<R> as HasUnit>⟧.unit unit.now) (found abbreviations.now)) status) }
 {
     match mode {
         Mode::Rows => match unit.entries_raw(abbreviations, None) {

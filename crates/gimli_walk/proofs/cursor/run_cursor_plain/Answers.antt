@@ -4,7 +4,7 @@ use Rattle.std.specs.Option.{option_map}
 use Rattle.gimli_units.specs.UnitKind.{map_type}
 use Rattle.gimli_units.specs.Unit.{UnitView}
 use Rattle.gimli_walk.specs.Cursors.{seen}
-use Rattle.gimli_walk.proofs.CursorTruth.{run_true, run_taken, run_as, run_refused, start_in, stopped_is}
+use Rattle.gimli_walk.proofs.CursorTruth.{run_true, run_taken, run_as, run_refused, start_refused, start_in, stopped_is}
 use Rattle.gimli_walk.proofs.cursor.run_cursor_plain.Goals as goal
 
 pub returns-clause-answers : goal.returns-clause-answers
@@ -54,3 +54,18 @@ returns-clause-true_answers g c =
 
 pub returns-clause-stopped : goal.returns-clause-stopped
 returns-clause-stopped g c = stopped_is _ _ _ c.run_steps.ensures.stopped c.run_steps.ensures.whole
+
+pub returns-in_err-cursor-clause-refused : goal.returns-in_err-cursor-clause-refused
+returns-in_err-cursor-clause-refused g c =
+    let n = g.R.Offset.ReaderOffset.number in
+    let unit : UnitView = record {
+      encoding = c.args.unit.now.encoding;
+      unit_length = n c.args.unit.now.unit_length;
+      kind = map_type n c.args.unit.now.unit_type;
+      abbreviations = n c.args.unit.now.debug_abbrev_offset.0;
+      section = c.args.unit.now.section;
+      offset = n c.args.unit.now.unit_offset.0;
+      entries = g.R.Reader.view c.args.unit.now.entries_buf;
+    } in
+    let r : c.from_residual.result ≡ Err c.in_err-cursor.field-0.0 = search rules in
+    rw r (start_refused g.R.Offset.ReaderOffset.limit unit c.args.abbreviations.now (option_map (λ o. n o.0) c.args.start) c.args.steps.now false c.in_err-cursor.field-0.0 c.in_err-cursor.ensures)

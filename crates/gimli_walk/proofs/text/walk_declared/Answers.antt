@@ -4,11 +4,11 @@ use Rattle.gimli_units.specs.UnitKind.{map_type}
 use Rattle.gimli_units.specs.Unit.{UnitView}
 use Rattle.gimli_walk.proofs.WrittenLines.{Wrote-same_if}
 use Rattle.gimli_walk.proofs.Roots.{root_text, root_refused}
-use Rattle.gimli_walk.proofs.AnswerLines.{run_lines}
+use Rattle.gimli_walk.proofs.AnswerLines.{if_ok, run_lines}
 use Rattle.gimli_walk.proofs.text.walk_declared.Goals as goal
 
-pub returns-in-Ok : goal.returns-in-Ok
-returns-in-Ok g c h =
+pub returns-in-Ok-clause-text : goal.returns-in-Ok-clause-text
+returns-in-Ok-clause-text g c h =
     let number = g.R.Offset.ReaderOffset.number in
     let unit : UnitView = record {
       encoding = c.args.unit.now.encoding;
@@ -21,8 +21,8 @@ returns-in-Ok g c h =
     } in
     rw c.in-Rows.is (Wrote-same_if _ _ _ _ _ (root_text g.R.Offset.ReaderOffset.limit unit c.args.abbreviations.now _ c.in-Ok.ensures) c.walk_rows.ensures)
 
-pub returns-in_ok-write_end-in-Err : goal.returns-in_ok-write_end-in-Err
-returns-in_ok-write_end-in-Err g c h =
+pub returns-in_ok-write_end-in-Err-clause-text : goal.returns-in_ok-write_end-in-Err-clause-text
+returns-in_ok-write_end-in-Err-clause-text g c h =
     let number = g.R.Offset.ReaderOffset.number in
     let unit : UnitView = record {
       encoding = c.args.unit.now.encoding;
@@ -35,8 +35,8 @@ returns-in_ok-write_end-in-Err g c h =
     } in
     rw c.in-Rows.is (root_refused g.R.Offset.ReaderOffset.limit unit c.args.abbreviations.now _ _ _ c.in-Err.ensures c.in_ok-write_end-in-Err.ensures)
 
-pub returns-in-Ok-run_cursor : goal.returns-in-Ok-run_cursor
-returns-in-Ok-run_cursor g c h =
+pub returns-in-Ok-run_cursor-clause-text : goal.returns-in-Ok-run_cursor-clause-text
+returns-in-Ok-run_cursor-clause-text g c h =
     let number = g.R.Offset.ReaderOffset.number in
     let unit : UnitView = record {
       encoding = c.args.unit.now.encoding;
@@ -52,8 +52,8 @@ returns-in-Ok-run_cursor g c h =
     rw c.in-Cursor.is (run_lines g.R.Reader.view number g.R.Offset.ReaderOffset.limit unit (found c.args.abbreviations.now) c.in-Cursor.steps.now _ _ run.answers.items run.stopped c.write_run.result
     (c.in-Ok-run_cursor.ensures.answers honest) c.in-Ok-run_cursor.ensures.stopped c.write_run.ensures)
 
-pub returns-in-Ok-run_cursor_plain : goal.returns-in-Ok-run_cursor_plain
-returns-in-Ok-run_cursor_plain g c h =
+pub returns-in-Ok-run_cursor_plain-clause-text : goal.returns-in-Ok-run_cursor_plain-clause-text
+returns-in-Ok-run_cursor_plain-clause-text g c h =
     let number = g.R.Offset.ReaderOffset.number in
     let unit : UnitView = record {
       encoding = c.args.unit.now.encoding;
@@ -67,3 +67,14 @@ returns-in-Ok-run_cursor_plain g c h =
     let run = c.in-Ok-run_cursor_plain.run' in
     rw c.in-Plain.is (run_lines g.R.Reader.view number g.R.Offset.ReaderOffset.limit unit (found c.args.abbreviations.now) c.in-Plain.steps.now _ _ run.answers.items run.stopped c.write_run-in-Ok-run_cursor_plain.result
     c.in-Ok-run_cursor_plain.ensures.answers c.in-Ok-run_cursor_plain.ensures.stopped c.write_run-in-Ok-run_cursor_plain.ensures)
+
+pub returns-in-Ok-run_cursor-clause-true_lines : goal.returns-in-Ok-run_cursor-clause-true_lines
+returns-in-Ok-run_cursor-clause-true_lines g c =
+    rw c.in-Cursor.is (if_ok c.write_run.result (λ status w. record { all = _; stopped = _; are_true = c.in-Ok-run_cursor.ensures.true_answers; written = w }) c.write_run.ensures)
+
+pub returns-in-Ok-run_cursor_plain-clause-true_lines : goal.returns-in-Ok-run_cursor_plain-clause-true_lines
+returns-in-Ok-run_cursor_plain-clause-true_lines g c =
+    rw c.in-Plain.is (if_ok c.write_run-in-Ok-run_cursor_plain.result (λ status w. record { all = _; stopped = _; are_true = c.in-Ok-run_cursor_plain.ensures.true_answers; written = w }) c.write_run-in-Ok-run_cursor_plain.ensures)
+
+pub returns-in_ok-write_error-in-Err-run_cursor-clause-true_lines : goal.returns-in_ok-write_error-in-Err-run_cursor-clause-true_lines
+returns-in_ok-write_error-in-Err-run_cursor-clause-true_lines g c = let never = c.in-Err-run_cursor.ensures.refused in absurd (cc)
