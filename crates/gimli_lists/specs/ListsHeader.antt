@@ -1,5 +1,5 @@
 -- The header of a section of lists, `.debug_rnglists` or `.debug_loclists` (DWARF 5, 7.28 and 7.29).
-use Rattle.std.specs.Prelude.{ℕ, ◌==◌, if◌then◌else◌, Ok, Err}
+use Rattle.std.specs.Prelude.{ℕ, ◌==◌, if◌then◌else◌, Err}
 use Rattle.gimli_base.specs.declared.common.Format.{Format}
 use Rattle.gimli_base.specs.declared.error.Error.TheVariants.{UnknownVersion, UnsupportedSegmentSize}
 use Rattle.gimli_base.specs.View.{View}
