@@ -2,4 +2,4 @@ pub mod SetReads
 pub mod SetSteps
 pub mod TupleReads
 pub mod TupleSteps
-pub mod RangeSteps
+pub mod ArangeSteps

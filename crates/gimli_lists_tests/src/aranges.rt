@@ -1,0 +1,1 @@
+//! Sets of ranges of addresses.
