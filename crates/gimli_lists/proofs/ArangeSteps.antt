@@ -5,7 +5,7 @@ use Rattle.std.proofs.Common.{sym, ap, ◌∙◌}
 use Rattle.gimli_base.specs.declared.error.Error.{Error}
 use Rattle.gimli_base.specs.View.{View}
 use Rattle.gimli_base.specs.Reading.{is_size}
-use Rattle.gimli_lists.specs.declared.aranges.ArangeEntry.{ArangeEntry}
+use Rattle.gimli_lists.specs.declared.aranges.entries.ArangeEntry.{ArangeEntry}
 use Rattle.gimli_lists.specs.Aranges.{raw_entry, converted, answer_to, first_of_tuples}
 use Rattle.gimli_lists.proofs.TupleSteps.{some_bytes, through, continued, first_through}
 

@@ -8,7 +8,7 @@ use Rattle.gimli_base.specs.Address.{min_tombstone, sum_sized}
 use Rattle.gimli_base.specs.Offset.{answer_of}
 use Rattle.gimli_base.specs.View.{View, cut, ended}
 use Rattle.gimli_base.specs.Reading.{number}
-use Rattle.gimli_lists.specs.declared.aranges.ArangeEntry.{ArangeEntry}
+use Rattle.gimli_lists.specs.declared.aranges.entries.ArangeEntry.{ArangeEntry}
 
 -- the tuple in a view's first bytes: an address and a length, both of this size
 abbrev pub tuple_of : ℕ → View → ℕ × ℕ

@@ -1,7 +1,7 @@
 use Rattle.std.proofs.Common.{rules, arith, ◌≡◌, ◌∙◌, sym, ap, Ok, Some, None}
 use Rattle.gimli_lists.specs.Aranges.{next_tuple, raw_entry}
 use Rattle.gimli_lists.proofs.TupleSteps.{Next, some_bytes, next_none, next_some, next_over, next_shorter}
-use Rattle.gimli_lists.proofs.aranges.next_entry.Goals as goal
+use Rattle.gimli_lists.proofs.aranges.entries.next_entry.Goals as goal
 
 pub returns-in-Some-raw_entry-clause-value : goal.returns-in-Some-raw_entry-clause-value
 returns-in-Some-raw_entry-clause-value g c =

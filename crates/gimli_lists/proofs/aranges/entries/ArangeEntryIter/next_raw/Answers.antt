@@ -3,7 +3,7 @@ use Rattle.std.specs.Option.{option_to_list}
 use Rattle.gimli_base.specs.View.{View}
 use Rattle.gimli_lists.specs.Aranges.{ArangesPlace, raw_entry, first_of_tuples, raw_entries}
 use Rattle.gimli_lists.proofs.TupleSteps.{some_bytes, made_of-first}
-use Rattle.gimli_lists.proofs.aranges.ArangeEntryIter.next_raw.Goals as goal
+use Rattle.gimli_lists.proofs.aranges.entries.ArangeEntryIter.next_raw.Goals as goal
 
 pub returns-clause-ahead : goal.returns-clause-ahead
 returns-clause-ahead g c =

@@ -1,6 +1,6 @@
 use Rattle.std.proofs.Common.{◌≡◌, ◌≤◌, length}
 use Rattle.gimli_lists.specs.Aranges.{answer_to, first_of_tuples}
-use Rattle.gimli_lists.proofs.aranges.next_range.Given as goal
+use Rattle.gimli_lists.proofs.aranges.entries.next_range.Given as goal
 
 abbrev pub invariant-loop-raw_entry : goal.invariant-loop-raw_entry
 invariant-loop-raw_entry g l = record {

@@ -1,6 +1,6 @@
 use Rattle.std.proofs.Common.{◌≡◌, ◌≤◌, length}
 use Rattle.gimli_lists.specs.Aranges.{raw_entry, first_of_tuples}
-use Rattle.gimli_lists.proofs.aranges.next_entry.Given as goal
+use Rattle.gimli_lists.proofs.aranges.entries.next_entry.Given as goal
 
 abbrev pub invariant-loop-address : goal.invariant-loop-address
 invariant-loop-address g l = record {

@@ -1,6 +1,6 @@
 use Rattle.std.proofs.Common.{arith, ◌≤◌, ◌*◌, length}
 use Rattle.gimli_lists.proofs.TupleReads.{address_found, other_within, next_tuple_read}
-use Rattle.gimli_lists.proofs.aranges.next_tuple.Goals as goal
+use Rattle.gimli_lists.proofs.aranges.entries.next_tuple.Goals as goal
 
 pub returns-in_err-address : goal.returns-in_err-address
 returns-in_err-address g c =

@@ -2,7 +2,7 @@ use Rattle.std.proofs.Common.{rules, ◌≡◌, ◌∙◌, sym, ap, Ok, Err, Som
 use Rattle.std.specs.Option.{option_transpose}
 use Rattle.gimli_lists.specs.Aranges.{converted}
 use Rattle.gimli_lists.proofs.ArangeSteps.{NextRaw, range_none, range_refused, range_found, range_dropped}
-use Rattle.gimli_lists.proofs.aranges.next_range.Goals as goal
+use Rattle.gimli_lists.proofs.aranges.entries.next_range.Goals as goal
 
 pub returns-in_err-entry-clause-value : goal.returns-in_err-entry-clause-value
 returns-in_err-entry-clause-value g c =
