@@ -7,7 +7,7 @@ ghost use Rattle.std.specs.Option.{option_map, option_to_list, option_transpose}
 ghost use Rattle.gimli_base.specs.declared.common.SectionId.TheVariants.{DebugAranges as ArangesSection};
 ghost use Rattle.gimli_base.specs.Offset.{answer_of};
 ghost use Rattle.gimli_base.specs.Reading.{read, is_size};
-ghost use Rattle.gimli_lists.specs.ArangeSets.{ArangeSet, SetsPlace, padding_size, set_fields_at, set_at, set_from, next_set, sets_ahead};
+ghost use Rattle.gimli_lists.specs.ArangeSets.{ArangeSet, SetsPlace, padding_size, set_fields_at, set_at, set_from, next_set, sets_ahead, sets_of};
 ghost use Rattle.gimli_lists.specs.Aranges.{ArangesPlace};
 
 use gimli_base::{
@@ -83,9 +83,10 @@ impl<R: Reader> DebugAranges<R> {
         }
     }
 
-    /// The sets of the section, from its beginning on.
+    /// The sets of the section, from its beginning on: each begins where the one before ends.
     pub fn headers(&self) -> ArangeHeaderIter<R>
-        ensures { result ≡ record { rest = ⟦<DebugAranges<R> as Section<R>>⟧.content self.now; offset = 0 } }
+        ensures begin { result ≡ record { rest = ⟦<DebugAranges<R> as Section<R>>⟧.content self.now; offset = 0 } }
+        ensures all { sets_ahead R.Offset.limit result ≡ sets_of R.Offset.limit (⟦<DebugAranges<R> as Section<R>>⟧.content self.now) }
     {
         ArangeHeaderIter {
             input: self.section.copy(),
