@@ -14,3 +14,5 @@ pub mod Abbreviations
 pub mod Table
 pub mod Both
 pub mod Width
+pub mod Address
+pub mod ListsBase

@@ -1,7 +1,10 @@
 //! Formats, encodings, sections, and numbers that name places (DWARF 5, 7.4).
 
 ghost use Rattle.std.specs.Prelude.{◌≡◌};
+ghost use Rattle.gimli_base.specs.ListsBase.{default_base};
 ghost use Rattle.gimli_base.specs.Reading.{word_size_of, initial_length_size_of};
+
+use crate::ReaderOffset;
 
 /// The format of a unit, which gives the width of its lengths and offsets (DWARF 5, 7.4).
 #[derive(Clone, Copy, Debug, PartialEq, Eq, PartialOrd, Ord, Hash)]
@@ -111,6 +114,16 @@ pub struct DebugLineStrOffset<Offset>(pub Offset);
 #[derive(Clone, Copy, Debug, PartialEq, Eq, PartialOrd, Ord, Hash)]
 pub struct DebugLocListsBase<Offset>(pub Offset);
 
+impl<Offset: ReaderOffset> DebugLocListsBase<Offset> {
+    /// The base of a unit that names none: behind the section's header, 12 or 20 bytes by the format, in a split file of
+    /// version 5 or later, else 0 (DWARF 5, 7.29).
+    pub fn default_for_encoding_and_file(encoding: Encoding, file_type: DwarfFileType) -> Self
+        ensures { Offset.number result.0 ≡ default_base encoding file_type }
+    {
+        DebugLocListsBase(Offset::from_u8(default_lists_base(encoding, file_type)))
+    }
+}
+
 /// An index in a unit's table of offsets of location lists in `.debug_loclists`.
 #[derive(Clone, Copy, Debug, PartialEq, Eq, PartialOrd, Ord, Hash)]
 pub struct DebugLocListsIndex<Offset>(pub Offset);
@@ -126,6 +139,16 @@ pub struct DebugMacroOffset<Offset>(pub Offset);
 /// The offset in `.debug_rnglists` at which a unit's table of offsets begins.
 #[derive(Clone, Copy, Debug, PartialEq, Eq, PartialOrd, Ord, Hash)]
 pub struct DebugRngListsBase<Offset>(pub Offset);
+
+impl<Offset: ReaderOffset> DebugRngListsBase<Offset> {
+    /// The base of a unit that names none: behind the section's header, 12 or 20 bytes by the format, in a split file of
+    /// version 5 or later, else 0 (DWARF 5, 7.28).
+    pub fn default_for_encoding_and_file(encoding: Encoding, file_type: DwarfFileType) -> Self
+        ensures { Offset.number result.0 ≡ default_base encoding file_type }
+    {
+        DebugRngListsBase(Offset::from_u8(default_lists_base(encoding, file_type)))
+    }
+}
 
 /// An index in a unit's table of offsets of range lists in `.debug_rnglists`.
 #[derive(Clone, Copy, Debug, PartialEq, Eq, PartialOrd, Ord, Hash)]
@@ -162,3 +185,15 @@ pub struct DebugTypeSignature(pub u64);
 /// The id that joins a skeleton unit to its split unit.
 #[derive(Clone, Copy, Debug, PartialEq, Eq, PartialOrd, Ord, Hash)]
 pub struct DwoId(pub u64);
+
+// The base of a unit's table of offsets of lists, where the unit names none.
+fn default_lists_base(encoding: Encoding, file_type: DwarfFileType) -> u8
+    ensures { result ≡ default_base encoding file_type }
+{
+    match file_type {
+        DwarfFileType::Dwo if encoding.version >= 5 => {
+            encoding.format.initial_length_size() + 2 + 1 + 1 + 4
+        }
+        _ => 0,
+    }
+}

@@ -2,6 +2,8 @@
 #![tactic(auto)]
 
 mod abbrev;
+mod addr;
+mod address;
 mod common;
 mod constants;
 mod endian_slice;
@@ -18,6 +20,8 @@ mod width;
 mod words;
 
 pub use abbrev::{Abbreviation, Abbreviations, AttributeSpecification, DebugAbbrev};
+pub use addr::DebugAddr;
+pub use address::ReaderAddress;
 pub use common::{
     DebugAbbrevOffset, DebugAddrBase, DebugAddrIndex, DebugArangesOffset, DebugLineOffset,
     DebugLineStrOffset, DebugLocListsBase, DebugLocListsIndex, DebugMacinfoOffset,

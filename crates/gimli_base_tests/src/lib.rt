@@ -4,6 +4,10 @@
 #[cfg(test)]
 mod abbrev;
 #[cfg(test)]
+mod addr;
+#[cfg(test)]
+mod address;
+#[cfg(test)]
 mod common;
 #[cfg(test)]
 mod constants;

@@ -1,5 +1,5 @@
 -- What the header of a unit holds, and the bounds of its offsets (DWARF 5, 7.5.1).
-use Rattle.std.specs.Prelude.{ℕ, ◌+◌, ◌-◌, nat_le, nat_lt, ◌&&◌, if◌then◌else◌, ◌==◌, ◌^◌, Bool, true, false, length, pos, Option, Some, None, unwrap_or, Result, Ok, Err}
+use Rattle.std.specs.Prelude.{ℕ, ◌+◌, ◌-◌, nat_le, nat_lt, ◌&&◌, if◌then◌else◌, ◌==◌, Bool, true, false, length, pos, Option, Some, None, unwrap_or, Result, Ok, Err}
 use Rattle.gimli_base.specs.declared.common.Encoding.{Encoding}
 use Rattle.gimli_base.specs.declared.common.SectionId.{SectionId}
 use Rattle.gimli_base.specs.declared.error.Error.{Error}
@@ -84,10 +84,6 @@ abbrev pub size_of_header : UnitView → ℕ
 size_of_header u =
     initial_length_size_of u.encoding.format + 2 + word_size_of u.encoding.format + 1
     + (if u.encoding.version == 5 then 1 else 0) + added_size u.encoding.format u.kind
-
--- the least address of a size that stands for none: all ones, less one
-abbrev pub min_tombstone : ℕ → ℕ
-min_tombstone size = 256 ^ size - 2
 
 -- a reader of the entries in these bytes of a unit
 abbrev pub entries_in : UnitView → Table → Result View Error → Result RawPlace Error

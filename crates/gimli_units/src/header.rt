@@ -4,6 +4,7 @@ ghost use Rattle.std.specs.Prelude.{◌≡◌, ◌+◌, ◌-◌, ◌<◌, ◌≤
 ghost use Rattle.std.specs.Option.{option_map};
 ghost use Rattle.gimli_base.specs.Offset.{answer_of};
 ghost use Rattle.gimli_base.specs.Abbreviations.{map_at};
+ghost use Rattle.gimli_base.specs.Address.{min_tombstone};
 ghost use Rattle.gimli_base.specs.Table.{found};
 ghost use Rattle.gimli_base.specs.Reading.{initial_length_size_of, is_size, UnlessMemory};
 ghost use Rattle.gimli_units.specs.Entry.{entry_of};
@@ -15,8 +16,8 @@ use crate::{
     UnitOffset, UnitSectionOffset, UnitType,
 };
 use gimli_base::{
-    Abbreviations, DebugAbbrev, DebugAbbrevOffset, Encoding, Error, Format, Reader, ReaderOffset,
-    Result, Section, SectionId,
+    Abbreviations, DebugAbbrev, DebugAbbrevOffset, Encoding, Error, Format, Reader, ReaderAddress,
+    ReaderOffset, Result, Section, SectionId,
 };
 use std::alloc::{AllocError, Allocator};
 use std::fmt::Debug;
@@ -71,7 +72,7 @@ impl<R: Reader> HasUnit for UnitHeader<R> {
 }
 
 impl<R: Reader> UnitHeader<R> {
-    ghost use Rattle.gimli_units.specs.Unit.{UnitView, whole_length, header_size, in_bounds, range_from, entries_of, entries_from, range_of, range_to, debug_info_offset, debug_types_offset, size_of_header, min_tombstone, unit_entry_at, takes_memory_in};
+    ghost use Rattle.gimli_units.specs.Unit.{UnitView, whole_length, header_size, in_bounds, range_from, entries_of, entries_from, range_of, range_to, debug_info_offset, debug_types_offset, size_of_header, unit_entry_at, takes_memory_in};
 
     /// A header of these parts. The whole length, which is 4 or 12 and `unit_length`, has to fit the reader's offsets,
     /// and to be no less than the number of bytes in `entries_buf`.
@@ -215,13 +216,7 @@ impl<R: Reader> UnitHeader<R> {
         requires { IsTrue (is_size (⟦<UnitHeader<R> as HasUnit>⟧.unit self.now).encoding.address_size) }
         ensures { IsTrue result ↔ (min_tombstone (⟦<UnitHeader<R> as HasUnit>⟧.unit self.now).encoding.address_size ≤ address) }
     {
-        let least = match self.encoding.address_size {
-            1 => 0xfe,
-            2 => 0xfffe,
-            4 => 0xffff_fffe,
-            _ => 0xffff_ffff_ffff_fffe,
-        };
-        least <= address
+        address >= u64::min_tombstone(self.encoding.address_size)
     }
 
     /// Where the unit's abbreviations begin in `.debug_abbrev`.

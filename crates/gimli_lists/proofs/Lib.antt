@@ -1,0 +1,5 @@
+pub mod SetReads
+pub mod SetSteps
+pub mod TupleReads
+pub mod TupleSteps
+pub mod ArangeSteps

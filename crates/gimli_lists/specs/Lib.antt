@@ -1,0 +1,3 @@
+pub mod ListsHeader
+pub mod Aranges
+pub mod ArangeSets

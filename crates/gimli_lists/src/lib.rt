@@ -1,0 +1,12 @@
+//! Ranges of addresses, and lists of ranges and locations.
+#![tactic(auto)]
+
+mod aranges;
+mod lists;
+mod rnglists;
+
+pub use aranges::{
+    ArangeEntry, ArangeEntryIter, ArangeHeader, ArangeHeaderIter, DebugAranges, HasArangeSet,
+};
+pub use lists::ListsHeader;
+pub use rnglists::Range;

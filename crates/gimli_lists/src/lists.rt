@@ -1,0 +1,85 @@
+//! The header of a section of lists.
+
+ghost use Rattle.std.specs.Prelude.{◌≡◌, OnErr};
+ghost use Rattle.gimli_base.specs.declared.common.Format.TheVariants.{Dwarf32};
+ghost use Rattle.gimli_base.specs.ListsBase.{lists_header_size};
+ghost use Rattle.gimli_base.specs.Reading.{read};
+ghost use Rattle.gimli_lists.specs.ListsHeader.{header_of, lists_fields_at, lists_header_at};
+
+use gimli_base::{Encoding, Error, Format, Reader, Result};
+
+/// The header of `.debug_rnglists` or of `.debug_loclists` (DWARF 5, 7.28 and 7.29).
+#[derive(Clone, Copy, Debug)]
+pub struct ListsHeader {
+    /// How the bytes behind the header are read.
+    pub encoding: Encoding,
+    /// How many offsets follow the header.
+    pub offset_entry_count: u32,
+}
+
+impl Default for ListsHeader {
+    ghost is_default = { λ h. h ≡ header_of Dwarf32 5 0 0 };
+
+    fn default() -> Self {
+        ListsHeader {
+            encoding: Encoding {
+                format: Format::Dwarf32,
+                version: 5,
+                address_size: 0,
+            },
+            offset_entry_count: 0,
+        }
+    }
+}
+
+impl ListsHeader {
+    /// The number of bytes of the header: 12, or 20 in the format of 64 bits.
+    pub fn size(self) -> u8
+        ensures { result ≡ lists_header_size self.encoding.format }
+    {
+        self.encoding.format.initial_length_size() + 2 + 1 + 1 + 4
+    }
+
+    /// Reads the next header, and leaves the bytes behind it up to the end that its length field gives.
+    ///
+    /// Refusals, which leave the input: `UnexpectedEof`, `UnknownReservedLength`, `UnsupportedOffset`, `UnknownVersion` of
+    /// a version other than 5, `UnsupportedAddressSize`, `UnsupportedSegmentSize` of segment selectors that take bytes.
+    #[tactic(auto, unfolding(crate::specs::ListsHeader::lists_header_at))]
+    pub fn parse<R: Reader>(input: &mut R) -> Result<ListsHeader>
+        ensures value { read result (R.view input.new) ≡ lists_header_at R.Offset.limit (R.view input.old) }
+        ensures kept { OnErr result (R.view input.new ≡ R.view input.old) }
+    {
+        let mut rest = input.copy();
+        let (length, format) = rest.read_initial_length()?;
+        rest.truncate(length)?;
+        let header = parse_fields(&mut rest, format)?;
+        *input = rest;
+        Ok(header)
+    }
+}
+
+// The fields behind the length; where they are refused, the input is left anywhere.
+#[tactic(auto, unfolding(crate::specs::ListsHeader::lists_fields_at))]
+fn parse_fields<R: Reader>(input: &mut R, format: Format) -> Result<ListsHeader>
+    ensures { read result (R.view input.new) ≡ lists_fields_at format (R.view input.old) }
+{
+    let version = input.read_u16()?;
+    if version != 5 {
+        return Err(Error::UnknownVersion(u64::from(version)));
+    }
+    let address_size = input.read_address_size()?;
+    let segment_selector_size = input.read_u8()?;
+    if segment_selector_size != 0 {
+        return Err(Error::UnsupportedSegmentSize(segment_selector_size));
+    }
+    let offset_entry_count = input.read_u32()?;
+    let encoding = Encoding {
+        format,
+        version,
+        address_size,
+    };
+    Ok(ListsHeader {
+        encoding,
+        offset_entry_count,
+    })
+}

@@ -1,0 +1,9 @@
+//! Tests of `gimli_lists`.
+#![tactic(auto)]
+
+#[cfg(test)]
+mod aranges;
+#[cfg(test)]
+mod lists;
+#[cfg(test)]
+mod samples;
