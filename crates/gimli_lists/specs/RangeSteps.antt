@@ -14,7 +14,7 @@ use Rattle.gimli_lists.specs.RawList.{EntryReads, used_up, end_of_list, refused,
 use Rattle.gimli_lists.specs.ListSteps.{list_ended, list_end, list_refused, list_more, resolved_list-first, resolved_list-none, then_answers, base_after, GivesSound, resolve-sound}
 use Rattle.gimli_lists.specs.RangeEntry.{RangeEntry, RawPlace, entries_of}
 use Rattle.gimli_lists.specs.RangeReads.{range_entry_at-shorter}
-use Rattle.gimli_lists.specs.Ranges.{ListSections, section_of, raw_ranges_at, next_raw, RangesPlace, look_up_of, range_of, converted, ranges_ahead}
+use Rattle.gimli_lists.specs.Ranges.{ListSections, section_of, raw_ranges_at, ranges_at, answers_from, range_answers, next_raw, RangesPlace, look_up_of, range_of, converted, ranges_ahead}
 use Rattle.gimli_lists.specs.Resolved.{Resolved, resolve, resolved_list, answered, transposed}
 
 -- the beginning of a list keeps the encoding
@@ -29,6 +29,12 @@ raw_ranges_at-encoding offset encoding s p h = either (skip_at offset (section_o
         let same : p ≡ record { rest = q.1; encoding = encoding; format = if nat_le encoding.version 4 then Bare else Rle } = cc in
         ap (λ (p : RawPlace). p.encoding) same
     either (Err e) h = absurd (cc)
+
+-- the answers of the list at an offset are those ahead of its beginning
+pub range_answers-listed : (limit offset : ℕ) (encoding : Encoding) (base : ℕ) (addresses : View) (table : ℕ) (s : ListSections) (p : RangesPlace)
+    → Ok p ≡ ranges_at offset encoding base addresses table s → range_answers limit offset encoding base addresses table s ≡ Ok (ranges_ahead limit p)
+unfolding range_answers
+range_answers-listed limit offset encoding base addresses table s p h = ap (answers_from limit) (sym h)
 
 -- an answer to the next entry, and the place that it leaves
 abbrev pub Next : Type 0

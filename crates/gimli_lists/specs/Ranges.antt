@@ -76,3 +76,12 @@ ranges_at offset encoding base addresses table s = elim (raw_ranges_at offset en
   | Ok p ↦ Ok (record { raw = p; base = base; addresses = addresses; table = table })
   | Err e ↦ Err e
 ]
+
+-- the answers from a place on, where there is one
+abbrev pub answers_from : ℕ → Result RangesPlace Error → Result (List (Result (Resolved (Unit {0})) Error)) Error
+answers_from limit (Ok p) = Ok (ranges_ahead limit p)
+answers_from limit (Err e) = Err e
+
+-- the answers of the list at an offset, with a base address at hand, or the refusal of the offset
+unfoldable pub range_answers : ℕ → ℕ → Encoding → ℕ → View → ℕ → ListSections → Result (List (Result (Resolved (Unit {0})) Error)) Error
+range_answers limit offset encoding base addresses table s = answers_from limit (ranges_at offset encoding base addresses table s)

@@ -3,12 +3,14 @@
 
 mod lines;
 mod mode;
+mod ranges;
 mod run;
 mod text;
 mod words;
 
 pub use lines::WriteFault;
 pub use mode::Mode;
+pub use ranges::run_ranges;
 pub use run::{Run, run_type_units, run_units};
 pub use text::walk_text;
 pub use words::run_words;
