@@ -1,6 +1,6 @@
 -- A list as its reading moves along it, and its answers with the base address that is at hand (DWARF 5, 2.6.2 and 2.17.3).
-use Rattle.std.specs.Prelude.{◌≡◌, ℕ, zero, suc, ◌+◌, ◌-◌, ◌^◌, ◌<◌, ◌≤◌, ◌==◌, nat_lt, ◌&&◌, if◌then◌else◌, Bool, true, false, List, [], ◌∷◌, ◌++◌, map, take, reverse, length, Option, Some, None, unwrap_or, Result, Ok, Err}
-use Rattle.std.specs.List.{enumerate_from, filter_map}
+use Rattle.std.specs.Prelude.{◌≡◌, ℕ, zero, suc, ◌+◌, ◌-◌, ◌^◌, ◌<◌, ◌≤◌, ◌==◌, nat_lt, ◌&&◌, if◌then◌else◌, Bool, true, false, List, [], ◌∷◌, ◌++◌, map, min, take, reverse, length, Option, Some, None, unwrap_or, Result, Ok, Err}
+use Rattle.std.specs.List.{enumerate_from, filter_map, prefix_len}
 use Rattle.std.specs.Option.{option_or}
 use Rattle.std.proofs.Common.{refl, sym, ap, ◌∙◌, arith, inl, inr}
 use Rattle.std.proofs.lemmas.List.{reverse-append}
@@ -11,7 +11,7 @@ use Rattle.gimli_base.specs.View.{View}
 use Rattle.gimli_base.specs.Reading.{Reads}
 use Rattle.gimli_lists.specs.RawList.{Entry, address_or_offset_pair, base_address, base_addressx, startx_endx, startx_length, offset_pair, default_location, start_end, start_length, EntryReads, Ending, end_of_list, used_up, refused, RawList, no_entries, then_entry, then_list, list_within, list_at}
 use Rattle.gimli_base.specs.Address.{min_tombstone, wrapped_sum}
-use Rattle.gimli_lists.specs.Resolved.{LookUp, Resolved, located, located_from, if_found, base_given, first_base, base_before, resolve, resolve_each, some_answer, last_answer, resolved_list}
+use Rattle.gimli_lists.specs.Resolved.{LookUp, Resolved, located, located_from, if_found, base_given, first_base, base_before, resolve, resolve_each, some_answer, last_answer, is_nothing, entries_read, resolved_list}
 
 -- the first base of entries with one more at their end
 first_base-last : {P : Type 0} → (look_up : LookUp) (es : List (Entry P)) (e : Entry P)
@@ -33,7 +33,7 @@ abbrev pub base_after : {P : Type 0} → LookUp → ℕ → Entry P → ℕ
 base_after look_up base e = unwrap_or (base_given look_up e) base
 
 -- behind an entry, the base before a later entry is that of the entries between, with the base behind the entry at hand
-base_before-later : {P : Type 0} → (look_up : LookUp) (base : ℕ) (e : Entry P) (es : List (Entry P)) (i : ℕ)
+pub base_before-later : {P : Type 0} → (look_up : LookUp) (base : ℕ) (e : Entry P) (es : List (Entry P)) (i : ℕ)
     → base_before look_up base (e ∷ es) (suc i) ≡ base_before look_up (base_after look_up base e) es i
 base_before-later look_up base e es i =
     let turned : reverse (e ∷ take i es) ≡ reverse (take i es) ++ e ∷ [] = reverse-append (e ∷ []) (take i es) in
@@ -77,6 +77,22 @@ module _ {P : Type 0} (size : ℕ) (look_up : LookUp) where
       either (Ok None) rs = refl
       either (Ok (Some x)) rs = refl
       either (Err e) rs = refl
+
+  -- an entry that stands for nothing is read before the others
+  pub entries_read-more : (base : ℕ) (e : Entry P) (es : List (Entry P)) → Ok None ≡ resolve size look_up base e
+      → entries_read size look_up base (e ∷ es) ≡ suc (entries_read size look_up (base_after look_up base e) es)
+  entries_read-more base e es h =
+      let others = resolve_each size look_up (base_after look_up base e) es in
+      let sum : min (length (e ∷ es)) (1 + prefix_len is_nothing others + 1) ≡ suc (min (length es) (prefix_len is_nothing others + 1)) = omega arith in
+      ap (λ rs. min (length (e ∷ es)) (prefix_len is_nothing (resolve size look_up base e ∷ rs) + 1)) (resolve_later base e es 0 es)
+      ∙ ap (λ r. min (length (e ∷ es)) (prefix_len is_nothing (r ∷ others) + 1)) (sym h) ∙ sum
+
+  -- an entry that stands for something is read alone
+  pub entries_read-one : (base : ℕ) (e : Entry P) (es : List (Entry P)) → is_nothing (resolve size look_up base e) ≡ false
+      → entries_read size look_up base (e ∷ es) ≡ 1
+  entries_read-one base e es h =
+      let one : min (length (e ∷ es)) (0 + 1) ≡ 1 = omega arith in
+      rw h one
 
   -- of no entry there is the refusal alone
   pub resolved_list-none : (base : ℕ) (ending : Ending) → resolved_list {P = P} size look_up base (no_entries ending) ≡ last_answer ending

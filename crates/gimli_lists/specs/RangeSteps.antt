@@ -1,5 +1,5 @@
 -- The ranges ahead of a place, as the reading of an entry moves it (DWARF 5, 2.17.3; DWARF 4, 2.17.3).
-use Rattle.std.specs.Prelude.{◌≡◌, ℕ, ◌<◌, nat_le, if◌then◌else◌, List, [], ◌∷◌, length, Option, Some, None, Result, Ok, Err, MatchOption}
+use Rattle.std.specs.Prelude.{◌≡◌, false, drop, ℕ, ◌<◌, nat_le, if◌then◌else◌, List, [], ◌∷◌, length, Option, Some, None, Result, Ok, Err, MatchOption}
 use Rattle.std.specs.Option.{option_map}
 use Rattle.std.proofs.Common.{refl, sym, ap, ◌∙◌, arith, inl, inr, subst}
 use Rattle.std.proofs.lemmas.Bool.Decides.{eqb_tells}
@@ -10,12 +10,12 @@ use Rattle.gimli_base.specs.View.{View}
 use Rattle.gimli_base.specs.Reading.{Reads, skip_at}
 use Rattle.gimli_lists.specs.declared.rnglists.Range.{Range}
 use Rattle.gimli_lists.specs.declared.rnglists.raw.RangeListsFormat.TheVariants.{Bare, Rle}
-use Rattle.gimli_lists.specs.RawList.{EntryReads, used_up, end_of_list, refused, RawList, list_at, left_by, next_entry}
-use Rattle.gimli_lists.specs.ListSteps.{list_ended, list_end, list_refused, list_more, resolved_list-first, resolved_list-none, then_answers, base_after, GivesSound, resolve-sound}
+use Rattle.gimli_lists.specs.RawList.{then_entry, EntryReads, used_up, end_of_list, refused, RawList, list_at, left_by, next_entry}
+use Rattle.gimli_lists.specs.ListSteps.{list_ended, list_end, list_refused, list_more, resolved_list-first, resolved_list-none, then_answers, base_after, base_before-later, entries_read-more, entries_read-one, GivesSound, resolve-sound}
 use Rattle.gimli_lists.specs.RangeEntry.{RangeEntry, RawPlace, entries_of}
 use Rattle.gimli_lists.specs.RangeReads.{range_entry_at-shorter}
-use Rattle.gimli_lists.specs.Ranges.{ListSections, section_of, raw_ranges_at, ranges_at, answers_from, range_answers, next_raw, RangesPlace, look_up_of, range_of, converted, ranges_ahead}
-use Rattle.gimli_lists.specs.Resolved.{Resolved, resolve, resolved_list, answered, transposed}
+use Rattle.gimli_lists.specs.Ranges.{ListSections, section_of, raw_ranges_at, ranges_at, answers_from, range_answers, next_raw, RangesPlace, look_up_of, range_of, converted, ranges_ahead, entries_ahead, IsBehind, read_from, IsNext}
+use Rattle.gimli_lists.specs.Resolved.{Resolved, base_before, is_nothing, entries_read, resolve, resolved_list, transposed}
 
 -- the beginning of a list keeps the encoding
 pub raw_ranges_at-encoding : (offset : ℕ) (encoding : Encoding) (s : ListSections) (p : RawPlace) → Ok p ≡ raw_ranges_at offset encoding s → p.encoding ≡ encoding
@@ -191,11 +191,11 @@ module _ (limit : ℕ) where
 
   -- an item of the iterator is the first of the answers ahead
   pub first_answer : (p : RangesPlace) (r : Option (Result Range Error)) (q : RangesPlace)
-      → ranges_ahead limit p ≡ answered (answer_of (option_map range_of) (transposed r)) (ranges_ahead limit q)
+      → IsNext limit p (answer_of (option_map range_of) (transposed r)) q
       → MatchOption r (ranges_ahead limit p ≡ []) (λ x. ranges_ahead limit p ≡ answer_of range_of x ∷ ranges_ahead limit q)
-  first_answer p None q h = h
-  first_answer p (Some (Ok x)) q h = h
-  first_answer p (Some (Err e)) q h = h
+  first_answer p None q h = h.0
+  first_answer p (Some (Ok x)) q h = h.0
+  first_answer p (Some (Err e)) q h = h.0
 
   module _ (start p q s : RangesPlace) (e : RangeEntry) (a : Result (Option (Resolved (Unit {0}))) Error) (same : q ≡ record p { raw = q.raw })
       (read : ◌≡◌ {A = Next} (Ok (Some e), q.raw) (next_raw limit p.raw)) (made : ◌≡◌ {A = Converted} (a, s) (converted limit e q)) where
@@ -215,3 +215,91 @@ module _ (limit : ℕ) where
         let one = ap (λ (x : RangesPlace). x.raw.encoding.address_size) h in
         let two = ap (λ (x : RangesPlace). x.raw.encoding.address_size) (Behind-read p q (Ok (Some e)) same read) in
         subst (λ z. GivesSound z a) (two ∙ one) (converted-sound q s e a made)
+
+  module _ (p : RangesPlace) where
+    -- what is left of the list behind the answer to the next entry
+    abbrev left_behind : Result (Option RangeEntry) Error → View → Type 0
+    left_behind (Ok None) w = entries_ahead limit p ≡ []
+    left_behind (Ok (Some e)) w = list_at (entries_of limit p.raw) p.raw.rest ≡ then_entry e (list_at (entries_of limit p.raw) w)
+    left_behind (Err e) w = entries_ahead limit p ≡ []
+
+    list_by : left_behind (next_entry (entries p) p.raw.rest).0 (next_entry (entries p) p.raw.rest).1
+    unfolding next_entry
+    list_by = elim (eqb_tells (length p.raw.rest.bytes) 0) [
+      | inl none ↦ rw none.0 (ap (λ l. l.entries) (list_ended (entries p) (shorter p) p.raw.rest none.1))
+      | inr some ↦ rw some.0 (read (entries p p.raw.rest) refl some.1)
+    ]
+      where
+        read : (r : Reads (Option RangeEntry)) → r ≡ entries p p.raw.rest → (length p.raw.rest.bytes ≡ 0 → ⊥) → left_behind (left_by p.raw.rest r).0 (left_by p.raw.rest r).1
+        read (Err e) is some = ap (λ l. l.entries) (list_refused (entries p) (shorter p) p.raw.rest e some is)
+        read (Ok (None, w)) is some = ap (λ l. l.entries) (list_end (entries p) (shorter p) p.raw.rest w some is)
+        read (Ok (Some e, w)) is some = list_more (entries p) (shorter p) p.raw.rest e w some is
+
+    list_from : (r : RawPlace) (a : Result (Option RangeEntry) Error) → ◌≡◌ {A = Next} (a, r) (next_raw limit p.raw) → left_behind a r.rest
+    unfolding next_raw
+    list_from r a h = let P : Next → Type 0 = λ n. left_behind n.0 n.1.rest in subst P (sym h) list_by
+
+  -- where nothing is left the place stays behind no entry
+  behind_none : (p q : RangesPlace) → q ≡ record p { raw = q.raw } → entries_ahead limit p ≡ [] → length q.raw.rest.bytes ≡ 0 → IsBehind limit (read_from limit p) p q
+  behind_none p q same none left =
+      let after : entries_ahead limit q ≡ [] = ap (λ l. l.entries) (list_ended (entries q) (shorter q) q.raw.rest left) in
+      let P : List RangeEntry → Type 0 =
+      λ es. let n = entries_read p.raw.encoding.address_size (look_up_of limit p) p.base es in (entries_ahead limit q ≡ drop n es) × (q.base ≡ base_before (look_up_of limit p) p.base es n) in
+      subst P (sym none) (after, ap (λ (x : RangesPlace). x.base) same)
+
+  pub behind_end : (p q : RangesPlace) → q ≡ record p { raw = q.raw } → ◌≡◌ {A = Next} (Ok None, q.raw) (next_raw limit p.raw) → IsBehind limit (read_from limit p) p q
+  behind_end p q same h = behind_none p q same (list_from p q.raw (Ok None) h) (next_raw-ended p.raw q.raw h)
+
+  pub behind_refused : (p q : RangesPlace) (e : Error) → q ≡ record p { raw = q.raw } → ◌≡◌ {A = Next} (Err e, q.raw) (next_raw limit p.raw) → IsBehind limit (read_from limit p) p q
+  behind_refused p q e same h = behind_none p q same (list_from p q.raw (Err e) h) (next_raw-refused p.raw q.raw e h)
+
+  -- the place behind an entry, when w is left
+  abbrev past : RangesPlace → RangeEntry → View → RangesPlace
+  past p e w = record p { raw = record p.raw { rest = w }; base = base_after (look_up_of limit p) p.base e }
+
+  module _ (p : RangesPlace) (e : RangeEntry) (w : View) (left : list_at (entries_of limit p.raw) p.raw.rest ≡ then_entry e (list_at (entries_of limit p.raw) w)) where
+    abbrev Stands : RangesPlace → List RangeEntry → ℕ → Type 0
+    Stands q es n = (entries_ahead limit q ≡ drop n es) × (q.base ≡ base_before (look_up_of limit p) p.base es n)
+
+    abbrev count : List RangeEntry → ℕ
+    count es = entries_read p.raw.encoding.address_size (look_up_of limit p) p.base es
+
+    abbrev others : List RangeEntry
+    others = entries_ahead limit (past p e w)
+
+    as_cons : (q : RangesPlace) → Stands q (e ∷ others) (count (e ∷ others)) → IsBehind limit (read_from limit p) p q
+    as_cons q h = let P : List RangeEntry → Type 0 = λ es. Stands q es (count es) in subst P (sym (ap (λ l. l.entries) left)) h
+
+    past_one : is_nothing (resolve p.raw.encoding.address_size (look_up_of limit p) p.base e) ≡ false → IsBehind limit (read_from limit p) p (past p e w)
+    past_one h =
+        as_cons (past p e w) (subst (Stands (past p e w) (e ∷ others)) (sym (entries_read-one p.raw.encoding.address_size (look_up_of limit p) p.base e others h))
+        (refl, sym (base_before-later (look_up_of limit p) p.base e others 0)))
+
+    past_more : (q : RangesPlace) → Ok None ≡ resolve p.raw.encoding.address_size (look_up_of limit p) p.base e
+        → IsBehind limit (read_from limit (past p e w)) (past p e w) q → IsBehind limit (read_from limit p) p q
+    past_more q h k =
+        as_cons q (subst (Stands q (e ∷ others)) (sym (entries_read-more p.raw.encoding.address_size (look_up_of limit p) p.base e others h))
+        (k.0, k.1 ∙ sym (base_before-later (look_up_of limit p) p.base e others (read_from limit (past p e w)))))
+
+  module _ (p q s : RangesPlace) (e : RangeEntry) (a : Result (Option (Resolved (Unit {0}))) Error) (same : q ≡ record p { raw = q.raw })
+      (read : ◌≡◌ {A = Next} (Ok (Some e), q.raw) (next_raw limit p.raw)) (made : ◌≡◌ {A = Converted} (a, s) (converted limit e q)) where
+    made_here : ◌≡◌ {A = Converted} (a, s) (converted limit e (record p { raw = record p.raw { rest = q.raw.rest } }))
+    made_here = made ∙ ap (converted limit e) (same ∙ ap (λ r. record p { raw = r }) (next_raw-same p.raw q.raw (Ok (Some e)) read))
+
+    is_past : s ≡ past p e q.raw.rest
+    unfolding converted
+    is_past = ap (λ (n : Converted). n.1) made_here
+
+    is_resolved : a ≡ resolve p.raw.encoding.address_size (look_up_of limit p) p.base e
+    unfolding converted
+    is_resolved = ap (λ (n : Converted). n.0) made_here
+
+    -- behind an entry that stands for something
+    pub behind_one : is_nothing a ≡ false → IsBehind limit (read_from limit p) p s
+    behind_one h =
+        subst (IsBehind limit (read_from limit p) p) (sym is_past) (past_one p e q.raw.rest (list_from p q.raw (Ok (Some e)) read) (ap is_nothing (sym is_resolved) ∙ h))
+
+    -- behind an entry that stands for nothing, and then further
+    pub behind_more : (t : RangesPlace) → a ≡ Ok None → IsBehind limit (read_from limit s) s t → IsBehind limit (read_from limit p) p t
+    behind_more t h k =
+        past_more p e q.raw.rest (list_from p q.raw (Ok (Some e)) read) t (sym h ∙ is_resolved) (subst (λ x. IsBehind limit (read_from limit x) x t) is_past k)

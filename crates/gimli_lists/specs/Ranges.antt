@@ -1,5 +1,5 @@
 -- The ranges of a range list, and where lists begin in their sections (DWARF 5, 2.17.3, 7.25 and 7.28; DWARF 4, 2.17.3).
-use Rattle.std.specs.Prelude.{ℕ, ◌+◌, ◌*◌, nat_le, if◌then◌else◌, List, Option, unwrap_or, Result, Ok, Err}
+use Rattle.std.specs.Prelude.{◌≡◌, drop, ℕ, ◌+◌, ◌*◌, nat_le, if◌then◌else◌, List, Option, unwrap_or, Result, Ok, Err}
 use Rattle.std.specs.Option.{option_map, option_or}
 use Rattle.gimli_base.specs.declared.common.Encoding.{Encoding}
 use Rattle.gimli_base.specs.declared.common.Format.{Format}
@@ -12,7 +12,7 @@ use Rattle.gimli_lists.specs.declared.rnglists.Range.{Range}
 use Rattle.gimli_lists.specs.declared.rnglists.raw.RangeListsFormat.TheVariants.{Bare, Rle}
 use Rattle.gimli_lists.specs.RawList.{list_at, next_entry}
 use Rattle.gimli_lists.specs.RangeEntry.{RangeEntry, RawPlace, entries_of}
-use Rattle.gimli_lists.specs.Resolved.{LookUp, Resolved, base_given, resolve, resolved_list}
+use Rattle.gimli_lists.specs.Resolved.{LookUp, Resolved, base_given, base_before, resolve, entries_read, resolved_list, answered}
 
 -- the bytes of the two sections of lists: that of versions up to 4, and that of later ones
 pub record ListSections : Type 0 where
@@ -69,6 +69,24 @@ converted limit e p =
 -- the answers of the list that begins at a place, with the base address at hand
 unfoldable pub ranges_ahead : ℕ → RangesPlace → List (Result (Resolved (Unit {0})) Error)
 ranges_ahead limit p = resolved_list p.raw.encoding.address_size (look_up_of limit p) p.base (list_at (entries_of limit p.raw) p.raw.rest)
+
+-- the entries of the list that are left at a place
+abbrev pub entries_ahead : ℕ → RangesPlace → List RangeEntry
+entries_ahead limit p = (list_at (entries_of limit p.raw) p.raw.rest).entries
+
+-- q is the place behind the next n entries from p on: the others are left, and the base before them is at hand
+abbrev pub IsBehind : ℕ → ℕ → RangesPlace → RangesPlace → Type 0
+IsBehind limit n p q = (entries_ahead limit q ≡ drop n (entries_ahead limit p)) × (q.base ≡ base_before (look_up_of limit p) p.base (entries_ahead limit p) n)
+
+-- how many entries are read from a place on for the next answer
+abbrev pub read_from : ℕ → RangesPlace → ℕ
+read_from limit p = entries_read p.raw.encoding.address_size (look_up_of limit p) p.base (entries_ahead limit p)
+
+-- a call at p answers a and leaves q: the first of the answers ahead, and the place behind the entries that it takes
+abbrev pub IsNext : ℕ → RangesPlace → Result (Option (Resolved (Unit {0}))) Error → RangesPlace → Type 0
+IsNext limit p a q =
+    (ranges_ahead limit p ≡ answered a (ranges_ahead limit q)) × IsBehind limit (read_from limit p) p q
+    × (q ≡ record p { raw = record p.raw { rest = q.raw.rest }; base = q.base })
 
 -- the beginning of the ranges of a list, with a base address at hand
 unfoldable pub ranges_at : ℕ → Encoding → ℕ → View → ℕ → ListSections → Result RangesPlace Error

@@ -1,6 +1,6 @@
 -- What the entries of a list stand for: each against the last base address that is known before it (DWARF 5, 2.6.2 and 2.17.3).
-use Rattle.std.specs.Prelude.{ℕ, ◌-◌, ◌^◌, nat_lt, ◌&&◌, if◌then◌else◌, List, [], ◌∷◌, ◌++◌, map, take, reverse, Option, Some, None, unwrap_or, Result, Ok, Err}
-use Rattle.std.specs.List.{enumerate_from, filter_map}
+use Rattle.std.specs.Prelude.{ℕ, ◌+◌, ◌-◌, ◌^◌, nat_lt, ◌&&◌, if◌then◌else◌, Bool, true, false, min, length, List, [], ◌∷◌, ◌++◌, map, take, reverse, Option, Some, None, unwrap_or, Result, Ok, Err}
+use Rattle.std.specs.List.{enumerate_from, filter_map, prefix_len}
 use Rattle.std.specs.Option.{option_or}
 use Rattle.std.specs.Result.{result_ok}
 use Rattle.gimli_base.specs.declared.error.Error.{Error}
@@ -80,6 +80,16 @@ last_answer (refused e) = Err e ∷ []
 -- refusal that ends it
 unfoldable pub resolved_list : {P : Type 0} → ℕ → LookUp → ℕ → RawList P → List (Result (Resolved P) Error)
 resolved_list size look_up base l = filter_map some_answer (resolve_each size look_up base l.entries) ++ last_answer l.ending
+
+-- whether an entry stands for nothing
+abbrev pub is_nothing : {A : Type 0} → Result (Option A) Error → Bool
+is_nothing (Ok None) = true
+is_nothing (Ok (Some x)) = false
+is_nothing (Err e) = false
+
+-- how many entries are read for the next answer: those that stand for nothing, and the one behind them, if there is one
+abbrev pub entries_read : {P : Type 0} → ℕ → LookUp → ℕ → List (Entry P) → ℕ
+entries_read size look_up base entries = min (length entries) (prefix_len is_nothing (resolve_each size look_up base entries) + 1)
 
 -- the answer of a call before others: none where there is no other
 abbrev pub answered : {A : Type 0} → Result (Option A) Error → List (Result A Error) → List (Result A Error)

@@ -9,117 +9,21 @@ ghost use Rattle.gimli_base.specs.Offset.{answer_of};
 ghost use Rattle.gimli_base.specs.Reading.{is_size};
 ghost use Rattle.gimli_lists.specs.Ranges.{ListSections, lookup_in, list_offset, raw_ranges_at, ranges_at};
 
+mod debug_ranges;
+mod debug_rnglists;
 mod iter;
 mod raw;
 
+pub use debug_ranges::DebugRanges;
+pub use debug_rnglists::DebugRngLists;
 use gimli_base::{
-    DebugAddr, DebugAddrBase, DebugRngListsBase, DebugRngListsIndex, Encoding, EndianSlice,
-    Endianity, Error, RangeListsOffset, Reader, ReaderAddress, ReaderOffset, ReaderOffsetId,
-    Result, Section, SectionId,
+    DebugAddr, DebugAddrBase, DebugRngListsBase, DebugRngListsIndex, Encoding, Error,
+    RangeListsOffset, Reader, ReaderAddress, ReaderOffset, ReaderOffsetId, Result, Section,
+    SectionId,
 };
 pub use iter::RngListIter;
 use raw::RangeListsFormat;
 pub use raw::{RawRngListEntry, RawRngListIter};
-
-/// The section `.debug_ranges` (DWARF 4, 2.17.3).
-#[derive(Clone, Copy, Debug, Default, Drop)]
-pub struct DebugRanges<R> {
-    section: R,
-}
-
-impl<'a, E: Endianity> DebugRanges<EndianSlice<'a, E>> {
-    /// The section of these bytes.
-    pub fn new(bytes: &'a [u8], endian: E) -> Self
-        ensures { ⟦<DebugRanges<EndianSlice<'a, E>> as Section<EndianSlice<'a, E>>>⟧.content result ≡ record { big = E.big endian; place = 0; bytes = bytes.now } }
-    {
-        DebugRanges {
-            section: EndianSlice::new(bytes, endian),
-        }
-    }
-}
-
-impl<R> From<R> for DebugRanges<R> {
-    ghost from_gives = { λ r s. s.section ≡ r };
-
-    fn from(section: R) -> Self {
-        DebugRanges { section }
-    }
-}
-
-impl<R: Reader> Section<R> for DebugRanges<R> {
-    ghost section = { RangesSection };
-
-    ghost content = { λ s. R.view s.section };
-
-    fn id() -> SectionId {
-        SectionId::DebugRanges
-    }
-
-    fn reader(&self) -> &R {
-        &self.section
-    }
-}
-
-impl<R: Reader> DebugRanges<R> {
-    /// A section of the same bytes.
-    pub fn copy(&self) -> Self
-        ensures { ⟦<DebugRanges<R> as Section<R>>⟧.content result ≡ ⟦<DebugRanges<R> as Section<R>>⟧.content self.now }
-    {
-        DebugRanges {
-            section: self.section.copy(),
-        }
-    }
-}
-
-/// The section `.debug_rnglists` (DWARF 5, 7.28).
-#[derive(Clone, Copy, Debug, Default, Drop)]
-pub struct DebugRngLists<R> {
-    section: R,
-}
-
-impl<'a, E: Endianity> DebugRngLists<EndianSlice<'a, E>> {
-    /// The section of these bytes.
-    pub fn new(bytes: &'a [u8], endian: E) -> Self
-        ensures { ⟦<DebugRngLists<EndianSlice<'a, E>> as Section<EndianSlice<'a, E>>>⟧.content result ≡ record { big = E.big endian; place = 0; bytes = bytes.now } }
-    {
-        DebugRngLists {
-            section: EndianSlice::new(bytes, endian),
-        }
-    }
-}
-
-impl<R> From<R> for DebugRngLists<R> {
-    ghost from_gives = { λ r s. s.section ≡ r };
-
-    fn from(section: R) -> Self {
-        DebugRngLists { section }
-    }
-}
-
-impl<R: Reader> Section<R> for DebugRngLists<R> {
-    ghost section = { RngListsSection };
-
-    ghost content = { λ s. R.view s.section };
-
-    fn id() -> SectionId {
-        SectionId::DebugRngLists
-    }
-
-    fn reader(&self) -> &R {
-        &self.section
-    }
-}
-
-impl<R: Reader> DebugRngLists<R> {
-    /// A section of the same bytes.
-    pub fn copy(&self) -> Self
-        ensures { ⟦<DebugRngLists<R> as Section<R>>⟧.content result ≡ ⟦<DebugRngLists<R> as Section<R>>⟧.content self.now }
-    {
-        DebugRngLists {
-            section: self.section.copy(),
-        }
-    }
-}
 
 /// What stands for two sections of lists in contracts: their bytes.
 pub trait HasLists {

@@ -7,7 +7,7 @@ ghost use Rattle.gimli_base.specs.Address.{min_tombstone};
 ghost use Rattle.gimli_base.specs.Offset.{answer_of};
 ghost use Rattle.gimli_base.specs.Reading.{is_size};
 ghost use Rattle.gimli_lists.specs.RangeEntry.{entry_of};
-ghost use Rattle.gimli_lists.specs.Ranges.{next_raw, RangesPlace, look_up_of, range_of, converted, ranges_ahead};
+ghost use Rattle.gimli_lists.specs.Ranges.{next_raw, RangesPlace, look_up_of, range_of, converted, ranges_ahead, IsBehind, read_from, IsNext};
 ghost use Rattle.gimli_lists.specs.Resolved.{answered, transposed};
 
 use crate::rnglists::Range;
@@ -131,6 +131,9 @@ impl<R: Reader> RngListIter<R> {
     /// the rest of the list is left.
     pub fn next(&mut self) -> Result<Option<Range>>
         ensures ahead { ranges_ahead R.Offset.limit self.old ≡ answered (answer_of (option_map range_of) result) (ranges_ahead R.Offset.limit self.new) }
+
+        // The entries that stand for nothing are read, and the one behind them; the base before the others is at hand.
+        ensures place { IsBehind R.Offset.limit (read_from R.Offset.limit self.old) self.old self.new }
         ensures same { self.new ≡ record self.old { raw = record self.old.raw { rest = self.new.raw.rest }; base = self.new.base } }
         ensures takes { MatchResult result (λ range. OnSome range (length self.new.raw.rest.bytes < length self.old.raw.rest.bytes)) (λ _. length self.new.raw.rest.bytes < length self.old.raw.rest.bytes) }
         ensures ended { IfOk result (λ range. IfNone range (length self.new.raw.rest.bytes ≡ 0)) }
@@ -150,7 +153,7 @@ impl<R: Reader> RngListIter<R> {
 impl<R: Reader> Iterator for RngListIter<R> {
     type Item = Result<Range>;
 
-    ghost next_gives = { λ s r t. ranges_ahead R.Offset.limit s ≡ answered (answer_of (option_map range_of) (transposed r)) (ranges_ahead R.Offset.limit t) };
+    ghost next_gives = { λ s r t. IsNext R.Offset.limit s (answer_of (option_map range_of) (transposed r)) t };
 
     ghost remaining = { λ s. at_most (length s.raw.rest.bytes) };
 
