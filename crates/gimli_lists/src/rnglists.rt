@@ -7,7 +7,8 @@ ghost use Rattle.gimli_base.specs.declared.common.SectionId.TheVariants.{DebugRa
 ghost use Rattle.gimli_base.specs.Address.{wrapped_sum};
 ghost use Rattle.gimli_base.specs.Offset.{answer_of};
 ghost use Rattle.gimli_base.specs.Reading.{is_size};
-ghost use Rattle.gimli_lists.specs.Ranges.{ListSections, lookup_in, list_offset, raw_ranges_at, ranges_at};
+ghost use Rattle.gimli_lists.specs.Ranges.{ListSections, lookup_in, list_offset, raw_ranges_at, ranges_at, range_of};
+ghost use Rattle.gimli_lists.specs.Resolved.{located, located_from};
 
 mod debug_ranges;
 mod debug_rnglists;
@@ -206,5 +207,33 @@ impl Range {
     {
         self.begin = base_address.wrapping_add_sized(self.begin, address_size);
         self.end = base_address.wrapping_add_sized(self.end, address_size);
+    }
+
+    // The range, if it begins below the least address that stands for none, and below its end. The size has to be 1, 2, 4
+    // or 8.
+    #[inline]
+    fn kept(self, address_size: u8) -> Option<Range>
+        requires { IsTrue (is_size address_size) }
+        ensures { option_map range_of result ≡ located address_size self.begin self.end tt }
+    {
+        if self.begin >= u64::min_tombstone(address_size) || self.begin >= self.end {
+            None
+        } else {
+            Some(self)
+        }
+    }
+
+    // The same of the range of these offsets from a base address on; there is none where the base stands for none.
+    #[inline]
+    fn kept_from(self, base_address: u64, address_size: u8) -> Option<Range>
+        requires { IsTrue (is_size address_size) }
+        ensures { option_map range_of result ≡ located_from address_size base_address self.begin self.end tt }
+    {
+        if base_address >= u64::min_tombstone(address_size) {
+            return None;
+        }
+        let mut range = self;
+        range.add_base_address(base_address, address_size);
+        range.kept(address_size)
     }
 }

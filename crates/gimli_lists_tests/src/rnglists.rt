@@ -5,7 +5,7 @@ mod offsets;
 
 use crate::samples::{part, whole};
 use gimli_base::{
-    BigEndian, DebugAddr, DebugAddrBase, Encoding, Format, LittleEndian, RangeListsOffset, Reader,
+    DebugAddr, DebugAddrBase, Encoding, Format, LittleEndian, RangeListsOffset, Reader,
     ReaderOffset, Result,
 };
 use gimli_lists::{DebugRanges, DebugRngLists, Range, RangeLists, RngListIter};

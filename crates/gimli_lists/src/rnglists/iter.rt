@@ -84,45 +84,36 @@ impl<R: Reader> RngListIter<R> {
     pub fn convert_raw(&mut self, raw_range: RawRngListEntry<R::Offset>) -> Result<Option<Range>>
         ensures { (answer_of (option_map range_of) result, self.new) ≡ converted R.Offset.limit (entry_of R.Offset.number raw_range) self.old }
     {
-        let address_size = self.raw.address_size();
-        let range = match raw_range {
+        let size = self.raw.address_size();
+        match raw_range {
             RawRngListEntry::BaseAddress { addr } => {
                 self.base_address = addr;
-                return Ok(None);
+                Ok(None)
             }
             RawRngListEntry::BaseAddressx { addr } => {
                 self.base_address = self.get_address(addr)?;
-                return Ok(None);
+                Ok(None)
             }
             RawRngListEntry::StartxEndx { begin, end } => {
                 let begin = self.get_address(begin)?;
                 let end = self.get_address(end)?;
-                Range { begin, end }
+                Ok(Range { begin, end }.kept(size))
             }
             RawRngListEntry::StartxLength { begin, length } => {
                 let begin = self.get_address(begin)?;
-                let end = begin.wrapping_add_sized(length, address_size);
-                Range { begin, end }
+                let end = begin.wrapping_add_sized(length, size);
+                Ok(Range { begin, end }.kept(size))
             }
             RawRngListEntry::AddressOrOffsetPair { begin, end }
             | RawRngListEntry::OffsetPair { begin, end } => {
-                if self.base_address >= u64::min_tombstone(address_size) {
-                    return Ok(None);
-                }
-                let mut range = Range { begin, end };
-                range.add_base_address(self.base_address, address_size);
-                range
+                Ok(Range { begin, end }.kept_from(self.base_address, size))
             }
-            RawRngListEntry::StartEnd { begin, end } => Range { begin, end },
+            RawRngListEntry::StartEnd { begin, end } => Ok(Range { begin, end }.kept(size)),
             RawRngListEntry::StartLength { begin, length } => {
-                let end = begin.wrapping_add_sized(length, address_size);
-                Range { begin, end }
+                let end = begin.wrapping_add_sized(length, size);
+                Ok(Range { begin, end }.kept(size))
             }
-        };
-        if range.begin >= u64::min_tombstone(address_size) || range.begin >= range.end {
-            return Ok(None);
         }
-        Ok(Some(range))
     }
 
     /// The next range, or none behind the last.

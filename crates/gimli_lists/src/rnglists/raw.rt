@@ -1,6 +1,6 @@
 //! Range lists as they are written, before anything is done with base addresses.
 
-ghost use Rattle.std.specs.Prelude.{◌≡◌, ◌==◌, ◌&&◌, ◌<◌, length, IsTrue, MatchResult, OnSome, OnOk, OnErr};
+ghost use Rattle.std.specs.Prelude.{◌≡◌, ◌==◌, ◌&&◌, ◌<◌, length, IsTrue, MatchResult, OnSome, OnOk};
 ghost use Rattle.std.specs.Option.{option_map};
 ghost use Rattle.std.specs.Iterator.{at_most};
 ghost use Rattle.gimli_base.specs.Address.{ones_sized};

@@ -1,5 +1,5 @@
 use super::{Start, lists, range, ranges_from, tries_answers};
-use crate::samples::{end_at, part, whole};
+use crate::samples::{part, whole};
 use gimli_base::{DebugAddr, Encoding, Format, LittleEndian, RangeListsOffset, Reader, Result};
 use gimli_lists::{Range, RawRngListEntry};
 use std::alloc::{AllocError, Global};
