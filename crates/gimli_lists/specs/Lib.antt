@@ -1,3 +1,10 @@
 pub mod ListsHeader
 pub mod Aranges
 pub mod ArangeSets
+pub mod RawList
+pub mod Resolved
+pub mod ListSteps
+pub mod RangeEntry
+pub mod RangeReads
+pub mod Ranges
+pub mod RangeSteps

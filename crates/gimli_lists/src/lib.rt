@@ -9,4 +9,7 @@ pub use aranges::{
     ArangeEntry, ArangeEntryIter, ArangeHeader, ArangeHeaderIter, DebugAranges, HasArangeSet,
 };
 pub use lists::ListsHeader;
-pub use rnglists::Range;
+pub use rnglists::{
+    DebugRanges, DebugRngLists, HasLists, Range, RangeLists, RawRngListEntry, RawRngListIter,
+    RngListIter,
+};

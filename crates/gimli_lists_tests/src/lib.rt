@@ -6,4 +6,6 @@ mod aranges;
 #[cfg(test)]
 mod lists;
 #[cfg(test)]
+mod rnglists;
+#[cfg(test)]
 mod samples;

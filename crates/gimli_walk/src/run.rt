@@ -22,7 +22,7 @@ pub struct Run<T, A: Allocator> {
 }
 
 // Every item of an iterator, which ends.
-fn run_all<T: Drop, I: Iterator<Item = T>, A: Allocator>(alloc: A, items: I) -> Run<T, A>
+pub(crate) fn run_all<T: Drop, I: Iterator<Item = T>, A: Allocator>(alloc: A, items: I) -> Run<T, A>
     requires can { I.can_next items }
     requires ends { IsFinite (I.remaining items) }
     ensures front { (rest : I) × Yields I.next_gives items result.answers.items rest }

@@ -6,6 +6,8 @@ mod entries;
 #[cfg(test)]
 mod large;
 #[cfg(test)]
+mod ranges;
+#[cfg(test)]
 mod rows;
 #[cfg(test)]
 mod run;

@@ -1,0 +1,58 @@
+-- An entry of a range list in the encoding of its version (DWARF 5, 2.17.3 and 7.25; DWARF 4, 2.17.3).
+use Rattle.std.specs.Prelude.{ℕ, ◌==◌, if◌then◌else◌, Some, None, Ok, Err}
+use Rattle.gimli_base.specs.declared.common.Encoding.{Encoding}
+use Rattle.gimli_base.specs.declared.error.Error.TheVariants.{UnknownRangeListsEntry}
+use Rattle.gimli_base.specs.View.{View}
+use Rattle.gimli_base.specs.Reading.{Reads, ◌>>=◌, made, byte_at, uleb_at, address_at}
+use Rattle.gimli_lists.specs.declared.rnglists.raw.RawRngListEntry.{RawRngListEntry}
+use Rattle.gimli_lists.specs.declared.rnglists.raw.RawRngListEntry.TheVariants.{AddressOrOffsetPair, BaseAddress, BaseAddressx, StartxEndx, StartxLength, OffsetPair, StartEnd, StartLength}
+use Rattle.gimli_lists.specs.declared.rnglists.raw.RangeListsFormat.{RangeListsFormat}
+use Rattle.gimli_lists.specs.declared.rnglists.raw.RangeListsFormat.TheVariants.{Bare, Rle}
+use Rattle.gimli_lists.specs.RawList.{Entry, address_or_offset_pair, base_address, base_addressx, startx_endx, startx_length, offset_pair, start_end, start_length, EntryReads, old_entry_at, index_at, two_at}
+
+-- an entry of a range list: nothing stands behind its operands
+abbrev pub RangeEntry : Type 0
+RangeEntry = Entry (Unit {0})
+
+-- the entry that code holds, by what its offsets stand for
+abbrev pub entry_of : {O : Type 0} → (O → ℕ) → RawRngListEntry O → RangeEntry
+entry_of number (AddressOrOffsetPair begin end) = address_or_offset_pair begin end tt
+entry_of number (BaseAddress address) = base_address address
+entry_of number (BaseAddressx index) = base_addressx (number index.0)
+entry_of number (StartxEndx begin end) = startx_endx (number begin.0) (number end.0) tt
+entry_of number (StartxLength begin length) = startx_length (number begin.0) length tt
+entry_of number (OffsetPair begin end) = offset_pair begin end tt
+entry_of number (StartEnd begin end) = start_end begin end tt
+entry_of number (StartLength begin length) = start_length begin length tt
+
+-- nothing is read
+abbrev pub nothing_at : View → Reads (Unit {0})
+nothing_at v = Ok (tt, v)
+
+-- an entry of the new encoding, by its code
+unfoldable pub new_entry_at : ℕ → ℕ → EntryReads (Unit {0})
+new_entry_at limit size v = byte_at v >>= λ code.
+    if code.0 == 0 then Ok (None, code.1)
+    else if code.0 == 1 then made (λ i. Some (base_addressx i)) (index_at limit code.1)
+    else if code.0 == 2 then two_at nothing_at (index_at limit) (index_at limit) startx_endx code.1
+    else if code.0 == 3 then two_at nothing_at (index_at limit) uleb_at startx_length code.1
+    else if code.0 == 4 then two_at nothing_at uleb_at uleb_at offset_pair code.1
+    else if code.0 == 5 then made (λ a. Some (base_address a)) (address_at size code.1)
+    else if code.0 == 6 then two_at nothing_at (address_at size) (address_at size) start_end code.1
+    else if code.0 == 7 then two_at nothing_at (address_at size) uleb_at start_length code.1
+    else Err (UnknownRangeListsEntry (record { 0 = code.0 }))
+
+-- an entry in either encoding
+abbrev pub range_entry_at : ℕ → RangeListsFormat → ℕ → EntryReads (Unit {0})
+range_entry_at limit Bare size = old_entry_at nothing_at size
+range_entry_at limit Rle size = new_entry_at limit size
+
+-- where the reading of a range list stands: what is left of the section, the encoding of the unit, and that of the list
+pub record RawPlace : Type 0 where
+  pub rest : View
+  pub encoding : Encoding
+  pub format : RangeListsFormat
+
+-- how the entries of a place are read
+abbrev pub entries_of : ℕ → RawPlace → EntryReads (Unit {0})
+entries_of limit p = range_entry_at limit p.format p.encoding.address_size

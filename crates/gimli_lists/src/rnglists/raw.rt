@@ -1,0 +1,331 @@
+//! Range lists as they are written, before anything is done with base addresses.
+
+ghost use Rattle.std.specs.Prelude.{◌≡◌, ◌==◌, ◌&&◌, ◌<◌, length, IsTrue, MatchResult, OnSome, OnOk};
+ghost use Rattle.std.specs.Option.{option_map};
+ghost use Rattle.std.specs.Iterator.{at_most};
+ghost use Rattle.gimli_base.specs.Address.{ones_sized};
+ghost use Rattle.gimli_base.specs.Offset.{answer_of};
+ghost use Rattle.gimli_base.specs.Reading.{read, is_size};
+ghost use Rattle.gimli_lists.specs.RawList.{pair_at, old_entry_at, index_at};
+ghost use Rattle.gimli_lists.specs.RangeEntry.{entry_of, nothing_at, new_entry_at, range_entry_at, RawPlace};
+ghost use Rattle.gimli_lists.specs.Ranges.{next_raw};
+ghost use Rattle.gimli_lists.specs.Resolved.{transposed};
+
+use gimli_base::{
+    DW_RLE_base_address, DW_RLE_base_addressx, DW_RLE_end_of_list, DW_RLE_offset_pair,
+    DW_RLE_start_end, DW_RLE_start_length, DW_RLE_startx_endx, DW_RLE_startx_length,
+    DebugAddrIndex, DwRle, Encoding, Error, Reader, ReaderAddress, ReaderOffset, Result,
+};
+use std::marker::Model;
+
+/// How a list is written.
+#[derive(Clone, Copy, Debug, PartialEq, Eq)]
+pub(crate) enum RangeListsFormat {
+    /// Pairs of addresses, up to version 4.
+    Bare,
+    /// A code and operands, since version 5.
+    Rle,
+}
+
+/// An entry of a range list, as it is written.
+#[derive(Debug, Drop)]
+pub enum RawRngListEntry<T> {
+    /// A pair of versions up to 4, of addresses or of offsets from the base address.
+    AddressOrOffsetPair {
+        /// Where the range begins.
+        begin: u64,
+        /// Where it ends.
+        end: u64,
+    },
+    /// A base address, from which later offsets count; `DW_RLE_base_address`.
+    BaseAddress {
+        /// The address.
+        addr: u64,
+    },
+    /// A base address among those of the unit; `DW_RLE_base_addressx`.
+    BaseAddressx {
+        /// The index of the address.
+        addr: DebugAddrIndex<T>,
+    },
+    /// Two addresses among those of the unit; `DW_RLE_startx_endx`.
+    StartxEndx {
+        /// The index of the address at which the range begins.
+        begin: DebugAddrIndex<T>,
+        /// The index of the address at which it ends.
+        end: DebugAddrIndex<T>,
+    },
+    /// An address among those of the unit, and a number of bytes; `DW_RLE_startx_length`.
+    StartxLength {
+        /// The index of the address at which the range begins.
+        begin: DebugAddrIndex<T>,
+        /// The number of bytes.
+        length: u64,
+    },
+    /// Two offsets from the base address; `DW_RLE_offset_pair`.
+    OffsetPair {
+        /// Where the range begins.
+        begin: u64,
+        /// Where it ends.
+        end: u64,
+    },
+    /// Two addresses; `DW_RLE_start_end`.
+    StartEnd {
+        /// Where the range begins.
+        begin: u64,
+        /// Where it ends.
+        end: u64,
+    },
+    /// An address and a number of bytes; `DW_RLE_start_length`.
+    StartLength {
+        /// Where the range begins.
+        begin: u64,
+        /// The number of bytes.
+        length: u64,
+    },
+}
+
+impl<T: ReaderOffset> RawRngListEntry<T> {
+    /// The same entry.
+    pub fn copy(&self) -> Self
+        ensures { result ≡ self.now }
+    {
+        match self {
+            RawRngListEntry::AddressOrOffsetPair { begin, end } => {
+                RawRngListEntry::AddressOrOffsetPair {
+                    begin: *begin,
+                    end: *end,
+                }
+            }
+            RawRngListEntry::BaseAddress { addr } => RawRngListEntry::BaseAddress { addr: *addr },
+            RawRngListEntry::BaseAddressx { addr } => RawRngListEntry::BaseAddressx { addr: *addr },
+            RawRngListEntry::StartxEndx { begin, end } => RawRngListEntry::StartxEndx {
+                begin: *begin,
+                end: *end,
+            },
+            RawRngListEntry::StartxLength { begin, length } => RawRngListEntry::StartxLength {
+                begin: *begin,
+                length: *length,
+            },
+            RawRngListEntry::OffsetPair { begin, end } => RawRngListEntry::OffsetPair {
+                begin: *begin,
+                end: *end,
+            },
+            RawRngListEntry::StartEnd { begin, end } => RawRngListEntry::StartEnd {
+                begin: *begin,
+                end: *end,
+            },
+            RawRngListEntry::StartLength { begin, length } => RawRngListEntry::StartLength {
+                begin: *begin,
+                length: *length,
+            },
+        }
+    }
+}
+
+/// A pair of addresses of versions up to 4.
+#[derive(Clone, Copy, Debug, PartialEq, Eq, Hash)]
+pub(crate) struct RawRange {
+    /// The first address.
+    pub(crate) begin: u64,
+    /// The second address.
+    pub(crate) end: u64,
+}
+
+impl RawRange {
+    /// Whether the pair ends a list.
+    #[inline]
+    pub(crate) fn is_end(self) -> bool
+        ensures { result ≡ (self.begin == 0 && self.end == 0) }
+    {
+        self.begin == 0 && self.end == 0
+    }
+
+    /// Whether the pair gives a base address, which is then its second. The size has to be 1, 2, 4 or 8.
+    #[inline]
+    pub(crate) fn is_base_address(self, address_size: u8) -> bool
+        requires { IsTrue (is_size address_size) }
+        ensures { result ≡ (self.begin == ones_sized address_size) }
+    {
+        self.begin == u64::ones_sized(address_size)
+    }
+
+    /// The next pair; where it is refused, the input is left anywhere.
+    #[inline]
+    #[tactic(auto, unfolding(crate::specs::RawList::pair_at))]
+    pub(crate) fn parse<R: Reader>(input: &mut R, address_size: u8) -> Result<RawRange>
+        ensures value { read (answer_of (λ p. (p.begin, p.end)) result) (R.view input.new) ≡ pair_at address_size (R.view input.old) }
+        ensures size { OnOk result (IsTrue (is_size address_size)) }
+    {
+        let begin = input.read_address(address_size)?;
+        let end = input.read_address(address_size)?;
+        Ok(RawRange { begin, end })
+    }
+}
+
+// The next index of an address; where it is refused, the input is left anywhere.
+#[inline]
+fn read_index<R: Reader>(input: &mut R) -> Result<DebugAddrIndex<R::Offset>>
+    ensures { read (answer_of (λ i. R.Offset.number i.0) result) (R.view input.new) ≡ index_at R.Offset.limit (R.view input.old) }
+{
+    let number = input.read_uleb128()?;
+    let index = R::Offset::from_u64(number)?;
+    Ok(DebugAddrIndex(index))
+}
+
+// The next entry of versions up to 4; where it is refused, the input is left anywhere.
+#[tactic(auto, unfolding(crate::specs::RawList::old_entry_at))]
+fn parse_bare<R: Reader>(
+    input: &mut R,
+    address_size: u8,
+) -> Result<Option<RawRngListEntry<R::Offset>>>
+    ensures { read (answer_of (option_map (entry_of R.Offset.number)) result) (R.view input.new) ≡ old_entry_at nothing_at address_size (R.view input.old) }
+{
+    let range = RawRange::parse(input, address_size)?;
+    if range.is_end() {
+        Ok(None)
+    } else if range.is_base_address(address_size) {
+        Ok(Some(RawRngListEntry::BaseAddress { addr: range.end }))
+    } else {
+        Ok(Some(RawRngListEntry::AddressOrOffsetPair {
+            begin: range.begin,
+            end: range.end,
+        }))
+    }
+}
+
+// The next entry since version 5; where it is refused, the input is left anywhere.
+#[tactic(auto, unfolding(crate::specs::RangeEntry::new_entry_at))]
+fn parse_rle<R: Reader>(
+    input: &mut R,
+    address_size: u8,
+) -> Result<Option<RawRngListEntry<R::Offset>>>
+    ensures { read (answer_of (option_map (entry_of R.Offset.number)) result) (R.view input.new) ≡ new_entry_at R.Offset.limit address_size (R.view input.old) }
+{
+    let code = DwRle(input.read_u8()?);
+    match code {
+        DW_RLE_end_of_list => Ok(None),
+        DW_RLE_base_addressx => {
+            let addr = read_index(input)?;
+            Ok(Some(RawRngListEntry::BaseAddressx { addr }))
+        }
+        DW_RLE_startx_endx => {
+            let begin = read_index(input)?;
+            let end = read_index(input)?;
+            Ok(Some(RawRngListEntry::StartxEndx { begin, end }))
+        }
+        DW_RLE_startx_length => {
+            let begin = read_index(input)?;
+            let length = input.read_uleb128()?;
+            Ok(Some(RawRngListEntry::StartxLength { begin, length }))
+        }
+        DW_RLE_offset_pair => {
+            let begin = input.read_uleb128()?;
+            let end = input.read_uleb128()?;
+            Ok(Some(RawRngListEntry::OffsetPair { begin, end }))
+        }
+        DW_RLE_base_address => {
+            let addr = input.read_address(address_size)?;
+            Ok(Some(RawRngListEntry::BaseAddress { addr }))
+        }
+        DW_RLE_start_end => {
+            let begin = input.read_address(address_size)?;
+            let end = input.read_address(address_size)?;
+            Ok(Some(RawRngListEntry::StartEnd { begin, end }))
+        }
+        DW_RLE_start_length => {
+            let begin = input.read_address(address_size)?;
+            let length = input.read_uleb128()?;
+            Ok(Some(RawRngListEntry::StartLength { begin, length }))
+        }
+        _ => Err(Error::UnknownRangeListsEntry(code)),
+    }
+}
+
+// The next entry; where it is refused, the input is left anywhere.
+fn parse_entry<R: Reader>(
+    input: &mut R,
+    encoding: Encoding,
+    format: RangeListsFormat,
+) -> Result<Option<RawRngListEntry<R::Offset>>>
+    ensures { read (answer_of (option_map (entry_of R.Offset.number)) result) (R.view input.new) ≡ range_entry_at R.Offset.limit format encoding.address_size (R.view input.old) }
+{
+    match format {
+        RangeListsFormat::Bare => parse_bare(input, encoding.address_size),
+        RangeListsFormat::Rle => parse_rle(input, encoding.address_size),
+    }
+}
+
+/// The entries of a range list as they are written, one behind the other.
+#[derive(Debug, Drop)]
+pub struct RawRngListIter<R: Reader> {
+    input: R,
+    encoding: Encoding,
+    format: RangeListsFormat,
+}
+
+impl<R: Reader> Model for RawRngListIter<R> {
+    ghost Value = { RawPlace };
+
+    ghost view = { λ i. record { rest = R.view i.input; encoding = i.encoding; format = i.format } };
+}
+
+impl<R: Reader> RawRngListIter<R> {
+    // The list that begins where the input begins.
+    pub(crate) fn new(input: R, encoding: Encoding, format: RangeListsFormat) -> RawRngListIter<R>
+        ensures { result ≡ record { rest = R.view input; encoding = encoding; format = format } }
+    {
+        RawRngListIter {
+            input,
+            encoding,
+            format,
+        }
+    }
+
+    /// The number of bytes of an address.
+    pub(crate) fn address_size(&self) -> u8
+        ensures { result ≡ self.now.encoding.address_size }
+    {
+        self.encoding.address_size
+    }
+
+    /// The next entry, or none behind the last, which the end of the list or of the section ends.
+    ///
+    /// Refusals: `UnexpectedEof`, `BadUnsignedLeb128`, `UnsupportedAddressSize`, `UnsupportedOffset` for an index that
+    /// does not fit, `UnknownRangeListsEntry`. Nothing is left behind the end, and behind a refusal.
+    #[tactic(auto, unfolding(crate::specs::RawList::next_entry, crate::specs::Ranges::next_raw))]
+    pub fn next(&mut self) -> Result<Option<RawRngListEntry<R::Offset>>>
+        ensures value { (answer_of (option_map (entry_of R.Offset.number)) result, self.new) ≡ next_raw R.Offset.limit self.old }
+        ensures takes { MatchResult result (λ entry. OnSome entry (length self.new.rest.bytes < length self.old.rest.bytes)) (λ _. length self.new.rest.bytes < length self.old.rest.bytes) }
+    {
+        if self.input.is_empty() {
+            return Ok(None);
+        }
+        let mut rest = self.input.copy();
+        match parse_entry(&mut rest, self.encoding, self.format) {
+            Ok(Some(entry)) => {
+                self.input = rest;
+                Ok(Some(entry))
+            }
+            Ok(None) => {
+                self.input.empty();
+                Ok(None)
+            }
+            Err(error) => {
+                self.input.empty();
+                Err(error)
+            }
+        }
+    }
+}
+
+impl<R: Reader> Iterator for RawRngListIter<R> {
+    type Item = Result<RawRngListEntry<R::Offset>>;
+
+    ghost next_gives = { λ s r t. (answer_of (option_map (entry_of R.Offset.number)) (transposed r), t) ≡ next_raw R.Offset.limit s };
+
+    ghost remaining = { λ s. at_most (length s.rest.bytes) };
+
+    fn next(&mut self) -> Option<Result<RawRngListEntry<R::Offset>>> {
+        RawRngListIter::next(self).transpose()
+    }
+}
