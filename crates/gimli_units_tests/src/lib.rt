@@ -8,6 +8,8 @@ mod convert;
 #[cfg(test)]
 mod counting;
 #[cfg(test)]
+mod cursor;
+#[cfg(test)]
 mod entry;
 #[cfg(test)]
 mod form;
@@ -15,6 +17,10 @@ mod form;
 mod header;
 #[cfg(test)]
 mod hostile;
+#[cfg(test)]
+mod long;
+#[cfg(test)]
+mod memory;
 #[cfg(test)]
 mod names;
 #[cfg(test)]
@@ -27,3 +33,7 @@ mod rows;
 mod samples;
 #[cfg(test)]
 mod shown;
+#[cfg(test)]
+mod siblings;
+#[cfg(test)]
+mod walked;

@@ -2,6 +2,14 @@
 #![tactic(auto)]
 
 #[cfg(test)]
+mod cursor_runs;
+#[cfg(test)]
+mod cursor_text;
+#[cfg(test)]
+mod cursor_walks;
+#[cfg(test)]
+mod cursor_words;
+#[cfg(test)]
 mod entries;
 #[cfg(test)]
 mod large;

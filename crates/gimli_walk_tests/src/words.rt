@@ -65,7 +65,7 @@ fn writes_the_rows_of_two_files(rt: HostRuntime) {
 
 #[test]
 fn says_how_it_is_called(rt: HostRuntime) {
-    let cases: [&[&str]; 11] = [
+    let cases: [&[&str]; 10] = [
         &[],
         &[""],
         &["rows"],
@@ -76,7 +76,6 @@ fn says_how_it_is_called(rt: HostRuntime) {
         &["info", "abbrev", "rows"],
         // words are judged before a file is read
         &["check", "gone", "lost"],
-        &["cursor", "info", "abbrev", "e"],
         &["tree", "info", "abbrev", "r"],
     ];
     for words in cases {

@@ -1,0 +1,284 @@
+use crate::samples::{
+    NESTED_STRINGS, SIBLINGS, TABLE_NESTED_STRINGS, TABLE_WITH_SIBLINGS, input, table_of, unit_of,
+    whole,
+};
+use crate::walked::{
+    Step, Stood, Walk, Way, begin, no, null, refused, shown, take, tries_either_way, tries_walk,
+    yes,
+};
+use gimli_base::{DwAt, Error, LittleEndian, Reader, ReaderOffset};
+use gimli_units::UnitOffset;
+use std::alloc::Global;
+use std::process::Abort;
+use std::test::Fail;
+
+// A walk over the nested strings from the first.
+fn nested<'a>(steps: &'a [(Step, Stood)]) -> Walk<'a> {
+    Walk {
+        declared: &TABLE_NESTED_STRINGS,
+        entries: &NESTED_STRINGS,
+        start: None,
+        steps,
+    }
+}
+
+// The parts of each of the nested strings.
+const TEXT: (u16, bool, usize) = (0x2e, true, 1);
+
+#[test]
+fn answers_each_entry_and_each_null(rt: HostRuntime) -> Result<(), Fail> {
+    let steps = [
+        (Step::Entry, yes((0x0b, 0), TEXT, (0x10, 1), 1)),
+        (Step::Entry, yes((0x10, 1), TEXT, (0x15, 2), 2)),
+        (Step::Entry, yes((0x15, 2), TEXT, (0x1a, 3), 3)),
+        (Step::Entry, null((0x1a, 3), (0x1b, 2), 4)),
+        (Step::Entry, null((0x1b, 2), (0x1c, 1), 5)),
+        (Step::Entry, null((0x1c, 1), (0x1d, 0), 6)),
+        // at the end the offset and the depth stay
+        (Step::Entry, no((0x1c, 1), (0x1d, 0), 6)),
+        (Step::Dfs, no((0x1c, 1), (0x1d, 0), 6)),
+        (Step::Sibling, no((0x1c, 1), (0x1d, 0), 6)),
+    ];
+    tries_either_way(&rt, rt.alloc(), nested(&steps))
+}
+
+#[test]
+fn passes_nulls_in_depth_first_order(rt: HostRuntime) -> Result<(), Fail> {
+    let steps = [
+        (Step::Dfs, yes((0x0b, 0), TEXT, (0x10, 1), 1)),
+        (Step::Dfs, yes((0x10, 1), TEXT, (0x15, 2), 2)),
+        (Step::Dfs, yes((0x15, 2), TEXT, (0x1a, 3), 3)),
+        // at the end the offset and the depth are those of the last null that was passed
+        (Step::Dfs, no((0x1c, 1), (0x1d, 0), 6)),
+        (Step::Dfs, no((0x1c, 1), (0x1d, 0), 6)),
+    ];
+    tries_either_way(&rt, rt.alloc(), nested(&steps))
+}
+
+#[test]
+fn counts_depths_from_where_it_starts(rt: HostRuntime) -> Result<(), Fail> {
+    let steps = [
+        (Step::Dfs, yes((0x10, 0), TEXT, (0x15, 1), 1)),
+        (Step::Dfs, yes((0x15, 1), TEXT, (0x1a, 2), 2)),
+        (Step::Dfs, no((0x1c, 0), (0x1d, -1), 5)),
+        (Step::Dfs, no((0x1c, 0), (0x1d, -1), 5)),
+    ];
+    let walk = Walk {
+        start: Some(0x10),
+        ..nested(&steps)
+    };
+    tries_either_way(&rt, rt.alloc(), walk)
+}
+
+#[test]
+fn finds_no_sibling_without_a_current_entry(rt: HostRuntime) -> Result<(), Fail> {
+    let steps = [
+        (Step::Sibling, no((0, 0), (0x0b, 0), 0)),
+        (Step::Sibling, no((0, 0), (0x0b, 0), 0)),
+        (Step::Dfs, yes((0x0b, 0), TEXT, (0x10, 1), 1)),
+        // behind the last sibling the offset and the depth are those of the entry
+        (Step::Sibling, no((0x0b, 0), (0x1d, 0), 6)),
+        (Step::Sibling, no((0x0b, 0), (0x1d, 0), 6)),
+    ];
+    tries_either_way(&rt, rt.alloc(), nested(&steps))?;
+    let steps = [
+        (Step::Dfs, yes((0x0b, 0), TEXT, (0x10, 1), 1)),
+        (Step::Dfs, yes((0x10, 1), TEXT, (0x15, 2), 2)),
+        // the null that closes the list
+        (Step::Sibling, no((0x1c, 1), (0x1d, 0), 6)),
+        (Step::Sibling, no((0x1c, 1), (0x1d, 0), 6)),
+        (Step::Entry, no((0x1c, 1), (0x1d, 0), 6)),
+    ];
+    tries_either_way(&rt, rt.alloc(), nested(&steps))
+}
+
+#[test]
+fn a_unit_without_entries_ends_at_once(rt: HostRuntime) -> Result<(), Fail> {
+    let steps = [
+        (Step::Entry, no((0, 0), (0x0b, 0), 0)),
+        (Step::Dfs, no((0, 0), (0x0b, 0), 0)),
+        (Step::Sibling, no((0, 0), (0x0b, 0), 0)),
+    ];
+    let walk = Walk {
+        entries: &[],
+        ..nested(&steps)
+    };
+    tries_either_way(&rt, rt.alloc(), walk)
+}
+
+// The nested strings, with a code at 0x10 that is not declared.
+const UNKNOWN_CODE: [u8; 18] = [
+    0x01, 0x66, 0x6f, 0x6f, 0x00, 0x07, 0x66, 0x6f, 0x6f, 0x00, 0x01, 0x66, 0x6f, 0x6f, 0x00, 0x00,
+    0x00, 0x00,
+];
+
+#[test]
+fn a_refusal_ends_the_walk(rt: HostRuntime) -> Result<(), Fail> {
+    let error = Error::InvalidAbbreviationCode(7);
+    let over = no((0x10, 1), (0x1d, 1), 2);
+    for step in [Step::Entry, Step::Dfs, Step::Sibling] {
+        let steps = [
+            (Step::Entry, yes((0x0b, 0), TEXT, (0x10, 1), 1)),
+            (step, refused(error, (0x10, 1), (0x1d, 1), 2)),
+            (Step::Entry, over),
+            (Step::Dfs, over),
+            (Step::Sibling, over),
+            (Step::Entry, over),
+        ];
+        let walk = Walk {
+            entries: &UNKNOWN_CODE,
+            ..nested(&steps)
+        };
+        tries_either_way(&rt, rt.alloc(), walk)?;
+    }
+    Ok(())
+}
+
+#[test]
+fn starts_in_the_middle_of_an_entry(rt: HostRuntime) -> Result<(), Fail> {
+    // the first byte of a text is no code
+    let error = Error::InvalidAbbreviationCode(0x66);
+    let steps = [
+        (Step::Dfs, refused(error, (0x0c, 0), (0x1d, 0), 1)),
+        (Step::Entry, no((0x0c, 0), (0x1d, 0), 1)),
+    ];
+    let walk = Walk {
+        start: Some(0x0c),
+        ..nested(&steps)
+    };
+    tries_either_way(&rt, rt.alloc(), walk)?;
+    // a reference whose byte is the code of an entry without children
+    let leaf = (0x34, false, 0);
+    let steps = [
+        (Step::Entry, yes((0x0c, 0), leaf, (0x0d, 0), 1)),
+        (Step::Sibling, yes((0x0d, 0), leaf, (0x0e, 0), 2)),
+        (Step::Sibling, no((0x0e, 0), (0x0f, -1), 3)),
+        (Step::Sibling, no((0x0e, 0), (0x0f, -1), 3)),
+        (Step::Dfs, yes((0x0f, -1), leaf, (0x10, -1), 4)),
+        (Step::Sibling, no((0x0f, -1), (0x10, -1), 4)),
+    ];
+    let walk = Walk {
+        declared: &TABLE_WITH_SIBLINGS,
+        entries: &[0x01, 0x02, 0x02, 0x00, 0x02],
+        start: Some(0x0c),
+        steps: &steps,
+    };
+    tries_either_way(&rt, rt.alloc(), walk)
+}
+
+#[test]
+fn starts_at_the_last_byte(rt: HostRuntime) -> Result<(), Fail> {
+    let steps = [
+        (Step::Entry, null((0x1c, 0), (0x1d, -1), 1)),
+        (Step::Entry, no((0x1c, 0), (0x1d, -1), 1)),
+    ];
+    let walk = Walk {
+        start: Some(0x1c),
+        ..nested(&steps)
+    };
+    tries_either_way(&rt, rt.alloc(), walk)
+}
+
+// Tries to start before the first entry, at the end and past it.
+fn tries_starts<R: Reader>(rt: &impl Abort, alloc: Global, entries: R) -> Result<(), Fail> {
+    let table = table_of(alloc, &TABLE_WITH_SIBLINGS)?;
+    let unit = unit_of(rt, entries);
+    for start in [0, 0x0a, 0x10, 0x11, 0xff] {
+        let refusal = Some(Error::OffsetOutOfBounds(u64::from(start)));
+        for way in [Way::Follows, Way::Plain] {
+            let error = begin(alloc, &unit, &table, way, Some(start)).err();
+            assert_eq!(rt; error, refusal, "at {start}");
+        }
+    }
+    let largest = R::Offset::from_u32(u32::MAX);
+    let refusal = Some(Error::OffsetOutOfBounds(0xffff_ffff));
+    let cursor = unit.entries_at_offset(alloc, &table, UnitOffset(largest));
+    assert_eq!(rt; cursor.err(), refusal);
+    let cursor = unit.entries_plain_at_offset(alloc, &table, UnitOffset(largest));
+    assert_eq!(rt; cursor.err(), refusal);
+    for start in [0x0b, 0x0c, 0x0f] {
+        for way in [Way::Follows, Way::Plain] {
+            let cursor = begin(alloc, &unit, &table, way, Some(start))?;
+            let next = (u64::from(start), 0);
+            assert_eq!(rt; shown(&cursor, Ok(false)), no((0, 0), next, 0));
+        }
+    }
+    Ok(())
+}
+
+#[test]
+fn starts_within_the_entries_alone(rt: HostRuntime) -> Result<(), Fail> {
+    tries_starts(&rt, rt.alloc(), input(&SIBLINGS, LittleEndian))?;
+    tries_starts(&rt, rt.alloc(), whole(&rt, &SIBLINGS, LittleEndian))
+}
+
+// Tries a clone of a cursor on an entry, on a null, and behind a refusal: it shows what the cursor shows, and goes its
+// own way.
+fn tries_clones<R: Reader>(
+    rt: &impl Abort,
+    alloc: Global,
+    entries: R,
+    way: Way,
+) -> Result<(), Fail> {
+    let table = table_of(alloc, &TABLE_NESTED_STRINGS)?;
+    let unit = unit_of(rt, entries);
+    let mut cursor = begin(alloc, &unit, &table, way, None)?;
+    let name = DwAt(0x03);
+    for _ in 0..9u8 {
+        let mut clone = cursor.try_clone(alloc)?;
+        let before = shown(&cursor, Ok(true));
+        assert_eq!(rt; shown(&clone, Ok(true)), before);
+        assert_eq!(rt; clone.follows(), cursor.follows());
+        if let Some(entry) = clone.current() {
+            assert!(rt; entry.has_attr(name));
+        }
+        let step = take(&mut clone, Step::Dfs);
+        assert_eq!(rt; shown(&cursor, Ok(true)), before);
+        let mut again = cursor.try_clone(alloc)?;
+        assert_eq!(rt; take(&mut again, Step::Dfs), step);
+        take(&mut cursor, Step::Entry);
+    }
+    Ok(())
+}
+
+#[test]
+fn a_clone_goes_its_own_way(rt: HostRuntime) -> Result<(), Fail> {
+    for way in [Way::Follows, Way::Plain] {
+        for entries in [&NESTED_STRINGS, &UNKNOWN_CODE] {
+            tries_clones(&rt, rt.alloc(), input(entries, LittleEndian), way)?;
+            tries_clones(&rt, rt.alloc(), whole(&rt, entries, LittleEndian), way)?;
+        }
+    }
+    Ok(())
+}
+
+// Tries that each entry of a walk is the one that the unit holds at its offset, but for its depth.
+fn tries_entries<R: Reader>(rt: &impl Abort, alloc: Global, entries: R) -> Result<(), Fail> {
+    let table = table_of(alloc, &TABLE_NESTED_STRINGS)?;
+    let unit = unit_of(rt, entries);
+    let mut cursor = unit.entries(alloc, &table);
+    for _ in 0..3u8 {
+        assert!(rt; cursor.next_dfs()?);
+        let entry = cursor.current().expect(rt, "no entry");
+        let there = unit.entry(alloc, &table, entry.offset())?;
+        assert_eq!(rt; there.depth(), 0);
+        assert_eq!(rt; there.tag(), entry.tag());
+        assert_eq!(rt; there.has_children(), entry.has_children());
+        assert_eq!(rt; there.attrs().len(), entry.attrs().len());
+        for (attribute, other) in there.attrs().iter().zip(entry.attrs()) {
+            assert_eq!(rt; attribute.name(), other.name());
+            assert_eq!(rt;
+                crate::shown::show(&attribute.raw_value()),
+                crate::shown::show(&other.raw_value())
+            );
+        }
+    }
+    assert!(rt; !cursor.next_dfs()?);
+    Ok(())
+}
+
+#[test]
+fn answers_the_entries_of_the_unit(rt: HostRuntime) -> Result<(), Fail> {
+    tries_entries(&rt, rt.alloc(), input(&NESTED_STRINGS, LittleEndian))?;
+    tries_entries(&rt, rt.alloc(), whole(&rt, &NESTED_STRINGS, LittleEndian))
+}
