@@ -57,11 +57,11 @@ fn walk_steps<A: Allocator + Copy, F: FnMut(&str) -> Option<Vec<u8>>, W: Write, 
     requires { F.IsAlwaysCallable read }
 {
     let [info, abbrev, letters] = words;
+    if !are_steps(letters) {
+        return usage(err);
+    }
     let Ok(steps) = steps_in(alloc, letters) else {
         return 3;
-    };
-    let Some(steps) = steps else {
-        return usage(err);
     };
     let Some(info_bytes) = read(info) else {
         return cannot_read(err, info);
@@ -78,22 +78,35 @@ fn walk_steps<A: Allocator + Copy, F: FnMut(&str) -> Option<Vec<u8>>, W: Write, 
     if out.flush().is_err() { 3 } else { status }
 }
 
-// The steps that these letters name, or none where one names no step.
-fn steps_in<A: Allocator>(
-    alloc: A,
-    letters: &str,
-) -> Result<Option<Vec<CursorStep, A>>, AllocError> {
+// The step that a letter names.
+fn step_of(letter: u8) -> Option<CursorStep> {
+    match letter {
+        b'e' => Some(CursorStep::NextEntry),
+        b'd' => Some(CursorStep::NextDfs),
+        b's' => Some(CursorStep::NextSibling),
+        _ => None,
+    }
+}
+
+// Whether each of these letters names a step.
+fn are_steps(letters: &str) -> bool {
+    'letters: for letter in letters.as_bytes() {
+        if step_of(*letter).is_none() {
+            return false;
+        }
+    }
+    true
+}
+
+// The steps that these letters name.
+fn steps_in<A: Allocator>(alloc: A, letters: &str) -> Result<Vec<CursorStep, A>, AllocError> {
     let mut steps = Vec::new(alloc);
     'letters: for letter in letters.as_bytes() {
-        let step = match letter {
-            b'e' => CursorStep::NextEntry,
-            b'd' => CursorStep::NextDfs,
-            b's' => CursorStep::NextSibling,
-            _ => return Ok(None),
-        };
-        steps.push(step)?;
+        if let Some(step) = step_of(*letter) {
+            steps.push(step)?;
+        }
     }
-    Ok(Some(steps))
+    Ok(steps)
 }
 
 // Says how the program is called.
