@@ -1,4 +1,6 @@
 // The same work by the peer, gimli 0.27.0.
+use crate::cursors::{self, Walk};
+use crate::lists;
 use crate::units::{self, Work};
 use gimli::*;
 
@@ -161,6 +163,11 @@ fn entries<E: Endianity>(work: Work, endian: E, first: &[u8], second: &[u8]) -> 
     units::checksum(work, info, EndianSlice::new(second, endian))
 }
 
+fn walk<E: Endianity>(walk: Walk, endian: E, first: &[u8], second: &[u8]) -> u64 {
+    let info = EndianSlice::new(first, endian);
+    cursors::checksum(walk, info, EndianSlice::new(second, endian))
+}
+
 #[inline(never)]
 fn task_of<E: Endianity>(task: u64, endian: E, first: &[u8], second: &[u8]) -> u64 {
     let offsets = EndianSlice::new(second, LittleEndian);
@@ -176,6 +183,15 @@ fn task_of<E: Endianity>(task: u64, endian: E, first: &[u8], second: &[u8]) -> u
         8 => entries(Work::Entry, endian, first, second),
         9 => entries(Work::Attributes, endian, first, second),
         10 => entries(Work::Pass, endian, first, second),
+        11 => walk(Walk::Entries, endian, first, second),
+        12 => walk(Walk::DepthFirst, endian, first, second),
+        13 => walk(Walk::Values, endian, first, second),
+        14 => walk(Walk::Siblings, endian, first, second),
+        15 => {
+            let section = EndianSlice::new(first, endian);
+            lists::checksum(section, EndianSlice::new(second, endian), offsets)
+        }
+        16 => lists::checksum_of_addresses(EndianSlice::new(first, endian)),
         _ => 0,
     }
 }

@@ -32,7 +32,7 @@ impl<R: Reader> Entry<R> {
 }
 
 // The number by which the library names a refusal.
-fn refused(sum: u64, error: Error) -> u64 {
+pub fn refused(sum: u64, error: Error) -> u64 {
     let number = match error {
         Error::UnexpectedEof(_) => 1,
         Error::BadUnsignedLeb128 => 2,
@@ -55,7 +55,7 @@ fn refused(sum: u64, error: Error) -> u64 {
     mixed(sum, number)
 }
 
-fn number_of<R: Reader>(value: &AttributeValue<R>) -> u64 {
+pub fn number_of<R: Reader>(value: &AttributeValue<R>) -> u64 {
     match value {
         AttributeValue::Addr(address) => *address,
         AttributeValue::Block(bytes) => bytes.len().into_u64(),
