@@ -1,6 +1,6 @@
 // Cursors over the entries of units, by the peer.
 use crate::peer::mixed;
-use crate::units::{number_of, refused};
+use crate::values::{number_of, refused};
 use gimli::*;
 
 // How a cursor goes over a unit, as in the crate gimli_marks.

@@ -1,6 +1,6 @@
 // Lists of ranges and ranges of addresses, by the peer; and the lists that the entries of a corpus name.
 use crate::peer::mixed;
-use crate::units::refused;
+use crate::values::refused;
 use gimli::*;
 
 // The peer gives ranges without a byte, which the library leaves out.
@@ -165,8 +165,7 @@ fn lists_of_unit(
 // addresses begins in it, and each list, in words of 8 bytes; then the section of addresses. Each list is named several
 // times, so that a round is not too short.
 pub fn named(
-    info: &[u8],
-    abbrev: &[u8],
+    [info, abbrev]: [&[u8]; 2],
     [ranges, rnglists, addr]: [&[u8]; 3],
 ) -> (Vec<u8>, Vec<u8>) {
     let debug_info = DebugInfo::new(info, LittleEndian);

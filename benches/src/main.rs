@@ -5,11 +5,15 @@
 use std::hint::black_box;
 use std::time::Instant;
 
+#[cfg(feature = "cursors")]
 mod cursors;
 mod inputs;
+#[cfg(feature = "lists")]
 mod lists;
 mod peer;
+#[cfg(feature = "entries")]
 mod units;
+mod values;
 
 include!(concat!(env!("OUT_DIR"), "/libraries.rs"));
 
@@ -24,14 +28,33 @@ const ORDERS: [&str; 5] = [
 // The task of this number and those behind it read sections of the corpus with words in them, which is little endian.
 const FIRST_OF_ENTRIES: u64 = 8;
 
+// Whether the peer's side of a task is built.
+fn is_built(task: usize) -> bool {
+    match task {
+        0..=7 => true,
+        8..=10 => cfg!(feature = "entries"),
+        11..=14 => cfg!(feature = "cursors"),
+        _ => cfg!(feature = "lists"),
+    }
+}
+
 fn main() {
     let arguments: Vec<String> = std::env::args().skip(1).collect();
     let corpus = std::env::var("CORPUS").expect("CORPUS names a folder with two sections");
     let info = std::fs::read(format!("{corpus}/info")).expect("the section info");
     let abbrev = std::fs::read(format!("{corpus}/abbrev")).expect("the section abbrev");
     let optional = |name: &str| std::fs::read(format!("{corpus}/{name}")).unwrap_or_default();
-    let (ranges, rnglists, addr) = (optional("ranges"), optional("rnglists"), optional("addr"));
-    let (lists, named) = lists::named(&info, &abbrev, [&ranges, &rnglists, &addr]);
+    #[cfg(feature = "lists")]
+    let (lists, named) = lists::named(
+        [&info, &abbrev],
+        [
+            &optional("ranges"),
+            &optional("rnglists"),
+            &optional("addr"),
+        ],
+    );
+    #[cfg(not(feature = "lists"))]
+    let (lists, named) = (vec![], vec![]);
     let aranges = optional("aranges");
     let aranges = aranges.repeat(1 + (1 << 20) / aranges.len().max(1));
     let offsets = inputs::tables(&abbrev);
@@ -109,7 +132,7 @@ fn main() {
     for (task, (name, _, _)) in tasks
         .iter()
         .enumerate()
-        .filter(|(_, (name, _, _))| name.starts_with(&only))
+        .filter(|(task, (name, _, _))| is_built(*task) && name.starts_with(&only))
     {
         for (order, order_name) in ORDERS.iter().enumerate() {
             if task as u64 >= FIRST_OF_ENTRIES && (order == 1 || order == 3) {
