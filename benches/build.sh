@@ -1,6 +1,7 @@
 #!/bin/bash
 # build.sh NAME=LIBRARY.a ..: renames the export of each library to gimli_marks_NAME and builds the program.
-# KIT names the folder of the kit; TARGET (default: target beside this file) takes what is made.
+# TASKS is entries (the default), cursors or lists; KIT names the folder of the kit; TARGET (default: target beside this
+# file) takes what is made.
 set -e
 here=$(cd "$(dirname "$0")" && pwd)
 export CARGO_TARGET_DIR=${TARGET:-$here/target}
@@ -12,4 +13,4 @@ for pair in "$@"; do
     LIBRARIES="$LIBRARIES $name=$CARGO_TARGET_DIR/libraries/$name.a"
 done
 export LIBRARIES
-cd "$here" && cargo build --release --offline
+cd "$here" && cargo build --release --offline --features "${TASKS:-entries}"

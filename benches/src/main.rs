@@ -1,12 +1,19 @@
 // gimli_benches ROUNDS [TASK]: our libraries and the peer in one process, rounds interleaved, best of N.
 // gimli_benches one SIDE TASK ORDER: one run of one side (peer or a library), for counting instructions.
-// CORPUS names the folder with the sections `info` and `abbrev`.
+// CORPUS names the folder with the sections `info` and `abbrev`, and `ranges`, `rnglists`, `addr` and `aranges` if they are
+// there.
 use std::hint::black_box;
 use std::time::Instant;
 
+#[cfg(feature = "cursors")]
+mod cursors;
 mod inputs;
+#[cfg(feature = "lists")]
+mod lists;
 mod peer;
+#[cfg(feature = "entries")]
 mod units;
+mod values;
 
 include!(concat!(env!("OUT_DIR"), "/libraries.rs"));
 
@@ -18,14 +25,38 @@ const ORDERS: [&str; 5] = [
     "whole slice",
 ];
 
-// The task of this number and those behind it read the entries of the corpus, which is little endian.
+// The task of this number and those behind it read sections of the corpus with words in them, which is little endian.
 const FIRST_OF_ENTRIES: u64 = 8;
+
+// Whether the peer's side of a task is built.
+fn is_built(task: usize) -> bool {
+    match task {
+        0..=7 => true,
+        8..=10 => cfg!(feature = "entries"),
+        11..=14 => cfg!(feature = "cursors"),
+        _ => cfg!(feature = "lists"),
+    }
+}
 
 fn main() {
     let arguments: Vec<String> = std::env::args().skip(1).collect();
     let corpus = std::env::var("CORPUS").expect("CORPUS names a folder with two sections");
     let info = std::fs::read(format!("{corpus}/info")).expect("the section info");
     let abbrev = std::fs::read(format!("{corpus}/abbrev")).expect("the section abbrev");
+    let optional = |name: &str| std::fs::read(format!("{corpus}/{name}")).unwrap_or_default();
+    #[cfg(feature = "lists")]
+    let (lists, named) = lists::named(
+        [&info, &abbrev],
+        [
+            &optional("ranges"),
+            &optional("rnglists"),
+            &optional("addr"),
+        ],
+    );
+    #[cfg(not(feature = "lists"))]
+    let (lists, named) = (vec![], vec![]);
+    let aranges = optional("aranges");
+    let aranges = aranges.repeat(1 + (1 << 20) / aranges.len().max(1));
     let offsets = inputs::tables(&abbrev);
     // each section several times, so that a round is not too short
     let again = 1 + (1 << 20) / abbrev.len();
@@ -34,7 +65,7 @@ fn main() {
         .collect();
     let (numbers, words) = (inputs::leb128(1 << 21), inputs::words(1 << 21));
     // in the order of their numbers
-    let tasks: [(&str, &[u8], &[u8]); 11] = [
+    let tasks: [(&str, &[u8], &[u8]); 17] = [
         ("LEB128, sum", &numbers, &[]),
         ("words of 2", &words, &[]),
         ("words of 4", &words, &[]),
@@ -46,6 +77,12 @@ fn main() {
         ("entries", &info, &abbrev),
         ("attributes", &info, &abbrev),
         ("passing", &info, &abbrev),
+        ("cursor, entries", &info, &abbrev),
+        ("cursor, dfs", &info, &abbrev),
+        ("cursor, values", &info, &abbrev),
+        ("siblings", &info, &abbrev),
+        ("range lists", &lists, &named),
+        ("aranges", &aranges, &[]),
     ];
     let run = |side: usize, task: u64, order: u64| {
         let (_, first, second) = tasks[task as usize];
@@ -91,11 +128,11 @@ fn main() {
         offsets.len() / 8 / again
     );
     let names: String = LIBRARIES.iter().map(|l| format!("{:>8}", l.0)).collect();
-    println!("{:<15}{:<17}{names}", "task", "order");
+    println!("{:<17}{:<17}{names}", "task", "order");
     for (task, (name, _, _)) in tasks
         .iter()
         .enumerate()
-        .filter(|(_, (name, _, _))| name.starts_with(&only))
+        .filter(|(task, (name, _, _))| is_built(*task) && name.starts_with(&only))
     {
         for (order, order_name) in ORDERS.iter().enumerate() {
             if task as u64 >= FIRST_OF_ENTRIES && (order == 1 || order == 3) {
@@ -121,7 +158,7 @@ fn main() {
             } else {
                 format!("DIFFERENT SUMS {sums:016x?}")
             };
-            println!("{name:<15}{order_name:<17}{ratios}  {sum}");
+            println!("{name:<17}{order_name:<17}{ratios}  {sum}");
         }
     }
 }

@@ -1,4 +1,9 @@
 // The same work by the peer, gimli 0.27.0.
+#[cfg(feature = "cursors")]
+use crate::cursors::{self, Walk};
+#[cfg(feature = "lists")]
+use crate::lists;
+#[cfg(feature = "entries")]
 use crate::units::{self, Work};
 use gimli::*;
 
@@ -156,9 +161,16 @@ mod tables {
     }
 }
 
+#[cfg(feature = "entries")]
 fn entries<E: Endianity>(work: Work, endian: E, first: &[u8], second: &[u8]) -> u64 {
     let info = EndianSlice::new(first, endian);
     units::checksum(work, info, EndianSlice::new(second, endian))
+}
+
+#[cfg(feature = "cursors")]
+fn walk<E: Endianity>(walk: Walk, endian: E, first: &[u8], second: &[u8]) -> u64 {
+    let info = EndianSlice::new(first, endian);
+    cursors::checksum(walk, info, EndianSlice::new(second, endian))
 }
 
 #[inline(never)]
@@ -173,9 +185,27 @@ fn task_of<E: Endianity>(task: u64, endian: E, first: &[u8], second: &[u8]) -> u
         5 => tables::checksum(EndianSlice::new(first, endian), offsets),
         6 => tables::checksum_of_first(EndianSlice::new(first, endian), offsets),
         7 => numbers::checksum_in_twos(EndianSlice::new(first, endian)),
+        #[cfg(feature = "entries")]
         8 => entries(Work::Entry, endian, first, second),
+        #[cfg(feature = "entries")]
         9 => entries(Work::Attributes, endian, first, second),
+        #[cfg(feature = "entries")]
         10 => entries(Work::Pass, endian, first, second),
+        #[cfg(feature = "cursors")]
+        11 => walk(Walk::Entries, endian, first, second),
+        #[cfg(feature = "cursors")]
+        12 => walk(Walk::DepthFirst, endian, first, second),
+        #[cfg(feature = "cursors")]
+        13 => walk(Walk::Values, endian, first, second),
+        #[cfg(feature = "cursors")]
+        14 => walk(Walk::Siblings, endian, first, second),
+        #[cfg(feature = "lists")]
+        15 => {
+            let section = EndianSlice::new(first, endian);
+            lists::checksum(section, EndianSlice::new(second, endian), offsets)
+        }
+        #[cfg(feature = "lists")]
+        16 => lists::checksum_of_addresses(EndianSlice::new(first, endian)),
         _ => 0,
     }
 }

@@ -1,5 +1,6 @@
 // The entries of units, and their attributes, by the peer.
 use crate::peer::mixed;
+use crate::values::{number_of, refused};
 use gimli::*;
 
 // What is done with each entry, as in the crate gimli_marks.
@@ -28,57 +29,6 @@ impl<R: Reader> Entry<R> {
             offset: UnitOffset(R::Offset::from_u8(0)),
             depth: 0,
         }
-    }
-}
-
-// The number by which the library names a refusal.
-fn refused(sum: u64, error: Error) -> u64 {
-    let number = match error {
-        Error::UnexpectedEof(_) => 1,
-        Error::BadUnsignedLeb128 => 2,
-        Error::BadSignedLeb128 => 3,
-        Error::UnknownReservedLength => 4,
-        Error::UnknownVersion(_) => 5,
-        Error::UnsupportedUnitType => 6,
-        Error::UnsupportedAddressSize(_) => 7,
-        Error::UnsupportedOffset => 9,
-        Error::OffsetOutOfBounds => 11,
-        Error::UnknownAbbreviation => 13,
-        Error::UnknownForm => 14,
-        Error::InvalidImplicitConst => 15,
-        Error::AbbreviationTagZero => 19,
-        Error::BadHasChildren => 20,
-        Error::AttributeFormZero => 22,
-        Error::DuplicateAbbreviationCode => 23,
-        _ => 0,
-    };
-    mixed(sum, number)
-}
-
-fn number_of<R: Reader>(value: &AttributeValue<R>) -> u64 {
-    match value {
-        AttributeValue::Addr(address) => *address,
-        AttributeValue::Block(bytes) => bytes.len().into_u64(),
-        AttributeValue::Data1(number) => u64::from(*number),
-        AttributeValue::Data2(number) => u64::from(*number),
-        AttributeValue::Data4(number) => u64::from(*number),
-        AttributeValue::Data8(number) => *number,
-        AttributeValue::Sdata(number) => number.unsigned_abs(),
-        AttributeValue::Udata(number) => *number,
-        AttributeValue::Exprloc(expression) => expression.0.len().into_u64(),
-        AttributeValue::Flag(flag) => u64::from(*flag),
-        AttributeValue::SecOffset(offset) => offset.into_u64(),
-        AttributeValue::DebugAddrIndex(index) => index.0.into_u64(),
-        AttributeValue::UnitRef(offset) => offset.0.into_u64(),
-        AttributeValue::DebugInfoRef(offset) => offset.0.into_u64(),
-        AttributeValue::DebugLocListsIndex(index) => index.0.into_u64(),
-        AttributeValue::DebugRngListsIndex(index) => index.0.into_u64(),
-        AttributeValue::DebugTypesRef(signature) => signature.0,
-        AttributeValue::DebugStrRef(offset) => offset.0.into_u64(),
-        AttributeValue::DebugStrOffsetsIndex(index) => index.0.into_u64(),
-        AttributeValue::DebugLineStrRef(offset) => offset.0.into_u64(),
-        AttributeValue::String(text) => text.len().into_u64(),
-        _ => 0,
     }
 }
 

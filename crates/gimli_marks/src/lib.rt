@@ -1,12 +1,15 @@
-//! The work of readers, of tables of abbreviations and of entries, as a library to be timed: one call for each task and
-//! reader.
+//! The work of readers, of tables of abbreviations, of entries, of cursors and of lists, as a library to be timed: one call
+//! for each task and reader.
 #![tactic(auto)]
 
+mod cursors;
+mod lists;
 mod numbers;
 mod tables;
 mod units;
 mod words;
 
+use cursors::Walk;
 use gimli_base::{
     BigEndian, EndianSlice, Endianity, LittleEndian, Reader, RunTimeEndian, WholeSlice,
 };
@@ -20,7 +23,8 @@ use units::Work;
 /// declaration looked up by its code; 6, a checksum of their first declarations alone, so that reading the tables is
 /// nearly all of the work; 7, a checksum of the unsigned LEB128 numbers taken in twos; 8, 9 and 10, a checksum of the
 /// entries of `.debug_info`, with `.debug_abbrev` in `second`: read as a whole, their attributes read into a list, and
-/// their attributes passed.
+/// their attributes passed; 11 to 14, a checksum of the entries that a cursor comes to, as `Walk` lists its ways; 15, a
+/// checksum of the range lists that `second` names; 16, a checksum of the ranges of addresses.
 #[inline(never)]
 fn task_of<R: Reader>(
     alloc: Global,
@@ -41,6 +45,12 @@ fn task_of<R: Reader>(
         8 => units::checksum(alloc, Work::Entry, first, second),
         9 => units::checksum(alloc, Work::Attributes, first, second),
         10 => units::checksum(alloc, Work::Pass, first, second),
+        11 => cursors::checksum(alloc, Walk::Entries, first, second),
+        12 => cursors::checksum(alloc, Walk::DepthFirst, first, second),
+        13 => cursors::checksum(alloc, Walk::Values, first, second),
+        14 => cursors::checksum(alloc, Walk::Siblings, first, second),
+        15 => lists::checksum(first, second, offsets),
+        16 => lists::checksum_of_addresses(first),
         _ => 0,
     }
 }

@@ -20,7 +20,8 @@ pub enum Work {
     Pass,
 }
 
-fn refused(sum: u64, error: Error) -> u64 {
+/// A checksum with the number of a refusal folded into it.
+pub fn refused(sum: u64, error: Error) -> u64 {
     mixed(sum, u64::from(error.number()))
 }
 
@@ -53,8 +54,9 @@ fn number_of<R: Reader>(value: &AttributeValue<R>) -> u64 {
     }
 }
 
+/// A checksum with the names and the values of attributes folded into it.
 #[inline(never)]
-fn with_values<R: Reader>(sum: u64, attributes: &[Attribute<R>]) -> u64 {
+pub fn with_values<R: Reader>(sum: u64, attributes: &[Attribute<R>]) -> u64 {
     let mut all = sum;
     for attribute in attributes {
         let number = number_of(&attribute.raw_value());

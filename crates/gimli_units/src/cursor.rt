@@ -73,6 +73,7 @@ impl<'abbrev, R: Reader, A: Allocator + Copy> EntriesCursor<'abbrev, R, A> {
 
 impl<'abbrev, R: Reader, A: Allocator> EntriesCursor<'abbrev, R, A> {
     /// The entry that the cursor stands on, if it is on one and not on a null.
+    #[inline]
     pub fn current(&self) -> Option<&DebuggingInformationEntry<R, A>>
         ensures entry { option_map (λ e. entry_of R.view R.Offset.number e.now.tag e.now.has_children e.now.attrs.items) result ≡ some_of self.now.entry }
         ensures offset { IfSome result (λ e. R.Offset.number e.now.offset.0 ≡ self.now.offset) }
@@ -191,6 +192,7 @@ impl<'abbrev, R: Reader, A: Allocator> EntriesCursor<'abbrev, R, A> {
     ///
     /// Refusals: those of `EntriesRaw::read_entry`; the walk is then over, without a current entry, at the offset and the
     /// depth of what was refused.
+    #[inline(always)]
     pub fn next_entry(&mut self) -> Result<bool>
         ensures moves { UnlessMemory result (Goes R.Offset.limit (next_row self.old.raw.end) self.old result self.new) }
         ensures true_entry { result ≡ Ok true → IsTrueEntry R.Offset.limit self.old self.new }

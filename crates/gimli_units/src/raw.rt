@@ -164,6 +164,7 @@ impl<'abbrev, R: Reader, A: Allocator> EntriesRaw<'abbrev, R, A> {
     ///
     /// Refusals: those of `read_abbreviation` and `read_attributes`; `entry` is then a null with the offset and the
     /// depth of what was refused. Memory is taken only where the declaration has attributes.
+    #[inline(always)]
     #[tactic(auto, unfolding(crate::specs::Entry::entry_at))]
     pub fn read_entry(&mut self, entry: &mut DebuggingInformationEntry<R, A>) -> Result<bool>
         ensures value { UnlessMemory result (read (filled (entry_of R.view R.Offset.number entry.new.tag entry.new.has_children entry.new.attrs.items) result) self.new.rest ≡ entry_at R.Offset.limit self.old.encoding (found self.old.abbreviations) self.old.rest) }

@@ -1,0 +1,130 @@
+//! Lists of ranges, and ranges of addresses.
+//!
+//! The first range of a list is read by one call, and the others by another, so that each read has two callers.
+
+use crate::mixed;
+use crate::units::refused;
+use gimli_base::{
+    DebugAddr, DebugAddrBase, Encoding, EndianSlice, Format, LittleEndian, RangeListsOffset,
+    Reader, ReaderOffset, Result,
+};
+use gimli_lists::{
+    ArangeEntryIter, ArangeHeader, DebugAranges, DebugRanges, DebugRngLists, RangeLists,
+    RngListIter,
+};
+
+#[inline(always)]
+fn next_range<R: Reader>(sum: u64, ranges: &mut RngListIter<R>) -> Result<Option<u64>> {
+    match ranges.next()? {
+        Some(range) => Ok(Some(mixed(mixed(sum, range.begin), range.end))),
+        None => Ok(None),
+    }
+}
+
+#[inline(never)]
+fn with_ranges<R: Reader>(sum: u64, mut ranges: RngListIter<R>) -> u64 {
+    let mut all = match next_range(sum, &mut ranges) {
+        Ok(Some(first)) => first,
+        Ok(None) => return sum,
+        Err(error) => return refused(sum, error),
+    };
+    for _ in 0..u64::MAX {
+        match next_range(all, &mut ranges) {
+            Ok(Some(next)) => all = next,
+            Ok(None) => break,
+            Err(error) => return refused(all, error),
+        }
+    }
+    all
+}
+
+// The next list: its offset, its version, the base address of its unit and that of the unit's table of addresses, each a
+// word of 8 bytes.
+fn with_list<R: Reader>(
+    sum: u64,
+    lists: &RangeLists<R>,
+    addresses: &DebugAddr<R>,
+    named: &mut EndianSlice<'_, LittleEndian>,
+) -> Result<u64> {
+    let offset = RangeListsOffset(R::Offset::from_u64(named.read_u64()?)?);
+    let version = if named.read_u64()? < 5 { 4 } else { 5 };
+    let base = named.read_u64()?;
+    let table = DebugAddrBase(R::Offset::from_u64(named.read_u64()?)?);
+    let encoding = Encoding {
+        address_size: 8,
+        format: Format::Dwarf32,
+        version,
+    };
+    let ranges = lists.ranges(offset, encoding, base, addresses, table)?;
+    Ok(with_ranges(sum, ranges))
+}
+
+fn whole<R: Reader>(
+    lists: &RangeLists<R>,
+    mut second: R,
+    mut named: EndianSlice<'_, LittleEndian>,
+) -> Result<u64> {
+    let count = named.read_u64()?;
+    second.skip(R::Offset::from_u64(named.read_u64()?)?)?;
+    let addresses = DebugAddr::from(second);
+    let mut sum = 0u64;
+    for _ in 0..count {
+        sum = with_list(sum, lists, &addresses, &mut named)?;
+    }
+    Ok(sum)
+}
+
+/// A checksum of the ranges of the lists in a section that are named in `named`, whose bytes `second` reads too: how many
+/// they are, where the section of addresses begins there, and then the lists; where they are not there, 0.
+#[inline(never)]
+pub fn checksum<R: Reader>(section: R, second: R, named: EndianSlice<'_, LittleEndian>) -> u64 {
+    let lists = RangeLists::new(
+        DebugRanges::from(section.copy()),
+        DebugRngLists::from(section),
+    );
+    whole(&lists, second, named).unwrap_or(0)
+}
+
+#[inline(always)]
+fn next_arange<R: Reader>(sum: u64, entries: &mut ArangeEntryIter<R>) -> Result<Option<u64>> {
+    match entries.next()? {
+        Some(entry) => Ok(Some(mixed(mixed(sum, entry.address()), entry.length()))),
+        None => Ok(None),
+    }
+}
+
+#[inline(never)]
+fn with_set<R: Reader>(sum: u64, header: &ArangeHeader<R>) -> u64 {
+    let sum = mixed(sum, header.debug_info_offset().0.into_u64());
+    let mut entries = header.entries();
+    let mut all = match next_arange(sum, &mut entries) {
+        Ok(Some(first)) => first,
+        Ok(None) => return sum,
+        Err(error) => return refused(sum, error),
+    };
+    for _ in 0..u64::MAX {
+        match next_arange(all, &mut entries) {
+            Ok(Some(next)) => all = next,
+            Ok(None) => break,
+            Err(error) => return refused(all, error),
+        }
+    }
+    all
+}
+
+/// A checksum of the ranges of addresses of all sets of `.debug_aranges`; a refusal's number is folded in, and the rest
+/// of its set left out.
+#[inline(never)]
+pub fn checksum_of_addresses<R: Reader>(section: R) -> u64 {
+    let aranges = DebugAranges::from(section);
+    let mut headers = aranges.headers();
+    let mut sum = 0u64;
+    for _ in 0..u64::MAX {
+        match headers.next() {
+            Ok(Some(header)) => sum = with_set(sum, &header),
+            Ok(None) => break,
+            Err(error) => sum = refused(sum, error),
+        }
+    }
+    sum
+}
