@@ -53,6 +53,7 @@ impl<R: Reader> ArangeEntryIter<R> {
     ///
     /// Refusal: `AddressOverflow`, where the end does not fit the size of an address; the call after it goes on behind that
     /// tuple.
+    #[inline(always)]
     pub fn next(&mut self) -> Result<Option<ArangeEntry>>
         ensures value { result ≡ option_transpose (next_arange self.old).0 }
         ensures left { self.new ≡ (next_arange self.old).1 }
@@ -139,6 +140,7 @@ impl ArangeEntry {
 }
 
 // The next tuple of a set, or none where fewer bytes are left than a tuple has; they are passed then.
+#[inline(always)]
 fn next_tuple<R: Reader>(input: &mut R, address_size: u8) -> Result<Option<(u64, u64)>>
     requires { IsTrue (is_size address_size) }
     ensures { (result, R.view input.new) ≡ next_tuple address_size (R.view input.old) }
@@ -153,6 +155,7 @@ fn next_tuple<R: Reader>(input: &mut R, address_size: u8) -> Result<Option<(u64,
 }
 
 // A tuple as it stands, without its end; two zeros are none.
+#[inline(always)]
 fn raw_entry(address: u64, length: u64) -> Option<ArangeEntry>
     ensures { result ≡ raw_entry (address, length) }
 {
@@ -167,6 +170,7 @@ fn raw_entry(address: u64, length: u64) -> Option<ArangeEntry>
 }
 
 // The next tuple of a set that is not two zeros, or none.
+#[inline(always)]
 fn next_entry<R: Reader>(input: &mut R, address_size: u8) -> Result<Option<ArangeEntry>>
     requires { IsTrue (is_size address_size) }
     ensures value { result ≡ Ok (first_of_tuples raw_entry address_size (R.view input.old)).0 }
@@ -182,6 +186,7 @@ fn next_entry<R: Reader>(input: &mut R, address_size: u8) -> Result<Option<Arang
 }
 
 // The range of a tuple, with its end, or none where its address stands for none.
+#[inline(always)]
 fn convert(entry: ArangeEntry, address_size: u8) -> Result<Option<ArangeEntry>>
     requires { IsTrue (is_size address_size) }
     ensures { result ≡ converted address_size entry }
@@ -197,6 +202,7 @@ fn convert(entry: ArangeEntry, address_size: u8) -> Result<Option<ArangeEntry>>
 }
 
 // The next range of a set, or none.
+#[inline(always)]
 fn next_range<R: Reader>(input: &mut R, address_size: u8) -> Result<Option<ArangeEntry>>
     requires { IsTrue (is_size address_size) }
     ensures value { result ≡ option_transpose (first_of_tuples (answer_to address_size) address_size (R.view input.old)).0 }
