@@ -123,6 +123,7 @@ module _ (limit : ℕ) where
     where
       left : (rows_of limit new.raw).rows ≡ rest
       left = ap (λ (m : Moved). m.place.ahead.rows) is
+
       cases : (b : Bool) → is_null new.entry ≡ b → IsHonest new.raw.end (last_row new) (rows_of limit new.raw).rows
       cases true is_none = null_honest new (rows_of limit new.raw).rows is_none
       cases false entry =
@@ -152,6 +153,7 @@ module _ (limit : ℕ) where
     where
       a : Ahead
       a = rows_of limit c.raw
+
       cases : (b : Bool) → is_null c.entry ≡ b
           → ◌≡◌ {A = Moved} (record { outcome = outcome; place = place_of limit new }) (elim (if b then None else Some c.entry) [
             | None ↦ record { outcome = Ok false; place = place_of limit c }
