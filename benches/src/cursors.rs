@@ -1,6 +1,6 @@
 // Cursors over the entries of units, by the peer.
 use crate::peer::mixed;
-use crate::values::{number_of, refused};
+use crate::values::{number_of, over_units, refused};
 use gimli::*;
 
 // How a cursor goes over a unit, as in the crate gimli_marks.
@@ -183,15 +183,7 @@ fn with_unit<R: Reader>(
 
 #[inline(never)]
 pub fn checksum<R: Reader>(walk: Walk, info: R, abbrev: R) -> u64 {
-    let debug_info = DebugInfo::from(info);
-    let debug_abbrev = DebugAbbrev::from(abbrev);
-    let mut units = debug_info.units();
-    let mut sum = 0u64;
-    loop {
-        match units.next() {
-            Ok(Some(unit)) => sum = with_unit(walk, sum, &unit, &debug_abbrev),
-            Ok(None) => return sum,
-            Err(error) => sum = refused(sum, error),
-        }
-    }
+    over_units(info, abbrev, |sum, unit, debug_abbrev| {
+        with_unit(walk, sum, unit, debug_abbrev)
+    })
 }

@@ -1,6 +1,6 @@
 // The entries of units, and their attributes, by the peer.
 use crate::peer::mixed;
-use crate::values::{number_of, refused};
+use crate::values::{number_of, over_units, refused};
 use gimli::*;
 
 // What is done with each entry, as in the crate gimli_marks.
@@ -187,15 +187,7 @@ fn with_unit<R: Reader>(
 
 #[inline(never)]
 pub fn checksum<R: Reader>(work: Work, info: R, abbrev: R) -> u64 {
-    let debug_info = DebugInfo::from(info);
-    let debug_abbrev = DebugAbbrev::from(abbrev);
-    let mut units = debug_info.units();
-    let mut sum = 0u64;
-    loop {
-        match units.next() {
-            Ok(Some(unit)) => sum = with_unit(work, sum, &unit, &debug_abbrev),
-            Ok(None) => return sum,
-            Err(error) => sum = refused(sum, error),
-        }
-    }
+    over_units(info, abbrev, |sum, unit, debug_abbrev| {
+        with_unit(work, sum, unit, debug_abbrev)
+    })
 }

@@ -1,4 +1,4 @@
-// Numbers of refusals and of values of attributes, of the peer.
+// Numbers of refusals and of values of attributes, and sums over units, of the peer.
 use crate::peer::mixed;
 use gimli::*;
 
@@ -51,5 +51,25 @@ pub fn number_of<R: Reader>(value: &AttributeValue<R>) -> u64 {
         AttributeValue::DebugLineStrRef(offset) => offset.0.into_u64(),
         AttributeValue::String(text) => text.len().into_u64(),
         _ => 0,
+    }
+}
+
+// The checksum over all units of `.debug_info`; a refused header's number is folded in.
+#[allow(dead_code)]
+pub fn over_units<R: Reader>(
+    info: R,
+    abbrev: R,
+    with_unit: impl Fn(u64, &UnitHeader<R>, &DebugAbbrev<R>) -> u64,
+) -> u64 {
+    let debug_info = DebugInfo::from(info);
+    let debug_abbrev = DebugAbbrev::from(abbrev);
+    let mut units = debug_info.units();
+    let mut sum = 0u64;
+    loop {
+        match units.next() {
+            Ok(Some(unit)) => sum = with_unit(sum, &unit, &debug_abbrev),
+            Ok(None) => return sum,
+            Err(error) => sum = refused(sum, error),
+        }
     }
 }

@@ -1,4 +1,4 @@
--- Addresses of a size: which stand for none, their sums, and the address at an index of a table (DWARF 5, 2.17.3 and 7.27).
+-- Addresses of a size: which stand for none, by the habit of linkers, their sums, and the address at an index of a table (DWARF 5, 7.27).
 use Rattle.std.specs.Prelude.{ℕ, ◌+◌, ◌-◌, ◌*◌, ◌%◌, ◌^◌, nat_le, if◌then◌else◌, Result, Ok, Err}
 use Rattle.gimli_base.specs.declared.error.Error.{Error}
 use Rattle.gimli_base.specs.declared.error.Error.TheVariants.{AddressOverflow}

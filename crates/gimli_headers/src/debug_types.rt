@@ -1,7 +1,7 @@
 //! The section `.debug_types`, and its units.
 
 ghost use Rattle.std.specs.Prelude.{◌≡◌, ◌+◌, ◌<◌, length, MatchResult, IfOk, IfSome, OnSome};
-ghost use Rattle.std.specs.Fn.{FnOnceReturnsAt};
+ghost use Rattle.std.specs.Fn.{FnOnceTakesAt, FnOnceReturnsAt};
 ghost use Rattle.std.specs.List.{All};
 ghost use Rattle.std.specs.Option.{option_map};
 ghost use Rattle.std.specs.Iterator.{at_most};
@@ -37,7 +37,7 @@ impl<'a, E: Endianity> DebugTypes<EndianSlice<'a, E>> {
 impl<T> DebugTypes<T> {
     /// The section that is read by what `f` makes of this one's reader. `f` is called once.
     pub fn borrow<'a, R, F: FnOnce(&'a T) -> R>(&'a self, f: F) -> DebugTypes<R>
-        requires { F.IsAlwaysCallable f }
+        requires { FnOnceTakesAt F.FnOnce f self.now.section }
         ensures { FnOnceReturnsAt F.FnOnce f self.now.section result.section }
     {
         DebugTypes {

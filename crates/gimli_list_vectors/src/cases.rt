@@ -7,9 +7,22 @@ use gimli_base::{Encoding, Format};
 use std::alloc::Global;
 use std::str::SplitAsciiWhitespace;
 
+/// What a list is read as.
+#[derive(Clone, Copy, PartialEq, Eq)]
+pub(crate) enum Kind {
+    /// As a list of ranges.
+    Ranges,
+    /// As a list of locations.
+    Locations,
+    /// As a list of locations of a split file.
+    SplitLocations,
+}
+
 /// A list that is to be read.
 #[derive(Drop)]
 pub(crate) struct Case {
+    /// What it is read as.
+    pub(crate) kind: Kind,
     /// The encoding of the unit.
     pub(crate) encoding: Encoding,
     /// The base address.
@@ -24,16 +37,19 @@ pub(crate) struct Case {
     pub(crate) addresses: Vec<u8>,
 }
 
-/// The case of a line: `ranges`, bytes of an offset, version, bytes of an address, base address, offset of the table of
-/// addresses, and offset of the list; behind `:` each byte of the list's section in hexadecimal, and behind another those
-/// of the section of addresses. An address has 1, 2, 4 or 8 bytes.
+/// The case of a line: `ranges`, `locations` or `locations_dwo`, bytes of an offset, version, bytes of an address, base
+/// address, offset of the table of addresses, and offset of the list; behind `:` each byte of the list's section in
+/// hexadecimal, and behind another those of the section of addresses. An address has 1, 2, 4 or 8 bytes.
 pub(crate) fn parse_case(alloc: Global, line: &str) -> Option<Case>
     ensures { IfSome result (λ c. IsTrue (is_size c.encoding.address_size)) }
 {
     let mut words = line.split_ascii_whitespace();
-    if words.next()? != "ranges" {
-        return None;
-    }
+    let kind = match words.next()? {
+        "ranges" => Kind::Ranges,
+        "locations" => Kind::Locations,
+        "locations_dwo" => Kind::SplitLocations,
+        _ => return None,
+    };
     let encoding = parse_encoding(&mut words)?;
     let base = words.next()?.parse::<u64>().ok()?;
     let addr_base = words.next()?.parse::<u64>().ok()?;
@@ -54,6 +70,7 @@ pub(crate) fn parse_case(alloc: Global, line: &str) -> Option<Case>
         }
     }
     Some(Case {
+        kind,
         encoding,
         base,
         addr_base,

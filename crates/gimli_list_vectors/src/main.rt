@@ -3,6 +3,8 @@
 
 mod cases;
 mod lines;
+mod locations;
+mod ranges;
 
 use crate::lines::write_cases;
 use std::io::{self, BufWriter, Write};

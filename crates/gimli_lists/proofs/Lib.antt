@@ -3,3 +3,4 @@ pub mod SetSteps
 pub mod TupleReads
 pub mod TupleSteps
 pub mod ArangeSteps
+pub mod SecondCall

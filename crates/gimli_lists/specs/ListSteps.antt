@@ -1,9 +1,10 @@
 -- A list as its reading moves along it, and its answers with the base address that is at hand (DWARF 5, 2.6.2 and 2.17.3).
-use Rattle.std.specs.Prelude.{◌≡◌, ℕ, zero, suc, ◌+◌, ◌-◌, ◌^◌, ◌<◌, ◌≤◌, ◌==◌, nat_lt, ◌&&◌, if◌then◌else◌, Bool, true, false, List, [], ◌∷◌, ◌++◌, map, min, take, reverse, length, Option, Some, None, unwrap_or, Result, Ok, Err}
-use Rattle.std.specs.List.{enumerate_from, filter_map, prefix_len}
+use Rattle.std.specs.Prelude.{◌≡◌, ℕ, zero, suc, ◌+◌, ◌-◌, ◌^◌, ◌<◌, ◌≤◌, ◌==◌, nat_lt, ◌&&◌, if◌then◌else◌, Bool, true, false, List, [], ◌∷◌, ◌++◌, map, min, take, reverse, length, Option, Some, None, unwrap_or, Result, Ok, Err, IfOk}
+use Rattle.std.specs.List.{All, enumerate_from, filter_map, prefix_len}
 use Rattle.std.specs.Option.{option_or}
 use Rattle.std.proofs.Common.{refl, sym, ap, ◌∙◌, arith, inl, inr}
 use Rattle.std.proofs.lemmas.List.{reverse-append}
+use Rattle.std.proofs.lemmas.List.Elements.{All-nil, All-cons, All-append, All-same}
 use Rattle.std.proofs.lemmas.Bool.{ne_eqb, ltb-true}
 use Rattle.std.proofs.lemmas.Bool.Decides.{eqb_tells}
 use Rattle.gimli_base.specs.declared.error.Error.{Error}
@@ -11,7 +12,7 @@ use Rattle.gimli_base.specs.View.{View}
 use Rattle.gimli_base.specs.Reading.{Reads}
 use Rattle.gimli_lists.specs.RawList.{Entry, address_or_offset_pair, base_address, base_addressx, startx_endx, startx_length, offset_pair, default_location, start_end, start_length, EntryReads, Ending, end_of_list, used_up, refused, RawList, no_entries, then_entry, then_list, list_within, list_at}
 use Rattle.gimli_base.specs.Address.{min_tombstone, wrapped_sum}
-use Rattle.gimli_lists.specs.Resolved.{LookUp, Resolved, located, located_from, if_found, base_given, first_base, base_before, resolve, resolve_each, some_answer, last_answer, is_nothing, entries_read, resolved_list}
+use Rattle.gimli_lists.specs.Resolved.{LookUp, Resolved, located, located_from, if_found, base_given, first_base, base_before, resolve, resolve_each, some_answer, last_answer, is_nothing, entries_read, entry_answers, resolved_list}
 
 -- the first base of entries with one more at their end
 first_base-last : {P : Type 0} → (look_up : LookUp) (es : List (Entry P)) (e : Entry P)
@@ -63,17 +64,29 @@ module _ {P : Type 0} (size : ℕ) (look_up : LookUp) where
       ∙ ap (λ n. resolve size look_up (base_before look_up (base_after look_up base e) all k) x ∷ map f (enumerate_from n es)) next
       ∙ ap (λ rs. resolve size look_up (base_before look_up (base_after look_up base e) all k) x ∷ rs) (resolve_later base e all (k + 1) es)
 
-  -- the answers of a list are the first entry's, and then those of the others with the base behind it
+  -- the answers of entries are the first one's, and then those of the others with the base behind it
+  pub entry_answers-first : (base : ℕ) (e : Entry P) (es : List (Entry P))
+      → entry_answers size look_up base (e ∷ es) ≡ then_answers (resolve size look_up base e) (entry_answers size look_up (base_after look_up base e) es)
+  entry_answers-first base e es =
+      let first = resolve size look_up base e in
+      ap (λ rs. filter_map some_answer (first ∷ rs)) (resolve_later base e es 0 es) ∙ either first (resolve_each size look_up (base_after look_up base e) es)
+    where
+      either : (r : Result (Option (Resolved P)) Error) (rs : List (Result (Option (Resolved P)) Error))
+          → filter_map some_answer (r ∷ rs) ≡ then_answers r (filter_map some_answer rs)
+      either (Ok None) rs = refl
+      either (Ok (Some x)) rs = refl
+      either (Err e) rs = refl
+
+  -- and so are those of a list
   pub resolved_list-first : (base : ℕ) (e : Entry P) (l : RawList P)
       → resolved_list size look_up base (then_entry e l) ≡ then_answers (resolve size look_up base e) (resolved_list size look_up (base_after look_up base e) l)
   unfolding resolved_list
   resolved_list-first base e l =
-      let first = resolve size look_up base e in
-      ap (λ rs. filter_map some_answer (first ∷ rs) ++ last_answer l.ending) (resolve_later base e l.entries 0 l.entries)
-      ∙ either first (resolve_each size look_up (base_after look_up base e) l.entries)
+      ap (λ rs. rs ++ last_answer l.ending) (entry_answers-first base e l.entries)
+      ∙ either (resolve size look_up base e) (entry_answers size look_up (base_after look_up base e) l.entries)
     where
-      either : (r : Result (Option (Resolved P)) Error) (rs : List (Result (Option (Resolved P)) Error))
-          → filter_map some_answer (r ∷ rs) ++ last_answer l.ending ≡ then_answers r (filter_map some_answer rs ++ last_answer l.ending)
+      either : (r : Result (Option (Resolved P)) Error) (rs : List (Result (Resolved P) Error))
+          → then_answers r rs ++ last_answer l.ending ≡ then_answers r (rs ++ last_answer l.ending)
       either (Ok None) rs = refl
       either (Ok (Some x)) rs = refl
       either (Err e) rs = refl
@@ -142,6 +155,35 @@ module _ {P : Type 0} (size : ℕ) where
   resolve-sound look_up base (default_location p) = located-sound 0 (2 ^ 64 - 1) p
   resolve-sound look_up base (start_end begin end p) = located-sound begin end p
   resolve-sound look_up base (start_length begin length p) = located-sound begin (wrapped_sum size begin length) p
+
+-- what holds of the ranges among answers
+abbrev pub AllSound : {P : Type 0} → ℕ → List (Result (Resolved P) Error) → Type 0
+AllSound size answers = All (λ a. IfOk a (IsSound size)) answers
+
+module _ {P : Type 0} (size : ℕ) (look_up : LookUp) where
+  abbrev Sound : Result (Resolved P) Error → Type 0
+  Sound a = IfOk a (IsSound size)
+
+  then_answers-sound : (r : Result (Option (Resolved P)) Error) (others : List (Result (Resolved P) Error)) → GivesSound size r → AllSound size others → AllSound size (then_answers r others)
+  then_answers-sound (Ok None) others h k = k
+  then_answers-sound (Ok (Some x)) others h k = All-cons Sound (Ok x) others h k
+  then_answers-sound (Err e) others h k = All-cons Sound (Err e) others tt k
+
+  entry_answers-sound : (base : ℕ) (es : List (Entry P)) → AllSound size (entry_answers size look_up base es)
+  entry_answers-sound base [] = All-nil Sound
+  entry_answers-sound base (e ∷ es) =
+      All-same Sound (entry_answers size look_up base (e ∷ es)) _ (entry_answers-first size look_up base e es)
+      (then_answers-sound (resolve size look_up base e) _ (resolve-sound size look_up base e) (entry_answers-sound (base_after look_up base e) es))
+
+  last_answer-sound : (ending : Ending) → AllSound {P = P} size (last_answer ending)
+  last_answer-sound end_of_list = All-nil Sound
+  last_answer-sound used_up = All-nil Sound
+  last_answer-sound (refused e) = All-cons Sound (Err e) [] tt (All-nil Sound)
+
+  -- each range among the answers of a list begins below its end, and below the addresses that stand for none
+  pub resolved_list-sound : (base : ℕ) (l : RawList P) → AllSound size (resolved_list size look_up base l)
+  unfolding resolved_list
+  resolved_list-sound base l = All-append Sound (entry_answers size look_up base l.entries) (last_answer l.ending) (entry_answers-sound base l.entries) (last_answer-sound l.ending)
 
 -- the list of a view, where each entry takes a byte at least
 module _ {P : Type 0} (next : EntryReads P) (shorter : (v : View) (e : Option (Entry P)) (w : View) → Ok (e, w) ≡ next v → length w.bytes < length v.bytes) where

@@ -1,13 +1,12 @@
 -- An entry of a range list in the encoding of its version (DWARF 5, 2.17.3 and 7.25; DWARF 4, 2.17.3).
 use Rattle.std.specs.Prelude.{ℕ, ◌==◌, if◌then◌else◌, Some, None, Ok, Err}
-use Rattle.gimli_base.specs.declared.common.Encoding.{Encoding}
 use Rattle.gimli_base.specs.declared.error.Error.TheVariants.{UnknownRangeListsEntry}
 use Rattle.gimli_base.specs.View.{View}
 use Rattle.gimli_base.specs.Reading.{Reads, ◌>>=◌, made, byte_at, uleb_at, address_at}
 use Rattle.gimli_lists.specs.declared.rnglists.raw.RawRngListEntry.{RawRngListEntry}
 use Rattle.gimli_lists.specs.declared.rnglists.raw.RawRngListEntry.TheVariants.{AddressOrOffsetPair, BaseAddress, BaseAddressx, StartxEndx, StartxLength, OffsetPair, StartEnd, StartLength}
-use Rattle.gimli_lists.specs.declared.rnglists.raw.RangeListsFormat.{RangeListsFormat}
-use Rattle.gimli_lists.specs.declared.rnglists.raw.RangeListsFormat.TheVariants.{Bare, Rle}
+use Rattle.gimli_lists.specs.declared.lists.ListsFormat.TheVariants.{Bare, Coded}
+use Rattle.gimli_lists.specs.Places.{Grammar}
 use Rattle.gimli_lists.specs.RawList.{Entry, address_or_offset_pair, base_address, base_addressx, startx_endx, startx_length, offset_pair, start_end, start_length, EntryReads, old_entry_at, index_at, two_at}
 
 -- an entry of a range list: nothing stands behind its operands
@@ -43,16 +42,6 @@ new_entry_at limit size v = byte_at v >>= λ code.
     else Err (UnknownRangeListsEntry (record { 0 = code.0 }))
 
 -- an entry in either encoding
-abbrev pub range_entry_at : ℕ → RangeListsFormat → ℕ → EntryReads (Unit {0})
-range_entry_at limit Bare size = old_entry_at nothing_at size
-range_entry_at limit Rle size = new_entry_at limit size
-
--- where the reading of a range list stands: what is left of the section, the encoding of the unit, and that of the list
-pub record RawPlace : Type 0 where
-  pub rest : View
-  pub encoding : Encoding
-  pub format : RangeListsFormat
-
--- how the entries of a place are read
-abbrev pub entries_of : ℕ → RawPlace → EntryReads (Unit {0})
-entries_of limit p = range_entry_at limit p.format p.encoding.address_size
+abbrev pub range_grammar : ℕ → Grammar (Unit {0})
+range_grammar limit Bare encoding = old_entry_at nothing_at encoding.address_size
+range_grammar limit Coded encoding = new_entry_at limit encoding.address_size

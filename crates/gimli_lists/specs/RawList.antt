@@ -1,11 +1,11 @@
 -- Range lists and location lists as they lie in the bytes: entries one behind the other, and how they end (DWARF 5, 2.6.2, 2.17.3, 7.7.3 and 7.25; DWARF 4, 2.6.2 and 2.17.3).
-use Rattle.std.specs.Prelude.{ℕ, zero, suc, ◌==◌, ◌&&◌, if◌then◌else◌, List, [], ◌∷◌, length, Option, Some, None, Result, Ok, Err}
+use Rattle.std.specs.Prelude.{◌≡◌, ◌⊎◌, ℕ, zero, suc, ◌==◌, ◌&&◌, if◌then◌else◌, List, [], ◌∷◌, length, Option, Some, None, Result, Ok, Err}
 use Rattle.gimli_base.specs.declared.error.Error.{Error}
 use Rattle.gimli_base.specs.View.{View, ended}
 use Rattle.gimli_base.specs.Address.{ones_sized}
 use Rattle.gimli_base.specs.Reading.{Reads, ◌>>=◌, made, as_offset, uleb_at, address_at}
 
--- an entry of a list, with what stands behind its operands: nothing in a range list, an expression in a location list
+-- an entry of a list, with what stands behind its operands: nothing in a range list, and an expression in a location list, but for a base address
 pub data Entry (P : Type 0) : Type 0 where
   address_or_offset_pair : (begin end : ℕ) → P → Entry P
   base_address : (address : ℕ) → Entry P
@@ -82,3 +82,10 @@ left_by v (Err e) = (Err e, ended v)
 -- the next entry of a list, and what is left of it: none where no byte is left
 unfoldable pub next_entry : {P : Type 0} → EntryReads P → View → Result (Option (Entry P)) Error × View
 next_entry next v = if length v.bytes == 0 then (Ok None, v) else left_by v (next v)
+
+-- An answer is that of a list, and leaves the rest: its first entry is in front of the rest, or it has no entry and ends as the
+-- answer says, which leaves nothing.
+abbrev pub IsFirstOf : {P : Type 0} → Result (Option (Entry P)) Error → RawList P → RawList P → Type 0
+IsFirstOf (Ok None) l rest = ((l ≡ no_entries end_of_list) ⊎ (l ≡ no_entries used_up)) × (rest ≡ no_entries used_up)
+IsFirstOf (Ok (Some e)) l rest = l ≡ then_entry e rest
+IsFirstOf (Err e) l rest = (l ≡ no_entries (refused e)) × (rest ≡ no_entries used_up)

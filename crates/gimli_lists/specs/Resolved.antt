@@ -76,10 +76,13 @@ last_answer end_of_list = []
 last_answer used_up = []
 last_answer (refused e) = Err e ∷ []
 
--- the answers of a list: what its entries stand for, in order and without those that stand for nothing, and then the
--- refusal that ends it
+-- the answers of entries: what they stand for, in order and without those that stand for nothing
+abbrev pub entry_answers : {P : Type 0} → ℕ → LookUp → ℕ → List (Entry P) → List (Result (Resolved P) Error)
+entry_answers size look_up base entries = filter_map some_answer (resolve_each size look_up base entries)
+
+-- the answers of a list: those of its entries, and then the refusal that ends it
 unfoldable pub resolved_list : {P : Type 0} → ℕ → LookUp → ℕ → RawList P → List (Result (Resolved P) Error)
-resolved_list size look_up base l = filter_map some_answer (resolve_each size look_up base l.entries) ++ last_answer l.ending
+resolved_list size look_up base l = entry_answers size look_up base l.entries ++ last_answer l.ending
 
 -- whether an entry stands for nothing
 abbrev pub is_nothing : {A : Type 0} → Result (Option A) Error → Bool

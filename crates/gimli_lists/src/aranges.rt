@@ -1,13 +1,13 @@
 //! Sets of ranges of addresses (DWARF 5, 6.1.2).
 
-ghost use Rattle.std.specs.Prelude.{◌≡◌, ◌+◌, ◌<◌, ◌++◌, length, IsTrue, MatchResult, IfOk, OnSome};
-ghost use Rattle.std.specs.Fn.{FnOnceReturnsAt};
+ghost use Rattle.std.specs.Prelude.{◌≡◌, ◌+◌, ◌*◌, ◌%◌, ◌<◌, ◌++◌, length, IsTrue, MatchResult, IfOk, OnSome};
+ghost use Rattle.std.specs.Fn.{FnOnceTakesAt, FnOnceReturnsAt};
 ghost use Rattle.std.specs.Iterator.{at_most};
 ghost use Rattle.std.specs.Option.{option_map, option_to_list, option_transpose};
 ghost use Rattle.gimli_base.specs.declared.common.SectionId.TheVariants.{DebugAranges as ArangesSection};
 ghost use Rattle.gimli_base.specs.Offset.{answer_of};
 ghost use Rattle.gimli_base.specs.Reading.{read, is_size};
-ghost use Rattle.gimli_lists.specs.ArangeSets.{ArangeSet, SetsPlace, padding_size, set_fields_at, set_at, set_from, next_set, sets_ahead, sets_of};
+ghost use Rattle.gimli_lists.specs.ArangeSets.{ArangeSet, SetsPlace, fields_size, padding_size, set_fields_at, set_at, set_from, next_set, sets_ahead, sets_of};
 ghost use Rattle.gimli_lists.specs.Aranges.{ArangesPlace};
 
 use gimli_base::{
@@ -42,7 +42,7 @@ impl<'a, E: Endianity> DebugAranges<EndianSlice<'a, E>> {
 impl<T> DebugAranges<T> {
     /// The section that is read by what `f` makes of this one's reader. `f` is called once.
     pub fn borrow<'a, R, F: FnOnce(&'a T) -> R>(&'a self, f: F) -> DebugAranges<R>
-        requires { F.IsAlwaysCallable f }
+        requires { FnOnceTakesAt F.FnOnce f self.now.section }
         ensures { FnOnceReturnsAt F.FnOnce f self.now.section result.section }
     {
         DebugAranges {
@@ -232,10 +232,12 @@ impl<R: Reader> ArangeHeader<R> {
     }
 }
 
-// The number of bytes between the fields of a header and the first tuple.
+// The number of bytes between the fields of a header and the first tuple, which begins at a multiple of its size.
 fn padding_size(format: Format, address_size: u8) -> u8
     requires { IsTrue (is_size address_size) }
-    ensures { result ≡ padding_size format address_size }
+    ensures value { result ≡ padding_size format address_size }
+    ensures aligns { (fields_size format + result) % (2 * address_size) ≡ 0 }
+    ensures least { result < 2 * address_size }
 {
     let fields_size = format.initial_length_size() + 2 + format.word_size() + 1 + 1;
     let tuple_size = 2 * address_size;

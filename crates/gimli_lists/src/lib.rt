@@ -3,13 +3,18 @@
 
 mod aranges;
 mod lists;
+mod loclists;
 mod rnglists;
+mod walk;
 
 pub use aranges::{
     ArangeEntry, ArangeEntryIter, ArangeHeader, ArangeHeaderIter, DebugAranges, HasArangeSet,
 };
-pub use lists::ListsHeader;
+pub use lists::{HasLists, ListsHeader};
+pub use loclists::{
+    DebugLoc, DebugLocLists, LocListIter, LocationListEntry, LocationLists, RawLocListEntry,
+    RawLocListIter,
+};
 pub use rnglists::{
-    DebugRanges, DebugRngLists, HasLists, Range, RangeLists, RawRngListEntry, RawRngListIter,
-    RngListIter,
+    DebugRanges, DebugRngLists, Range, RangeLists, RawRngListEntry, RawRngListIter, RngListIter,
 };

@@ -1,12 +1,14 @@
-//! The header of a section of lists.
+//! What sections of range lists and of location lists share: their header, and where their lists begin.
 
 ghost use Rattle.std.specs.Prelude.{◌≡◌, OnErr};
 ghost use Rattle.gimli_base.specs.declared.common.Format.TheVariants.{Dwarf32};
 ghost use Rattle.gimli_base.specs.ListsBase.{lists_header_size};
+ghost use Rattle.gimli_base.specs.Offset.{answer_of};
 ghost use Rattle.gimli_base.specs.Reading.{read};
 ghost use Rattle.gimli_lists.specs.ListsHeader.{header_of, lists_fields_at, lists_header_at};
+ghost use Rattle.gimli_lists.specs.Places.{ListSections, list_offset};
 
-use gimli_base::{Encoding, Error, Format, Reader, Result};
+use gimli_base::{Encoding, Error, Format, Reader, ReaderOffset, Result};
 
 /// The header of `.debug_rnglists` or of `.debug_loclists` (DWARF 5, 7.28 and 7.29).
 #[derive(Clone, Copy, Debug)]
@@ -82,4 +84,40 @@ fn parse_fields<R: Reader>(input: &mut R, format: Format) -> Result<ListsHeader>
         encoding,
         offset_entry_count,
     })
+}
+
+/// What stands for two sections of lists in contracts: their bytes.
+pub trait HasLists {
+    // the two sections
+    ghost lists: { Self → ListSections };
+}
+
+/// How a list is written.
+#[derive(Clone, Copy, Debug, PartialEq, Eq)]
+pub(crate) enum ListsFormat {
+    /// Pairs of addresses, up to version 4.
+    Bare,
+    /// A code and operands: since version 5, and in split files before it.
+    Coded,
+}
+
+/// The offset in its section of the list at an index of the table of offsets that begins at `base`.
+#[tactic(auto, unfolding(crate::specs::Places::list_offset))]
+pub(crate) fn offset_of_list<R: Reader>(
+    section: &R,
+    format: Format,
+    base: R::Offset,
+    index: R::Offset,
+) -> Result<R::Offset>
+    ensures { answer_of R.Offset.number result ≡ list_offset R.Offset.limit format (R.Offset.number base) (R.Offset.number index) (R.view section.now) }
+{
+    let mut input = section.copy();
+    input.skip(base)?;
+    let before = index
+        .into_u64()
+        .checked_mul(u64::from(format.word_size()))
+        .ok_or(Error::UnsupportedOffset)?;
+    input.skip(R::Offset::from_u64(before)?)?;
+    let offset = input.read_offset(format)?;
+    base.checked_add(offset).ok_or(Error::UnsupportedOffset)
 }

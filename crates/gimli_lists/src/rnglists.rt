@@ -1,36 +1,30 @@
 //! Lists of ranges of addresses, in `.debug_ranges` up to version 4, and in `.debug_rnglists` since version 5.
 
 ghost use Rattle.std.specs.Prelude.{◌≡◌, IsTrue};
-ghost use Rattle.std.specs.Fn.{CalledAt};
+ghost use Rattle.std.specs.Fn.{TakesAt, CalledAt};
 ghost use Rattle.std.specs.Option.{option_map};
 ghost use Rattle.gimli_base.specs.declared.common.SectionId.TheVariants.{DebugRanges as RangesSection, DebugRngLists as RngListsSection};
 ghost use Rattle.gimli_base.specs.Address.{wrapped_sum};
 ghost use Rattle.gimli_base.specs.Offset.{answer_of};
 ghost use Rattle.gimli_base.specs.Reading.{is_size};
-ghost use Rattle.gimli_lists.specs.Ranges.{ListSections, lookup_in, list_offset, raw_ranges_at, ranges_at, range_of};
+ghost use Rattle.gimli_lists.specs.Places.{lookup_in, format_of, list_offset, raw_list_at, list_place_at};
+ghost use Rattle.gimli_lists.specs.Ranges.{range_of};
 ghost use Rattle.gimli_lists.specs.Resolved.{located, located_from};
 
 mod debug_ranges;
 mod debug_rnglists;
-mod iter;
-mod raw;
+pub(crate) mod iter;
+pub(crate) mod raw;
 
+use crate::lists::{HasLists, ListsFormat, offset_of_list};
 pub use debug_ranges::DebugRanges;
 pub use debug_rnglists::DebugRngLists;
 use gimli_base::{
-    DebugAddr, DebugAddrBase, DebugRngListsBase, DebugRngListsIndex, Encoding, Error,
-    RangeListsOffset, Reader, ReaderAddress, ReaderOffset, ReaderOffsetId, Result, Section,
-    SectionId,
+    DebugAddr, DebugAddrBase, DebugRngListsBase, DebugRngListsIndex, Encoding, RangeListsOffset,
+    Reader, ReaderAddress, ReaderOffsetId, Result, Section, SectionId,
 };
 pub use iter::RngListIter;
-use raw::RangeListsFormat;
 pub use raw::{RawRngListEntry, RawRngListIter};
-
-/// What stands for two sections of lists in contracts: their bytes.
-pub trait HasLists {
-    // the two sections
-    ghost lists: { Self → ListSections };
-}
 
 /// The two sections of range lists, of which a unit's version says which one holds its lists.
 #[derive(Clone, Copy, Debug, Default, Drop)]
@@ -81,8 +75,10 @@ impl<R: Drop> RangeLists<R> {
 impl<T> RangeLists<T> {
     /// The lists that are read by what `f` makes of this one's readers: of that of `.debug_ranges` first, and then of that
     /// of `.debug_rnglists`.
+    #[tactic(auto, using(crate::proofs::SecondCall::second_call))]
     pub fn borrow<'a, R, F: FnMut(&'a T) -> R + Drop>(&'a self, mut f: F) -> RangeLists<R>
-        requires { F.IsAlwaysCallable f }
+        requires first { TakesAt F.FnMut f self.now.debug_ranges.section }
+        requires second { (old : R) (mid : F) → CalledAt F.FnMut f self.now.debug_ranges.section old mid → TakesAt F.FnMut mid self.now.debug_rnglists.section }
         ensures { (mid : F) × (last : F) × CalledAt F.FnMut f self.now.debug_ranges.section result.debug_ranges.section mid × CalledAt F.FnMut mid self.now.debug_rnglists.section result.debug_rnglists.section last }
     {
         let old = f(&self.debug_ranges.section);
@@ -107,18 +103,18 @@ impl<R: Reader> RangeLists<R> {
 
     /// The entries, as they are written, of the list at an offset of the section in which a unit with this encoding has its
     /// lists. Refusal: `UnexpectedEof`, where the offset lies behind the section's end, with the section's first place.
-    #[tactic(auto, unfolding(crate::specs::Ranges::raw_ranges_at))]
+    #[tactic(auto, unfolding(crate::specs::Places::raw_list_at))]
     pub fn raw_ranges(
         &self,
         offset: RangeListsOffset<R::Offset>,
         unit_encoding: Encoding,
     ) -> Result<RawRngListIter<R>>
-        ensures { result ≡ raw_ranges_at (R.Offset.number offset.0) unit_encoding (⟦<RangeLists<R> as HasLists>⟧.lists self.now) }
+        ensures { result ≡ raw_list_at (format_of unit_encoding.version) (R.Offset.number offset.0) unit_encoding (⟦<RangeLists<R> as HasLists>⟧.lists self.now) }
     {
         let (mut input, format) = if unit_encoding.version <= 4 {
-            (self.debug_ranges.section.copy(), RangeListsFormat::Bare)
+            (self.debug_ranges.section.copy(), ListsFormat::Bare)
         } else {
-            (self.debug_rnglists.section.copy(), RangeListsFormat::Rle)
+            (self.debug_rnglists.section.copy(), ListsFormat::Coded)
         };
         input.skip(offset.0)?;
         Ok(RawRngListIter::new(input, unit_encoding, format))
@@ -130,7 +126,7 @@ impl<R: Reader> RangeLists<R> {
     /// Addresses that are named by their index are those of the table that begins at `debug_addr_base` in `debug_addr`. The
     /// encoding's size of addresses has to be 1, 2, 4 or 8. Refusal: `UnexpectedEof`, where the offset lies behind the
     /// section's end, with the section's first place.
-    #[tactic(auto, unfolding(crate::specs::Ranges::ranges_at))]
+    #[tactic(auto, unfolding(crate::specs::Places::list_place_at))]
     pub fn ranges(
         &self,
         offset: RangeListsOffset<R::Offset>,
@@ -140,7 +136,7 @@ impl<R: Reader> RangeLists<R> {
         debug_addr_base: DebugAddrBase<R::Offset>,
     ) -> Result<RngListIter<R>>
         requires { IsTrue (is_size unit_encoding.address_size) }
-        ensures { result ≡ ranges_at (R.Offset.number offset.0) unit_encoding base_address (⟦<DebugAddr<R> as Section<R>>⟧.content debug_addr.now) (R.Offset.number debug_addr_base.0) (⟦<RangeLists<R> as HasLists>⟧.lists self.now) }
+        ensures { result ≡ list_place_at (format_of unit_encoding.version) (R.Offset.number offset.0) unit_encoding base_address (⟦<DebugAddr<R> as Section<R>>⟧.content debug_addr.now) (R.Offset.number debug_addr_base.0) (⟦<RangeLists<R> as HasLists>⟧.lists self.now) }
     {
         let raw = self.raw_ranges(offset, unit_encoding)?;
         Ok(RngListIter::new(raw, base_address, debug_addr.copy(), debug_addr_base))
@@ -152,7 +148,6 @@ impl<R: Reader> RangeLists<R> {
     /// Refusals: `UnexpectedEof`, where the base, the bytes before the index or the offset in the table lies behind the
     /// section's end; `UnsupportedOffset`, where the number of bytes before the index, the offset or its sum with the base
     /// does not fit the reader's offsets.
-    #[tactic(auto, unfolding(crate::specs::Ranges::list_offset))]
     pub fn get_offset(
         &self,
         unit_encoding: Encoding,
@@ -161,18 +156,9 @@ impl<R: Reader> RangeLists<R> {
     ) -> Result<RangeListsOffset<R::Offset>>
         ensures { answer_of (λ o. R.Offset.number o.0) result ≡ list_offset R.Offset.limit unit_encoding.format (R.Offset.number base.0) (R.Offset.number index.0) (⟦<RangeLists<R> as HasLists>⟧.lists self.now).new }
     {
-        let format = unit_encoding.format;
-        let mut input = self.debug_rnglists.section.copy();
-        input.skip(base.0)?;
-        let before = index
-            .0
-            .into_u64()
-            .checked_mul(u64::from(format.word_size()))
-            .ok_or(Error::UnsupportedOffset)?;
-        input.skip(R::Offset::from_u64(before)?)?;
-        let offset = input.read_offset(format)?;
-        let sum = base.0.checked_add(offset).ok_or(Error::UnsupportedOffset)?;
-        Ok(RangeListsOffset(sum))
+        let section = &self.debug_rnglists.section;
+        let offset = offset_of_list(section, unit_encoding.format, base.0, index.0)?;
+        Ok(RangeListsOffset(offset))
     }
 
     /// The section, and the number of its bytes before a place, where the place is one of its bytes or its end;

@@ -1,6 +1,7 @@
 //! The readers that the tests try, and what they ask of them.
 
 use gimli_base::{EndianSlice, Endianity, Error, Reader, ReaderOffsetId, WholeSlice};
+use std::hash::{DefaultHasher, Hash, Hasher};
 use std::process::Abort;
 
 /// The first place of most readers of the tests.
@@ -52,4 +53,11 @@ pub(crate) fn next_of<I: Iterator>(items: &mut I) -> Option<I::Item>
     requires { I.can_next items.now }
 {
     items.next()
+}
+
+/// What a hash function makes of a value.
+pub(crate) fn hash_of<T: Hash>(value: &T) -> u64 {
+    let mut state = DefaultHasher::new();
+    value.hash(&mut state);
+    state.finish()
 }

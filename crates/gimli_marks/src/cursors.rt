@@ -6,7 +6,7 @@ use crate::mixed;
 use crate::units::{refused, with_values};
 use gimli_base::{DebugAbbrev, Reader, ReaderOffset, Result};
 use gimli_headers::DebugInfo;
-use gimli_units::{EntriesCursor, UnitHeader};
+use gimli_units::{DebuggingInformationEntry, EntriesCursor, UnitHeader};
 use std::alloc::Global;
 
 /// How a cursor goes over a unit.
@@ -22,14 +22,9 @@ pub enum Walk {
     Siblings,
 }
 
-fn with_current<R: Reader>(sum: u64, cursor: &EntriesCursor<'_, R, Global>) -> u64 {
-    match cursor.current() {
-        Some(entry) => {
-            let place = mixed(sum, entry.offset().0.into_u64());
-            mixed(place, u64::from(entry.tag().0))
-        }
-        None => mixed(sum, 0),
-    }
+fn with_entry<R: Reader>(sum: u64, entry: &DebuggingInformationEntry<R, Global>) -> u64 {
+    let place = mixed(sum, entry.offset().0.into_u64());
+    mixed(place, u64::from(entry.tag().0))
 }
 
 // The next entry or null.
@@ -38,10 +33,12 @@ fn next_entry<R: Reader>(
     sum: u64,
     cursor: &mut EntriesCursor<'_, R, Global>,
 ) -> Result<Option<u64>> {
-    if cursor.next_entry()? {
-        Ok(Some(with_current(sum, cursor)))
-    } else {
-        Ok(None)
+    if !cursor.next_entry()? {
+        return Ok(None);
+    }
+    match cursor.current() {
+        Some(entry) => Ok(Some(with_entry(sum, entry))),
+        None => Ok(Some(mixed(sum, 0))),
     }
 }
 
@@ -65,11 +62,12 @@ fn with_entries<R: Reader>(sum: u64, mut cursor: EntriesCursor<'_, R, Global>) -
 // The next entry that is no null, with its depth.
 #[inline(always)]
 fn next_dfs<R: Reader>(sum: u64, cursor: &mut EntriesCursor<'_, R, Global>) -> Result<Option<u64>> {
-    if cursor.next_dfs()? {
-        let place = mixed(sum, cursor.depth().unsigned_abs() as u64);
-        Ok(Some(with_current(place, cursor)))
-    } else {
-        Ok(None)
+    match cursor.next_dfs()? {
+        Some(entry) => {
+            let place = mixed(sum, entry.depth().unsigned_abs() as u64);
+            Ok(Some(with_entry(place, entry)))
+        }
+        None => Ok(None),
     }
 }
 
@@ -96,12 +94,9 @@ fn next_values<R: Reader>(
     sum: u64,
     cursor: &mut EntriesCursor<'_, R, Global>,
 ) -> Result<Option<u64>> {
-    if !cursor.next_dfs()? {
-        return Ok(None);
-    }
-    match cursor.current() {
+    match cursor.next_dfs()? {
         Some(entry) => Ok(Some(with_values(sum, entry.attrs()))),
-        None => Ok(Some(sum)),
+        None => Ok(None),
     }
 }
 
@@ -127,10 +122,12 @@ fn first_child<R: Reader>(
     sum: u64,
     cursor: &mut EntriesCursor<'_, R, Global>,
 ) -> Result<Option<u64>> {
-    if cursor.next_dfs()? && cursor.next_dfs()? {
-        Ok(Some(with_current(sum, cursor)))
-    } else {
-        Ok(None)
+    if cursor.next_dfs()?.is_none() {
+        return Ok(None);
+    }
+    match cursor.next_dfs()? {
+        Some(child) => Ok(Some(with_entry(sum, child))),
+        None => Ok(None),
     }
 }
 
@@ -139,10 +136,9 @@ fn next_sibling<R: Reader>(
     sum: u64,
     cursor: &mut EntriesCursor<'_, R, Global>,
 ) -> Result<Option<u64>> {
-    if cursor.next_sibling()? {
-        Ok(Some(with_current(sum, cursor)))
-    } else {
-        Ok(None)
+    match cursor.next_sibling()? {
+        Some(sibling) => Ok(Some(with_entry(sum, sibling))),
+        None => Ok(None),
     }
 }
 

@@ -106,10 +106,11 @@ sound_read limit old outcome new s (an_entry e w some reads is same) =
       shallow = omega (arith, shorter, s.next_shallow);
       next_shallow = omega (arith, shorter, near, s.next_shallow);
       behind = λ entry. refl;
+      past = λ entry. omega (arith, shorter, s.fits);
     })
 sound_read limit old outcome new s (the_end none is same) =
-    rw same (record { few = s.few; fits = s.fits; shallow = s.shallow; next_shallow = s.next_shallow; behind = λ entry. absurd (cc) })
+    rw same (record { few = s.few; fits = s.fits; shallow = s.shallow; next_shallow = s.next_shallow; behind = λ entry. absurd (cc); past = λ entry. absurd (cc) })
 sound_read limit old outcome new s (a_refusal x some is same why memory) =
     let few = s.few in
     let depth = s.next_shallow in
-    rw same (record { few = omega (arith, few, some); fits = omega arith; shallow = omega (arith, depth); next_shallow = omega (arith, depth); behind = λ entry. absurd (cc) })
+    rw same (record { few = omega (arith, few, some); fits = omega arith; shallow = omega (arith, depth); next_shallow = omega (arith, depth); behind = λ entry. absurd (cc); past = λ entry. absurd (cc) })

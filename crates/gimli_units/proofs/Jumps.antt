@@ -108,18 +108,7 @@ stands_here p t depth x fits low is = cases (nat_le (t - next_offset_of p) (leng
         let a : nat_le (next_offset_of p) t ≡ true = le-leb (next_offset_of p) t low in
         rw (a, b) refl
 
--- where no reference is looked at, none is followed
-pub none_for : (sought : ℤ) (c : CursorView) → None ≡ reference_for sought c → None ≡ target_for sought c
-none_for sought c = cases (int_le sought c.depth) c.follows (target (kind_of c.entry))
-  where
-    cases : (deep follows : Bool) (o : Option ℕ) → ◌≡◌ {A = Option ℕ} None (if deep then (if follows then o else None) else None)
-        → ◌≡◌ {A = Option ℕ} None (if deep then (if follows then within (next_offset_of c.raw) c.raw.end o else None) else None)
-    cases false follows o is = refl
-    cases true false o is = refl
-    cases true true None is = refl
-    cases true true (Some t) is = absurd (cc)
-
--- and one that is looked at is followed where it can be
+-- a reference that is looked at is followed where it can be
 pub some_for : (sought : ℤ) (c : CursorView) (t : ℕ) → Some t ≡ reference_for sought c → within (next_offset_of c.raw) c.raw.end (Some t) ≡ target_for sought c
 some_for sought c t = cases (int_le sought c.depth) c.follows (target (kind_of c.entry))
   where

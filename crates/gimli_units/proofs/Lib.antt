@@ -9,4 +9,5 @@ pub mod Walking
 pub mod Splits
 mod Jumps
 mod Memory
+pub mod TreeSteps
 mod SkipTurns

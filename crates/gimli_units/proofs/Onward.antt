@@ -110,7 +110,7 @@ onward_follow start here sought o = cases (int_le sought here.depth) (followed_t
       few = o.few;
       more = o.more;
       fits = o.fits;
-      sound = record { few = o.sound.few; shallow = o.sound.shallow; fits = o.sound.fits; next_shallow = o.sound.next_shallow; behind = λ entry. absurd (cc) };
+      sound = record { few = o.sound.few; shallow = o.sound.shallow; fits = o.sound.fits; next_shallow = o.sound.next_shallow; behind = λ entry. absurd (cc); past = λ entry. absurd (cc) };
     }
 
     goes : (t : ℕ) → followed_to here ≡ Some t
@@ -133,6 +133,7 @@ onward_follow start here sought o = cases (int_le sought here.depth) (followed_t
             fits = omega (arith, shorter, s.fits);
             next_shallow = omega (arith, shorter, s.shallow);
             behind = λ entry. absurd (cc);
+            past = λ entry. absurd (cc);
           };
         }
 
@@ -158,6 +159,11 @@ later_offset start here o =
 
 pub same_what : (limit : ℕ) (start here : CursorView) (offset : ℕ) → Onward start here → next_offset_of here.raw ≤ offset → what_at limit start.raw offset ≡ what_at limit here.raw offset
 same_what limit start here offset o after = rw (same_view start here offset o after, o.unit.encoding, o.unit.abbreviations) refl
+
+-- what is read there is the same, and leaves the same
+pub same_next : (limit : ℕ) (start here : CursorView) (offset : ℕ) → Onward start here → next_offset_of here.raw ≤ offset
+    → next_of limit start.raw (view_from start.raw offset) ≡ next_of limit here.raw (view_from here.raw offset)
+same_next limit start here offset o after = rw (same_view start here offset o after, o.unit.encoding, o.unit.abbreviations) refl
 
 pub same_memory : (start here : CursorView) (offset : ℕ) → Onward start here → next_offset_of here.raw ≤ offset → takes_memory_at start.raw offset ≡ takes_memory_at here.raw offset
 same_memory start here offset o after = rw (same_view start here offset o after, o.unit.abbreviations) refl
@@ -217,3 +223,7 @@ read_once limit here outcome new (a_refusal x some is same why memory) = rw (is,
 pub unless_then : {A P Q : Type 0} → (r : Result A Error) → UnlessMemory r P → (P → Q) → UnlessMemory r Q
 unless_then (Ok a) p f = f p
 unless_then (Err e) p f = λ fine. f (p fine)
+
+-- behind a true entry fewer bytes are left
+pub true_shorter : (limit : ℕ) (old new : CursorView) → IsTrueEntry limit old new → IsSameUnit old new → length new.raw.rest.bytes < length old.raw.rest.bytes
+true_shorter limit old new is unit = omega (arith, is.after, is.before, unit.end)

@@ -54,11 +54,11 @@ module _ (limit : ℕ) (u : UnitView) (t : Table) (fits : length u.entries.bytes
   rest_length = ap (λ (v : View). length v.bytes) s.further.is ∙ length-drop s.further.count u.entries.bytes
 
   -- the unit's first entry is not behind the cursor
-  header_low : header_size u ≤ next_offset_of c.raw
+  pub header_low : header_size u ≤ next_offset_of c.raw
   header_low = omega (arith, rest_length, s.end)
 
   -- what the cursor has from an offset on, the unit has
-  unit_view : (o : ℕ) → next_offset_of c.raw ≤ o → view_from c.raw o ≡ cut (o - header_size u) u.entries
+  pub unit_view : (o : ℕ) → next_offset_of c.raw ≤ o → view_from c.raw o ≡ cut (o - header_size u) u.entries
   unit_view o low =
       let apart : s.further.count + (o - next_offset_of c.raw) ≡ o - header_size u = omega (arith, rest_length, s.end, s.further.within, fits, low) in
       ap (cut (o - next_offset_of c.raw)) s.further.is ∙ cut-cut s.further.count (o - next_offset_of c.raw) u.entries ∙ ap (λ n. cut n u.entries) apart

@@ -137,10 +137,12 @@ IsReadOnce limit old new = new.reads + reads_ahead (rows_of limit new.raw) ≡ o
 abbrev pub StandsBehind : CursorView → Type 0
 StandsBehind c = is_null c.entry ≡ false → c.raw.depth ≡ depth_after c.entry c.depth
 
--- What holds of every cursor: the reads and the depths are few beside the bytes that are left, and it stands behind its entry.
+-- What holds of every cursor: the reads and the depths are few beside the bytes that are left, and it stands behind its entry, past
+-- the offset where that begins.
 pub record IsSound (c : CursorView) : Type 0 where
   pub few : c.reads + length c.raw.rest.bytes < 2 ^ 63
   pub shallow : unsigned_abs c.depth + length c.raw.rest.bytes < 2 ^ 63
   pub fits : length c.raw.rest.bytes ≤ c.raw.end
   pub next_shallow : unsigned_abs c.raw.depth + length c.raw.rest.bytes < 2 ^ 63
   pub behind : StandsBehind c
+  pub past : is_null c.entry ≡ false → c.offset < next_offset_of c.raw

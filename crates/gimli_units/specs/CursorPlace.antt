@@ -98,10 +98,3 @@ next_offset a = elim a.rows [ [] ↦ a.stop | r ∷ rest ↦ r.offset ]
 
 abbrev pub next_depth : Ahead → ℤ
 next_depth a = elim a.rows [ [] ↦ a.stop_depth | r ∷ rest ↦ r.depth ]
-
--- the row of the current entry
-abbrev pub current_row : Place → Option Row
-current_row p = elim p.current [
-  | None ↦ None
-  | Some e ↦ Some (record { offset = p.offset; next = next_offset p.ahead; depth = p.depth; entry = e })
-]

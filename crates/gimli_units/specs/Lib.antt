@@ -12,12 +12,16 @@ pub mod Honest
 pub mod CursorPlace
 pub mod CursorMoves
 pub mod CursorRead
+pub mod CursorLent
 pub mod RowChain
 pub mod UnitKind
 pub mod Unit
 pub mod CursorStart
 pub mod CursorLaw
+pub mod TreePlace
+pub mod TreeMoves
 pub mod PlaceLaw
+pub mod TreeLaw
 pub mod NormalValue
 pub mod PassLaw
 pub mod PassReads

@@ -18,7 +18,7 @@ use Rattle.gimli_units.specs.CursorPlace.{Place, Moved, some_of, is_entry, has_d
 use Rattle.gimli_units.specs.CursorMoves.{CursorView, next_of, rows_of, place_of, last_row, Goes, IsHonestFor}
 
 -- each row is followed by the one that stands behind it
-abbrev AreLinked : ℕ → List Row → Type 0
+abbrev pub AreLinked : ℕ → List Row → Type 0
 AreLinked stop [] = Unit {0}
 AreLinked stop (r ∷ rest) = (r.next ≡ elim rest [ [] ↦ stop | x ∷ xs ↦ x.offset ]) × AreLinked stop rest
 
@@ -35,7 +35,7 @@ module _ (next : View → Reads Entry) (end : ℕ) where
   linked (r ∷ rest) v depth refusal stop stop_depth (w, is, more) =
       (is.behind ∙ (first_is rest w (depth_after r.entry depth) refusal stop stop_depth more).0, linked rest w (depth_after r.entry depth) refusal stop stop_depth more)
 
-honest_skip : (end : ℕ) (test : Row → Bool) (rows : List Row) → AreHonest end rows → AreHonest end (skip_until test rows)
+pub honest_skip : (end : ℕ) (test : Row → Bool) (rows : List Row) → AreHonest end rows → AreHonest end (skip_until test rows)
 honest_skip end test [] h = tt
 honest_skip end test (r ∷ rest) h = cases (test r) (honest_skip end test rest h.1)
   where
@@ -43,7 +43,7 @@ honest_skip end test (r ∷ rest) h = cases (test r) (honest_skip end test rest 
     cases true more = h
     cases false more = more
 
-linked_skip : (stop : ℕ) (test : Row → Bool) (rows : List Row) → AreLinked stop rows → AreLinked stop (skip_until test rows)
+pub linked_skip : (stop : ℕ) (test : Row → Bool) (rows : List Row) → AreLinked stop rows → AreLinked stop (skip_until test rows)
 linked_skip stop test [] h = tt
 linked_skip stop test (r ∷ rest) h = cases (test r) (linked_skip stop test rest h.1)
   where
@@ -55,7 +55,7 @@ honest_same : (a b : ℕ) (q r : Row) (xs ys : List Row) → a ≡ b → q ≡ r
 honest_same a b q r xs ys same row left h = rw (same, row, left) h
 
 -- all rows are honest, so those before the first of a depth are
-honest_until : (end : ℕ) (depth : ℤ) (rows : List Row) → AreHonest end rows → AreHonestUntil end depth rows
+pub honest_until : (end : ℕ) (depth : ℤ) (rows : List Row) → AreHonest end rows → AreHonestUntil end depth rows
 honest_until end depth [] h = tt
 honest_until end depth (r ∷ rest) h = λ other. (λ deep. h.0, honest_until end depth rest h.1)
 
@@ -75,7 +75,7 @@ module _ (limit : ℕ) where
   pub depth_is : (p : RawPlace) → p.depth ≡ next_depth (rows_of limit p)
   depth_is p = let a : Ahead = rows_of limit p in (first_is (next_of limit p) p.end a.rows p.rest p.depth a.refusal a.stop a.stop_depth (chain p)).1
 
-  linked_rows : (p : RawPlace) → AreLinked (rows_of limit p).stop (rows_of limit p).rows
+  pub linked_rows : (p : RawPlace) → AreLinked (rows_of limit p).stop (rows_of limit p).rows
   linked_rows p = let a : Ahead = rows_of limit p in linked (next_of limit p) p.end a.rows p.rest p.depth a.refusal a.stop a.stop_depth (chain p)
 
   -- a null leads nowhere
@@ -108,7 +108,7 @@ module _ (limit : ℕ) where
   empty_honest new none is_none = honest_start new is_none (rw none tt)
 
   -- where a step takes the first of rows that are honest, or none, what is ahead is honest
-  arrived : (new : CursorView) (end : ℕ) (rows rs : List Row) (refusal : Option Error) (stop : ℕ) (stop_depth : ℤ) (o : ℕ) (d : ℤ) (answer : Row → Bool) (outcome : Result Bool Error)
+  pub arrived : (new : CursorView) (end : ℕ) (rows rs : List Row) (refusal : Option Error) (stop : ℕ) (stop_depth : ℤ) (o : ℕ) (d : ℤ) (answer : Row → Bool) (outcome : Result Bool Error)
       → new.raw.end ≡ end → AreHonest end rs → AreLinked stop rs
       → record { outcome = outcome; place = place_of limit new } ≡ arrive end (record { rows = rows; refusal = refusal; stop = stop; stop_depth = stop_depth }) o d answer rs
       → IsHonestCursor new

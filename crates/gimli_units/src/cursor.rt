@@ -21,7 +21,8 @@ use std::marker::Model;
 /// A cursor over the entries of a unit, which lie one behind the other as a tree is written in depth-first order
 /// (DWARF 5, 2.3).
 ///
-/// A step answers whether there is an entry; behind a refusal the walk is over.
+/// `next_entry` answers whether there was an entry or a null, and the other steps lend the entry. Behind a refusal the walk
+/// is over.
 #[derive(Drop)]
 #[derive_where(Debug)]
 pub struct EntriesCursor<'abbrev, R: Reader, A: Allocator> {
@@ -134,6 +135,31 @@ impl<'abbrev, R: Reader, A: Allocator> EntriesCursor<'abbrev, R, A> {
         self.follows
     }
 
+    // The entry or the null that was read last.
+    #[inline]
+    pub(crate) fn last(&self) -> &DebuggingInformationEntry<R, A>
+        ensures entry { entry_of R.view R.Offset.number result.now.tag result.now.has_children result.now.attrs.items ≡ self.now.entry }
+        ensures offset { R.Offset.number result.now.offset.0 ≡ self.now.offset }
+        ensures depth { result.now.depth ≡ self.now.depth }
+        ensures sound { IsSound self.now }
+    {
+        &self.entry
+    }
+
+    // Begins anew where `raw` stands, before the first step.
+    pub(crate) fn restart(&mut self, raw: EntriesRaw<'abbrev, R, A>)
+        requires fits { length raw.rest.bytes ≤ raw.end }
+        requires shallow { unsigned_abs raw.depth + length raw.rest.bytes < 2 ^ 63 }
+        ensures { self.new ≡ before_first self.old.follows raw.entry }
+    {
+        let entry = &mut self.entry;
+        entry.set_null();
+        entry.offset = UnitOffset(R::Offset::from_u8(0));
+        entry.depth = 0;
+        self.raw = raw;
+        self.reads = 0;
+    }
+
     // Whether the cursor stands on an entry, and not on a null.
     #[inline(always)]
     fn is_on_entry(&self) -> bool
@@ -144,7 +170,7 @@ impl<'abbrev, R: Reader, A: Allocator> EntriesCursor<'abbrev, R, A> {
 
     // Reads the next entry. Answers false at the end of the bytes.
     #[inline(always)]
-    fn read_next(&mut self) -> Result<bool>
+    pub(crate) fn read_next(&mut self) -> Result<bool>
         ensures read { HasRead R.Offset.limit self.old result self.new }
         ensures sound { IsSound self.old }
     {
@@ -208,14 +234,13 @@ impl<'abbrev, R: Reader, A: Allocator> EntriesCursor<'abbrev, R, A> {
         self.read_next()
     }
 
-    /// Reads on to the next entry that is no null. Answers false at the end, and then there is no current entry.
-    ///
-    /// Refusals: those of `next_entry`.
-    pub fn next_dfs(&mut self) -> Result<bool>
+    // Reads on to the next entry that is no null. Answers whether there is one.
+    pub(crate) fn walk_on(&mut self) -> Result<bool>
         ensures moves { UnlessMemory result (Goes R.Offset.limit (next_in_depth_first_order self.old.raw.end) self.old result self.new) }
         ensures true_entry { result ≡ Ok true → IsTrueEntry R.Offset.limit self.old self.new × (is_null self.new.entry ≡ false) }
         ensures refused { (e : SpecError) → result ≡ Err e → IsRefused R.Offset.limit self.old e self.new × IsAheadOf R.Offset.limit is_entry self.old self.new }
         ensures once { UnlessMemory result (IsReadOnce R.Offset.limit self.old self.new) }
+        ensures shorter { result ≡ Ok true → length self.new.raw.rest.bytes < length self.old.raw.rest.bytes }
         ensures none { result ≡ Ok false → is_null self.new.entry ≡ true }
         ensures more { self.old.reads ≤ self.new.reads }
         ensures few { AreFewReads self.old self.new }
@@ -231,16 +256,8 @@ impl<'abbrev, R: Reader, A: Allocator> EntriesCursor<'abbrev, R, A> {
         Ok(false)
     }
 
-    /// Goes to the next sibling of the current entry: the next entry of its depth, before the null that closes their list.
-    /// Answers false where there is none, and then there is no current entry; at the end of the input the cursor is set back
-    /// to the entry's offset and depth. Without a current entry it answers false and moves nothing.
-    ///
-    /// Where the cursor follows references, an entry whose `DW_AT_sibling` leads on in the unit is left for where it leads,
-    /// with its children unread. So it answers as plain walking does where those references are honest; any others lead to an
-    /// entry of the unit, too.
-    ///
-    /// Refusals: those of `next_entry`.
-    pub fn next_sibling(&mut self) -> Result<bool>
+    // Goes to the next sibling of the current entry, if there is one. Answers whether there was one.
+    pub(crate) fn walk_over(&mut self) -> Result<bool>
         ensures moves { (self.old.follows ≡ true → IsHonestFor R.Offset.limit self.old.depth self.old) → UnlessMemory result (Goes R.Offset.limit (next_of_depth self.old.raw.end) self.old result self.new) }
         ensures idle { is_null self.old.entry ≡ true → (result ≡ Ok false) × (self.new ≡ self.old) }
         ensures true_entry { result ≡ Ok true → IsTrueEntry R.Offset.limit self.old self.new × (is_null self.new.entry ≡ false) × (self.new.depth ≡ self.old.depth) }
@@ -252,6 +269,7 @@ impl<'abbrev, R: Reader, A: Allocator> EntriesCursor<'abbrev, R, A> {
         ensures not_found { result ≡ Ok false → is_null self.old.entry ≡ false → IsNotFound R.Offset.limit self.old.depth self.old.offset self.old self.new }
         ensures counted { is_null self.old.entry ≡ false → (result ≡ Ok false → ⊥) → self.old.reads < self.new.reads }
         ensures plain { self.old.follows ≡ false → UnlessMemory result (IsReadOnce R.Offset.limit self.old self.new) }
+        ensures shorter { result ≡ Ok true → length self.new.raw.rest.bytes < length self.old.raw.rest.bytes }
         ensures none { result ≡ Ok false → is_null self.new.entry ≡ true }
         ensures more { self.old.reads ≤ self.new.reads }
         ensures few { AreFewReads self.old self.new }

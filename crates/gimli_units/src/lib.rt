@@ -8,9 +8,11 @@ mod cursor;
 mod entry;
 mod form;
 mod header;
+mod lent;
 mod offset;
 mod raw;
 mod skip;
+mod tree;
 mod unit_type;
 mod value;
 
@@ -20,5 +22,6 @@ pub use entry::DebuggingInformationEntry;
 pub use header::{HasUnit, UnitHeader};
 pub use offset::{DebugInfoOffset, DebugTypesOffset, UnitOffset, UnitSectionOffset};
 pub use raw::EntriesRaw;
+pub use tree::{EntriesTree, EntriesTreeIter, EntriesTreeNode};
 pub use unit_type::UnitType;
 pub use value::AttributeValue;

@@ -1,6 +1,6 @@
 //! Entries that are read one behind the other.
 
-ghost use Rattle.std.specs.Prelude.{◌≡◌, ◌+◌, ◌-◌, ◌<◌, ◌≤◌, ◌^◌, ◌==◌, ◌↔◌, pos, not, length, map, IsTrue, IsOk, IfOk, OnOk, OnErr, Option, [], true, false, unsigned_abs, Some};
+ghost use Rattle.std.specs.Prelude.{◌≡◌, ◌+◌, ◌-◌, ◌<◌, ◌≤◌, ◌^◌, ◌==◌, ◌↔◌, pos, ◌-ℤ◌, not, length, map, IsTrue, IsOk, IfOk, OnOk, OnErr, Option, [], true, false, unsigned_abs, Some};
 ghost use Rattle.std.specs.Option.{option_copied};
 ghost use Rattle.gimli_base.specs.Offset.{answer_of};
 ghost use Rattle.gimli_base.specs.View.{View, ended};
@@ -10,7 +10,7 @@ ghost use Rattle.gimli_base.specs.Table.{Table, found};
 ghost use Rattle.gimli_units.specs.Value.{map_attribute};
 ghost use Rattle.gimli_units.specs.Entry.{attribute_at, attributes_at, abbreviation_at, entry_at, entry_of, null_entry, is_null, takes_memory};
 ghost use Rattle.gimli_units.specs.Passing.{pass_all, without_place};
-ghost use Rattle.gimli_units.specs.RawPlace.{RawPlace, next_offset_of, depth_read, depth_after};
+ghost use Rattle.gimli_units.specs.RawPlace.{RawPlace, next_offset_of, below_flag, depth_read, depth_after};
 ghost use Rattle.gimli_units.specs.Honest.{within};
 ghost use Rattle.gimli_units.specs.CursorRead.{stands_at, stands_if};
 
@@ -134,7 +134,6 @@ impl<'abbrev, R: Reader, A: Allocator> EntriesRaw<'abbrev, R, A> {
     ///
     /// Refusals: `UnexpectedEof`, `BadUnsignedLeb128`, `InvalidAbbreviationCode`.
     #[inline(always)]
-    #[tactic(auto, unfolding(crate::specs::Entry::abbreviation_at))]
     pub fn read_abbreviation(&mut self) -> Result<Option<&'abbrev Abbreviation<A>>>
         ensures value { read (answer_of option_copied result) self.new.rest ≡ abbreviation_at (found self.old.abbreviations) self.old.rest }
         ensures depth { IfOk result (λ r. self.new.depth ≡ depth_read (option_copied r) self.old.depth) }
@@ -142,21 +141,34 @@ impl<'abbrev, R: Reader, A: Allocator> EntriesRaw<'abbrev, R, A> {
         ensures kept { OnErr result (self.new ≡ self.old) }
     {
         let mut rest = self.input.copy();
-        let code = rest.read_uleb128()?;
-        if code == 0 {
-            self.input = rest;
-            self.depth -= 1;
+        let Some(abbreviation) = parse_abbreviation(&mut rest, self.abbreviations)? else {
+            self.go_behind_null(rest);
             return Ok(None);
-        }
-        let Some(abbreviation) = self.abbreviations.get(code) else {
-            return Err(Error::InvalidAbbreviationCode(code));
         };
-        self.input = rest;
-        if !abbreviation.has_children() {
-            return Ok(Some(abbreviation));
-        }
-        self.depth += 1;
+        self.go_behind_entry(rest, abbreviation.has_children());
         Ok(Some(abbreviation))
+    }
+
+    // Goes behind a null that was read.
+    #[inline(always)]
+    fn go_behind_null(&mut self, rest: R)
+        requires { length (R.view rest).bytes < length self.old.rest.bytes }
+        ensures { self.new ≡ stands_at self.old (R.view rest) (self.old.depth -ℤ pos 1) }
+    {
+        self.input = rest;
+        self.depth -= 1;
+    }
+
+    // Goes behind an entry that was read, to its children where it has some.
+    #[inline(always)]
+    fn go_behind_entry(&mut self, rest: R, has_children: bool)
+        requires { length (R.view rest).bytes < length self.old.rest.bytes }
+        ensures { self.new ≡ stands_at self.old (R.view rest) (below_flag has_children self.old.depth) }
+    {
+        self.input = rest;
+        if has_children {
+            self.depth += 1;
+        }
     }
 
     /// Reads an entry, in place of the one in `entry`: its code, and its attributes. Answers whether it is one, and not
@@ -180,20 +192,21 @@ impl<'abbrev, R: Reader, A: Allocator> EntriesRaw<'abbrev, R, A> {
         entry.set_null();
         entry.depth = self.depth;
         entry.offset = self.next_offset();
-        let depth = self.depth;
-        let before = self.input.copy();
-        let Some(abbreviation) = self.read_abbreviation()? else {
+        let mut rest = self.input.copy();
+        let Some(abbreviation) = parse_abbreviation(&mut rest, self.abbreviations)? else {
+            self.go_behind_null(rest);
             return Ok(false);
         };
-        match self.read_attributes(abbreviation.attributes(), &mut entry.attrs) {
+        let specifications = abbreviation.attributes();
+        match parse_attributes(&mut rest, self.encoding, specifications, &mut entry.attrs) {
             Ok(()) => {
                 entry.tag = abbreviation.tag();
                 entry.has_children = abbreviation.has_children();
+                self.go_behind_entry(rest, entry.has_children);
                 Ok(true)
             }
             Err(error) => {
-                self.input = before;
-                self.depth = depth;
+                entry.attrs.clear();
                 Err(error)
             }
         }
@@ -273,6 +286,25 @@ impl<'abbrev, R: Reader, A: Allocator> EntriesRaw<'abbrev, R, A> {
             }
         }
     }
+}
+
+// The declaration of the entry that is next, or none for a null; where it is refused, the input is left anywhere.
+#[inline(always)]
+#[tactic(auto, unfolding(crate::specs::Entry::abbreviation_at))]
+fn parse_abbreviation<'abbrev, R: Reader, A: Allocator>(
+    input: &mut R,
+    abbreviations: &'abbrev Abbreviations<A>,
+) -> Result<Option<&'abbrev Abbreviation<A>>>
+    ensures { read (answer_of option_copied result) (R.view input.new) ≡ abbreviation_at (found abbreviations.now) (R.view input.old) }
+{
+    let code = input.read_uleb128()?;
+    if code == 0 {
+        return Ok(None);
+    }
+    let Some(abbreviation) = abbreviations.get(code) else {
+        return Err(Error::InvalidAbbreviationCode(code));
+    };
+    Ok(Some(abbreviation))
 }
 
 // The attributes of these specifications, behind those in `attrs`; where they are refused, the input and the list are

@@ -258,8 +258,7 @@ fn tries_entries<R: Reader>(rt: &impl Abort, alloc: Global, entries: R) -> Resul
     let unit = unit_of(rt, entries);
     let mut cursor = unit.entries(alloc, &table);
     for _ in 0..3u8 {
-        assert!(rt; cursor.next_dfs()?);
-        let entry = cursor.current().expect(rt, "no entry");
+        let entry = cursor.next_dfs()?.expect(rt, "no entry");
         let there = unit.entry(alloc, &table, entry.offset())?;
         assert_eq!(rt; there.depth(), 0);
         assert_eq!(rt; there.tag(), entry.tag());
@@ -273,7 +272,7 @@ fn tries_entries<R: Reader>(rt: &impl Abort, alloc: Global, entries: R) -> Resul
             );
         }
     }
-    assert!(rt; !cursor.next_dfs()?);
+    assert!(rt; cursor.next_dfs()?.is_none());
     Ok(())
 }
 

@@ -4,6 +4,8 @@
 #[cfg(test)]
 mod attribute;
 #[cfg(test)]
+mod callers;
+#[cfg(test)]
 mod convert;
 #[cfg(test)]
 mod counting;
@@ -35,5 +37,7 @@ mod samples;
 mod shown;
 #[cfg(test)]
 mod siblings;
+#[cfg(test)]
+mod tree;
 #[cfg(test)]
 mod walked;

@@ -122,8 +122,14 @@ pub(crate) fn take<R: Reader, A: Allocator>(
 ) -> Stood {
     let outcome = match step {
         Step::Entry => cursor.next_entry(),
-        Step::Dfs => cursor.next_dfs(),
-        Step::Sibling => cursor.next_sibling(),
+        Step::Dfs => match cursor.next_dfs() {
+            Ok(entry) => Ok(entry.is_some()),
+            Err(error) => Err(error),
+        },
+        Step::Sibling => match cursor.next_sibling() {
+            Ok(entry) => Ok(entry.is_some()),
+            Err(error) => Err(error),
+        },
     };
     shown(cursor, outcome)
 }

@@ -15,6 +15,7 @@ use Rattle.gimli_walk.specs.declared.cursor.CursorAnswer.{CursorAnswer}
 use Rattle.gimli_walk.specs.Runs.{IsFront}
 use Rattle.gimli_walk.specs.Lines.{Text, memory_line}
 use Rattle.gimli_walk.specs.Cursors.{Answer, seen, step_of, answers, start_of, unit_rows_at, answers_at, answers_text, answer_line, status_of, run_answers, RunsAs, IsStopped}
+use Rattle.gimli_walk.proofs.CursorTruth.{answers_length}
 use Rattle.gimli_walk.specs.Text.{Wrote, all_lines, some_lines, WroteText, wrote, no_line, WroteRun}
 
 -- whether an answer is a refusal, by the code's answers
@@ -28,14 +29,10 @@ any_seen {A = A} f g (x ∷ xs) = cases (is_err x.outcome) refl (any_seen {A = A
     cases true h more = rw h refl
     cases false h more = rw h more
 
-take_front : {T : Type 0} → (xs ys : List T) → take (length xs) (xs ++ ys) ≡ xs
+pub take_front : {T : Type 0} → (xs ys : List T) → take (length xs) (xs ++ ys) ≡ xs
 take_front [] [] = refl
 take_front [] (y ∷ ys) = refl
 take_front (x ∷ xs) ys = ap (λ l. x ∷ l) (take_front xs ys)
-
-answers_length : (end : ℕ) (steps : List CursorStep) (p : Place) → length (answers end steps p) ≡ length steps
-answers_length end [] p = refl
-answers_length end (s ∷ steps) p = ap suc (answers_length end steps (step_of end s p).place)
 
 -- the lines of a run are those of all answers, or some from the front
 pub run_wrote : (old new : Option (List ℕ)) (xs all : List Answer) (stopped : Bool) (steps status : ℕ) → IsFront xs all → (stopped ≡ false → xs ≡ all) → length all ≡ steps

@@ -1,5 +1,5 @@
 -- The answers of a run, step by step.
-use Rattle.std.proofs.Common.{◌≡◌, ℕ, ◌+◌, ◌-◌, ◌<◌, ◌≤◌, ◌++◌, ℤ, pos, Bool, true, false, List, [], ◌∷◌, length, map, drop, Option, Some, None, Result, Ok, Err, refl, sym, ap, ◌∙◌, subst, arith, get_or, append_assoc}
+use Rattle.std.proofs.Common.{◌≡◌, ℕ, ◌+◌, ◌-◌, ◌<◌, ◌≤◌, ◌++◌, ℤ, pos, Bool, true, false, List, [], ◌∷◌, length, map, drop, Option, Some, None, IfSome, Result, Ok, Err, refl, sym, ap, ◌∙◌, subst, arith, get_or, append_assoc}
 use Rattle.std.proofs.lemmas.List.{drop_more, drop_all, map-append, append-nil}
 use Rattle.gimli_units.specs.CursorMoves.{CursorView}
 use Rattle.gimli_walk.specs.declared.cursor.CursorStep.{CursorStep}
@@ -24,3 +24,8 @@ run_done limit start here steps i before completes = rw (append-nil before) at (
     none : (left : List CursorStep) → HasRun limit here left []
     none [] = tt
     none (s ∷ left) = tt
+
+-- a pair may be said by what equals it
+pub same_pair : {E : Type 0} (o : Option E) (offset : E → ℕ) (depth : E → ℤ) (n m : ℕ) (d b : ℤ) → m ≡ n → b ≡ d
+    → IfSome o (λ e. (offset e ≡ n) × (depth e ≡ d)) → IfSome o (λ e. (offset e ≡ m) × (depth e ≡ b))
+same_pair o offset depth n m d b offsets depths is = rw (offsets, depths) is

@@ -72,10 +72,6 @@ module _ (limit : ℕ) where
       ap (answers c.raw.end steps) (sym place) ∙ ap (λ (e : ℕ). answers e steps (place_of limit new)) (sym step.unit.end) in
       (rest.0, ap (λ xs. told (step_of c.raw.end s (place_of limit c)) ∷ xs) (others ∙ rest.1) ∙ ap (λ x. x ∷ (all ++ rest.0)) (sym first))
 
-  answers_length : (end : ℕ) (steps : List CursorStep) (p : Place) → length (answers end steps p) ≡ length steps
-  answers_length end [] p = refl
-  answers_length end (s ∷ steps) p = ap suc (answers_length end steps (step_of end s p).place)
-
   -- an answer is true
   module _ (u : UnitView) (t : Table) (fits : length u.entries.bytes ≤ whole_length u) where
     true_answer : (s : CursorStep) (c new : CursorView) (a : Answer) → StandsIn u t c → HasAnswered limit s c a new → IsTrueAnswer limit u (found t) a
@@ -159,6 +155,11 @@ module _ (limit : ℕ) where
     run_taken (s ∷ steps) c (a ∷ all) stands follows (new, answered, more) =
         rw answered.is (run_taken_from steps a.outcome new all (step_stands u t c new stands answered.step.unit answered.step.further) (answered.step.unit.follows ∙ follows) more)
 
+-- there is an answer to each step
+pub answers_length : (end : ℕ) (steps : List CursorStep) (p : Place) → length (answers end steps p) ≡ length steps
+answers_length end [] p = refl
+answers_length end (s ∷ steps) p = ap suc (answers_length end steps (step_of end s p).place)
+
 -- a front of the same length is the whole
 front_whole : {T : Type 0} → (xs all : List T) → IsFront xs all → length xs ≡ length all → xs ≡ all
 front_whole {T} xs all (rest, is) same = cases rest is
@@ -195,7 +196,7 @@ module _ (limit : ℕ) (u : UnitView) (t : Table) (start : Option ℕ) (steps : 
           let honest_at = rw s.1 at honest in
           let front : IsFront all (answers_at limit u (found t) steps s.0) = run_front limit steps _ all run_at (λ any f. honest_start limit _ refl (honest_at any f)) in
           let p0 : Place = start_of (unit_rows_at limit u (found t) (pos 0) s.0) in
-          rw s.1 (front, λ k. front_whole all (answers_at limit u (found t) steps s.0) front (whole k ∙ sym (answers_length limit (whole_length u) steps p0)))
+          rw s.1 (front, λ k. front_whole all (answers_at limit u (found t) steps s.0) front (whole k ∙ sym (answers_length (whole_length u) steps p0)))
 
   -- and it is refused where they are
   pub run_refused : (follows : Bool) (e : Error) → Err e ≡ cursor_start u t follows start → RunsAs (Err e) (run_answers limit u (found t) start steps)

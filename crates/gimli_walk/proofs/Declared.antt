@@ -1,5 +1,5 @@
 -- The text of a unit whose declarations are refused.
-use Rattle.std.proofs.Common.{◌≡◌, ℕ, ◌<◌, true, List, [], ◌∷◌, sym, ap, Option, Result, Ok, Err, refl, arith, length, ◌⊎◌, inl, inr, length-append}
+use Rattle.std.proofs.Common.{◌≡◌, ℕ, ◌<◌, true, List, [], ◌∷◌, sym, ap, Option, None, Result, Ok, Err, refl, arith, length, ◌⊎◌, inl, inr, length-append}
 use Rattle.std.specs.Io.KnownBytes.{Appends}
 use Rattle.gimli_base.specs.declared.error.Error.{Error}
 use Rattle.gimli_base.specs.declared.error.Error.TheVariants.{UnexpectedEof, BadUnsignedLeb128, BadSignedLeb128, UnknownReservedLength, UnknownVersion, UnknownUnitType, UnsupportedAddressSize, UnsupportedSegmentSize, UnsupportedOffset, UnsupportedOffsetSize, OffsetOutOfBounds, NoEntryAtGivenOffset, InvalidAbbreviationCode, UnknownForm, InvalidImplicitConst, UnknownRangeListsEntry, UnknownLocListsEntry, AddressOverflow, AbbreviationTagZero, InvalidAbbreviationChildren, AttributeNameZero, AttributeFormZero, DuplicateAbbreviationCode, OutOfMemory}
@@ -7,11 +7,14 @@ use Rattle.gimli_base.specs.Refusal.{number_of}
 use Rattle.gimli_base.specs.Abbreviations.{Map}
 use Rattle.gimli_units.specs.Unit.{UnitView}
 use Rattle.gimli_walk.specs.declared.mode.Mode.{Mode}
-use Rattle.gimli_walk.specs.declared.mode.Mode.TheVariants.{Rows, Cursor, Plain}
+use Rattle.gimli_walk.specs.declared.mode.Mode.TheVariants.{Rows, Cursor, Plain, Tree}
 use Rattle.gimli_walk.proofs.AnswerLines.{if_ok}
 use Rattle.std.specs.Prelude.{IfOk}
 use Rattle.gimli_walk.specs.Lines.{Text, error_line, memory_line}
 use Rattle.gimli_walk.specs.Text.{Wrote, WroteText, wrote, no_line, declared_text, mode_text, IsHonestMode, IsHonestDeclared, WroteTrueMode, WroteTrueDeclared}
+use Rattle.gimli_walk.specs.declared.tree.TreeStep.{TreeStep}
+use Rattle.gimli_walk.specs.Trees.{AreGrowing}
+use Rattle.gimli_walk.specs.TreeText.{WroteTrueTree, tree_lines}
 use Rattle.gimli_walk.proofs.WrittenLines.{Wrote-only, Wrote-memory}
 
 -- a refusal is that of memory, or another
@@ -61,6 +64,10 @@ walked_declared limit mode u declared m old new r is h walked =
     let honest = rw (← is) at h in
     rw (← is) (if_ok r (λ status w. wrote w) (walked honest))
 
+no_growing : (steps : List TreeStep) → AreGrowing None steps []
+no_growing [] = tt
+no_growing (s ∷ steps) = tt
+
 -- no answer is told where the declarations are refused, be it for want of memory
 pub undeclared_true : (limit : ℕ) (mode : Mode) (u : UnitView) (m : Result Map Error) (e : Error) (old new : Option (List ℕ)) → ((e ≡ OutOfMemory → ⊥) → Err e ≡ m)
     → Appends old new (error_line (number_of e)) → WroteTrueDeclared limit mode u m old new 1
@@ -74,3 +81,4 @@ undeclared_true limit mode u (Ok declared) e old new refused h = elim (memory_or
     told Rows k = tt
     told (Cursor steps) k = record { all = []; stopped = true; are_true = tt; written = (k, refl) }
     told (Plain steps) k = record { all = []; stopped = true; are_true = tt; written = (k, refl) }
+    told (Tree steps) k = tree_lines [] true tt (no_growing steps.now) (k, refl)

@@ -6,3 +6,7 @@ pub mod WordLines
 pub mod CursorRuns
 pub mod CursorTruth
 pub mod AnswerLines
+pub mod TreeRuns
+pub mod TreeTruth
+pub mod TreeTold
+pub mod TreeLines

@@ -1,5 +1,5 @@
 -- The answers of a list of steps of a cursor, and their text (DWARF 5, 2.3).
-use Rattle.std.specs.Prelude.{◌≡◌, ℕ, ◌-◌, ◌<◌, ℤ, pos, Bool, true, false, ◌||◌, if◌then◌else◌, ◌++◌, List, [], ◌∷◌, map, length, codes, Option, Some, None, Result, Ok, Err}
+use Rattle.std.specs.Prelude.{◌≡◌, ℕ, ◌-◌, ◌<◌, ℤ, pos, Bool, true, false, ◌||◌, if◌then◌else◌, ◌++◌, List, [], ◌∷◌, map, length, codes, Option, Some, None, IfSome, Result, Ok, Err}
 use Rattle.std.specs.Fmt.{decimal}
 use Rattle.std.specs.List.{list_any}
 use Rattle.std.specs.Result.{is_err}
@@ -40,6 +40,10 @@ seen f g a = record {
   next_offset = g a.next_offset.0;
   next_depth = a.next_depth;
 }
+
+-- the entry of an answer, if there is one, has the answer's own offset and depth
+abbrev pub IsPaired : {R A O : Type 0} → (O → ℕ) → CursorAnswer R A O → Type 0
+IsPaired g a = IfSome a.current (λ e. (g e.offset.0 ≡ g a.offset.0) × (e.depth ≡ a.depth))
 
 abbrev pub step_of : ℕ → CursorStep → Place → Moved
 step_of end NextEntry p = next_row end p
@@ -102,7 +106,7 @@ IsHonestFrom limit u declared (Ok v) = IsHonestAt limit u declared v
 IsHonestFrom limit u declared (Err e) = Unit {0}
 
 -- a run gives the first of these answers, and all of them where it was not stopped; or it is refused as they are
-abbrev pub RunsAs : Result (List Answer × Bool) Error → Result (List Answer) Error → Type 0
+abbrev pub RunsAs : {X : Type 0} → Result (List X × Bool) Error → Result (List X) Error → Type 0
 RunsAs (Ok p) (Ok all) = IsFront p.0 all × (p.1 ≡ false → p.0 ≡ all)
 RunsAs (Ok p) (Err e) = ⊥
 RunsAs (Err x) (Ok all) = ⊥

@@ -14,9 +14,11 @@ use Rattle.gimli_units.specs.Unit.{UnitView, whole_length}
 use Rattle.gimli_headers.specs.Header.{unit_at}
 use Rattle.gimli_walk.specs.Lines.{Text, row_line, end_line, no_unit_line, error_line, error_line_at, memory_line, only}
 use Rattle.gimli_walk.specs.declared.mode.Mode.{Mode}
-use Rattle.gimli_walk.specs.declared.mode.Mode.TheVariants.{Rows, Cursor, Plain}
+use Rattle.gimli_walk.specs.declared.mode.Mode.TheVariants.{Rows, Cursor, Plain, Tree}
 use Rattle.gimli_walk.specs.declared.cursor.CursorStep.{CursorStep}
-use Rattle.gimli_walk.specs.Cursors.{Answer, answers_at, answers_text, answer_line, status_of, any_sibling, IsHonestAt, AreTrueAnswers}
+use Rattle.gimli_walk.specs.Trees.{tree_view, run_tree_answers, run_text_of}
+use Rattle.gimli_walk.specs.TreeText.{WroteTrueTree}
+use Rattle.gimli_walk.specs.Cursors.{Answer, answers_at, answers_text, answer_line, status_of, any_sibling, IsHonestAt, IsHonestFrom, AreTrueAnswers}
 
 abbrev pub line_of : Row → List ℕ
 line_of r = row_line r.offset r.depth r.entry.tag.0 r.entry.has_children
@@ -62,12 +64,14 @@ abbrev pub mode_text : ℕ → Mode → UnitView → Map → Text
 mode_text limit Rows u declared = unit_text limit u declared
 mode_text limit (Cursor steps) u declared = cursor_text limit steps.now u declared
 mode_text limit (Plain steps) u declared = cursor_text limit steps.now u declared
+mode_text limit (Tree steps) u declared = run_text_of (run_tree_answers limit u declared None steps.now)
 
--- what a mode asks of the sibling references of a unit: that they are honest, where a step that follows them looks for a sibling
+-- what a mode asks of the sibling references of a unit: that they are honest, where a step that follows them looks for a sibling, and for a tree
 abbrev pub IsHonestMode : ℕ → Mode → UnitView → Map → Type 0
 IsHonestMode limit Rows u declared = Unit {0}
 IsHonestMode limit (Cursor steps) u declared = any_sibling steps.now ≡ true → IsHonestAt limit u declared u.entries
 IsHonestMode limit (Plain steps) u declared = Unit {0}
+IsHonestMode limit (Tree steps) u declared = IsHonestFrom limit u declared (tree_view u None)
 
 abbrev pub IsHonestDeclared : ℕ → Mode → UnitView → Result Map Error → Type 0
 IsHonestDeclared limit mode u (Ok declared) = IsHonestMode limit mode u declared
@@ -125,11 +129,12 @@ pub record WroteTrue (limit : ℕ) (u : UnitView) (declared : Map) (old new : Op
   pub are_true : AreTrueAnswers limit u declared all
   pub written : WroteRun old new all stopped status
 
--- a mode that steps a cursor writes such lines
+-- a mode that steps a cursor, or a tree, writes such lines
 abbrev pub WroteTrueMode : ℕ → Mode → UnitView → Map → Option (List ℕ) → Option (List ℕ) → ℕ → Type 0
 WroteTrueMode limit Rows u declared old new status = Unit {0}
 WroteTrueMode limit (Cursor steps) u declared old new status = WroteTrue limit u declared old new status
 WroteTrueMode limit (Plain steps) u declared old new status = WroteTrue limit u declared old new status
+WroteTrueMode limit (Tree steps) u declared old new status = WroteTrueTree limit u declared steps.now old new status
 
 abbrev pub WroteTrueDeclared : ℕ → Mode → UnitView → Result Map Error → Option (List ℕ) → Option (List ℕ) → ℕ → Type 0
 WroteTrueDeclared limit mode u (Ok declared) old new status = WroteTrueMode limit mode u declared old new status

@@ -18,9 +18,9 @@ word words i = (slice_index_or words i (record { ref_ptr = (0, 0); now = [] })).
 abbrev pub AsksRows : Words → Type 0
 AsksRows words = (length words ≡ 3) × (word words 0 ≡ codes "rows")
 
--- `cursor INFO ABBREV STEPS`, or `plain INFO ABBREV STEPS`
+-- `cursor INFO ABBREV STEPS`, `plain INFO ABBREV STEPS`, or `tree INFO ABBREV STEPS`
 abbrev pub AsksSteps : Words → Type 0
-AsksSteps words = (length words ≡ 4) × ((word words 0 ≡ codes "cursor") ⊎ (word words 0 ≡ codes "plain"))
+AsksSteps words = (length words ≡ 4) × ((word words 0 ≡ codes "cursor") ⊎ (word words 0 ≡ codes "plain") ⊎ (word words 0 ≡ codes "tree"))
 
 -- What comes of a walk over two files that `read` gives: the walk's text and status, or status 3 where one of them can't
 -- be read, and then nothing is written, or where a write failed.

@@ -1,6 +1,7 @@
 //! Runs of a cursor over a list of steps.
 
-ghost use Rattle.std.specs.Prelude.{◌≡◌, ℕ, ◌<◌, true, false, map, length, IfOk, IfErr, Ok, Err, Some, Option};
+ghost use Rattle.std.specs.Prelude.{◌≡◌, ℕ, ◌<◌, true, false, map, length, IfOk, IfErr, IfSome, Ok, Err, Some, Option};
+ghost use Rattle.std.specs.List.{All};
 ghost use Rattle.std.specs.Option.{option_map};
 ghost use Rattle.gimli_base.specs.declared.error.Error.{Error as SpecError};
 ghost use Rattle.gimli_base.specs.declared.error.Error.TheVariants.{OutOfMemory};
@@ -13,7 +14,7 @@ ghost use Rattle.gimli_units.specs.CursorMoves.{Goes, IsHonestFor, followed_to, 
 ghost use Rattle.gimli_units.specs.CursorRead.{Stands};
 ghost use Rattle.gimli_units.specs.CursorStart.{cursor_start};
 ghost use Rattle.gimli_walk.specs.Runs.{IsFront};
-ghost use Rattle.gimli_walk.specs.Cursors.{seen, step_of, is_sibling, any_sibling, run_answers, start_view, RunsAs, IsStopped, IsHonestFrom, AreTrueAnswers, AreTaken};
+ghost use Rattle.gimli_walk.specs.Cursors.{seen, IsPaired, step_of, is_sibling, any_sibling, run_answers, start_view, RunsAs, IsStopped, IsHonestFrom, AreTrueAnswers, AreTaken};
 ghost use Rattle.gimli_walk.specs.CursorTurns.{HasStepped, HasAnswered, HasRun};
 
 use crate::Run;
@@ -65,8 +66,14 @@ fn take<R: Reader, A: Allocator>(
 {
     match step {
         CursorStep::NextEntry => cursor.next_entry(),
-        CursorStep::NextDfs => cursor.next_dfs(),
-        CursorStep::NextSibling => cursor.next_sibling(),
+        CursorStep::NextDfs => match cursor.next_dfs() {
+            Ok(entry) => Ok(entry.is_some()),
+            Err(error) => Err(error),
+        },
+        CursorStep::NextSibling => match cursor.next_sibling() {
+            Ok(entry) => Ok(entry.is_some()),
+            Err(error) => Err(error),
+        },
     }
 }
 
@@ -85,7 +92,8 @@ fn current_of<R: Reader, A: Allocator + Copy>(
     alloc: A,
     cursor: &EntriesCursor<'_, R, A>,
 ) -> Result<Option<DebuggingInformationEntry<R, A>>>
-    ensures { IfOk result (λ o. option_map (λ e. entry_of R.view R.Offset.number e.tag e.has_children e.attrs.items) o ≡ some_of cursor.now.entry) }
+    ensures entry { IfOk result (λ o. option_map (λ e. entry_of R.view R.Offset.number e.tag e.has_children e.attrs.items) o ≡ some_of cursor.now.entry) }
+    ensures pair { IfOk result (λ o. IfSome o (λ e. (R.Offset.number e.offset.0 ≡ cursor.now.offset) × (e.depth ≡ cursor.now.depth))) }
 {
     match cursor.current() {
         Some(entry) => {
@@ -103,6 +111,7 @@ fn next_answer<R: Reader, A: Allocator + Copy>(
     step: CursorStep,
 ) -> Result<CursorAnswer<R, A>>
     ensures answered { IfOk result (λ a. HasAnswered R.Offset.limit step cursor.old (seen R.view R.Offset.number a) cursor.new) }
+    ensures paired { IfOk result (λ a. IsPaired R.Offset.number a) }
 {
     let outcome = take(cursor, step);
     if wants_memory(&outcome) {
@@ -126,6 +135,7 @@ fn run_steps<R: Reader, A: Allocator + Copy>(
     steps: &[CursorStep],
 ) -> Run<CursorAnswer<R, A>, A>
     ensures run { HasRun R.Offset.limit cursor.old steps.now (map (seen R.view R.Offset.number) result.answers.items) }
+    ensures paired { All (IsPaired R.Offset.number) result.answers.items }
     ensures stopped { result.stopped ≡ true → length result.answers.items < length steps.now }
     ensures whole { result.stopped ≡ false → length result.answers.items ≡ length steps.now }
 {
@@ -197,6 +207,7 @@ pub fn run_cursor<R: Reader, A: Allocator + Copy>(
     ensures true_answers { IfOk result (λ r. AreTrueAnswers R.Offset.limit (⟦<UnitHeader<R> as HasUnit>⟧.unit unit.now) (found abbreviations.now) (map (seen R.view R.Offset.number) r.answers.items)) }
     ensures taken { IfOk result (λ r. AreTaken R.Offset.limit (⟦<UnitHeader<R> as HasUnit>⟧.unit unit.now) (found abbreviations.now) steps.now (map (seen R.view R.Offset.number) r.answers.items)) }
     ensures refused { IfErr result (λ e. start_view (⟦<UnitHeader<R> as HasUnit>⟧.unit unit.now) (option_map (λ o. R.Offset.number o.0) start) ≡ Err e) }
+    ensures paired { IfOk result (λ r. All (IsPaired R.Offset.number) r.answers.items) }
     ensures stopped { IfOk result (λ r. IsStopped r.stopped (length r.answers.items) (length steps.now)) }
 {
     let mut cursor = start_cursor(alloc, unit, abbreviations, start, true)?;
@@ -217,6 +228,7 @@ pub fn run_cursor_plain<R: Reader, A: Allocator + Copy>(
     ensures answers { RunsAs (answer_of (λ r. (map (seen R.view R.Offset.number) r.answers.items, r.stopped)) result) (run_answers R.Offset.limit (⟦<UnitHeader<R> as HasUnit>⟧.unit unit.now) (found abbreviations.now) (option_map (λ o. R.Offset.number o.0) start) steps.now) }
     ensures true_answers { IfOk result (λ r. AreTrueAnswers R.Offset.limit (⟦<UnitHeader<R> as HasUnit>⟧.unit unit.now) (found abbreviations.now) (map (seen R.view R.Offset.number) r.answers.items)) }
     ensures refused { IfErr result (λ e. start_view (⟦<UnitHeader<R> as HasUnit>⟧.unit unit.now) (option_map (λ o. R.Offset.number o.0) start) ≡ Err e) }
+    ensures paired { IfOk result (λ r. All (IsPaired R.Offset.number) r.answers.items) }
     ensures stopped { IfOk result (λ r. IsStopped r.stopped (length r.answers.items) (length steps.now)) }
 {
     let mut cursor = start_cursor(alloc, unit, abbreviations, start, false)?;

@@ -1,6 +1,6 @@
 //! What a walk does.
 
-use crate::CursorStep;
+use crate::{CursorStep, TreeStep};
 
 /// What a walk does, and so which lines it writes.
 #[derive(Clone, Copy, Debug, PartialEq, Eq)]
@@ -11,4 +11,6 @@ pub enum Mode<'a> {
     Cursor(&'a [CursorStep]),
     /// A line for each step of a cursor that follows no reference.
     Plain(&'a [CursorStep]),
+    /// A line for each step of a walk over a tree.
+    Tree(&'a [TreeStep]),
 }

@@ -9,7 +9,8 @@ ghost use Rattle.gimli_walk.specs.Text.{Wrote, WroteAll, WroteText, has_unit, li
 
 use crate::answers::write_run;
 use crate::lines::{WriteFault, write_end, write_error, write_error_at, write_no_unit, write_row};
-use crate::{Mode, run_cursor, run_cursor_plain};
+use crate::tree_lines::write_tree_run;
+use crate::{Mode, run_cursor, run_cursor_plain, run_tree};
 use gimli_base::{
     Abbreviations, DebugAbbrev, EndianSlice, Error, LittleEndian, Reader, ReaderOffset, Section,
 };
@@ -113,6 +114,13 @@ fn walk_declared<R: Reader, A: Allocator + Copy, W: Write>(
         },
         Mode::Plain(steps) => match run_cursor_plain(alloc, unit, abbreviations, None, steps) {
             Ok(run) => write_run(out, &run),
+            Err(error) => {
+                write_error(out, error)?;
+                Ok(1)
+            }
+        },
+        Mode::Tree(steps) => match run_tree(alloc, unit, abbreviations, None, steps) {
+            Ok(run) => write_tree_run(out, &run),
             Err(error) => {
                 write_error(out, error)?;
                 Ok(1)

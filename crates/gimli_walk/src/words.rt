@@ -3,7 +3,7 @@
 ghost use Rattle.std.specs.Prelude.{◌≡◌};
 ghost use Rattle.gimli_walk.specs.Words.{AsksRows, AsksSteps, Walked, word};
 
-use crate::{CursorStep, Mode, walk_text};
+use crate::{CursorStep, Mode, TreeStep, walk_text};
 use std::alloc::{AllocError, Allocator};
 use std::io::Write;
 
@@ -41,6 +41,9 @@ pub fn run_words<A: Allocator + Copy, F: FnMut(&str) -> Option<Vec<u8>>, W: Writ
         ["plain", info, abbrev, letters] => {
             walk_steps(alloc, false, [info, abbrev, letters], read, out, err)
         }
+        ["tree", info, abbrev, letters] => {
+            walk_tree(alloc, [info, abbrev, letters], read, out, err)
+        }
         _ => usage(err),
     }
 }
@@ -50,7 +53,7 @@ fn walk_steps<A: Allocator + Copy, F: FnMut(&str) -> Option<Vec<u8>>, W: Write, 
     alloc: A,
     follows: bool,
     words: [&str; 3],
-    mut read: F,
+    read: F,
     out: &mut W,
     err: &mut E,
 ) -> u8
@@ -63,16 +66,51 @@ fn walk_steps<A: Allocator + Copy, F: FnMut(&str) -> Option<Vec<u8>>, W: Write, 
     let Ok(steps) = steps_in(alloc, letters) else {
         return 3;
     };
+    let mode = if follows {
+        Mode::Cursor(&steps)
+    } else {
+        Mode::Plain(&steps)
+    };
+    walk_files(alloc, mode, [info, abbrev], read, out, err)
+}
+
+// Walks over a tree by the steps that letters name, over two files.
+fn walk_tree<A: Allocator + Copy, F: FnMut(&str) -> Option<Vec<u8>>, W: Write, E: Write>(
+    alloc: A,
+    words: [&str; 3],
+    read: F,
+    out: &mut W,
+    err: &mut E,
+) -> u8
+    requires { F.IsAlwaysCallable read }
+{
+    let [info, abbrev, letters] = words;
+    if !are_tree_steps(letters) {
+        return usage(err);
+    }
+    let Ok(steps) = tree_steps_in(alloc, letters) else {
+        return 3;
+    };
+    walk_files(alloc, Mode::Tree(&steps), [info, abbrev], read, out, err)
+}
+
+// Walks over two files.
+fn walk_files<A: Allocator + Copy, F: FnMut(&str) -> Option<Vec<u8>>, W: Write, E: Write>(
+    alloc: A,
+    mode: Mode<'_>,
+    names: [&str; 2],
+    mut read: F,
+    out: &mut W,
+    err: &mut E,
+) -> u8
+    requires { F.IsAlwaysCallable read }
+{
+    let [info, abbrev] = names;
     let Some(info_bytes) = read(info) else {
         return cannot_read(err, info);
     };
     let Some(abbrev_bytes) = read(abbrev) else {
         return cannot_read(err, abbrev);
-    };
-    let mode = if follows {
-        Mode::Cursor(&steps)
-    } else {
-        Mode::Plain(&steps)
     };
     let status = walk_text(alloc, mode, &info_bytes, &abbrev_bytes, out).unwrap_or(3);
     if out.flush().is_err() { 3 } else { status }
@@ -103,6 +141,38 @@ fn steps_in<A: Allocator>(alloc: A, letters: &str) -> Result<Vec<CursorStep, A>,
     let mut steps = Vec::new(alloc);
     'letters: for letter in letters.as_bytes() {
         if let Some(step) = step_of(*letter) {
+            steps.push(step)?;
+        }
+    }
+    Ok(steps)
+}
+
+// The step of a tree that a letter names.
+fn tree_step_of(letter: u8) -> Option<TreeStep> {
+    match letter {
+        b'r' => Some(TreeStep::Root),
+        b'n' => Some(TreeStep::Next),
+        b'i' => Some(TreeStep::Enter),
+        b'o' => Some(TreeStep::Leave),
+        _ => None,
+    }
+}
+
+// Whether each of these letters names a step of a tree.
+fn are_tree_steps(letters: &str) -> bool {
+    'letters: for letter in letters.as_bytes() {
+        if tree_step_of(*letter).is_none() {
+            return false;
+        }
+    }
+    true
+}
+
+// The steps of a tree that these letters name.
+fn tree_steps_in<A: Allocator>(alloc: A, letters: &str) -> Result<Vec<TreeStep, A>, AllocError> {
+    let mut steps = Vec::new(alloc);
+    'letters: for letter in letters.as_bytes() {
+        if let Some(step) = tree_step_of(*letter) {
             steps.push(step)?;
         }
     }

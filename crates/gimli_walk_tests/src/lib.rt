@@ -14,6 +14,8 @@ mod entries;
 #[cfg(test)]
 mod large;
 #[cfg(test)]
+mod locations;
+#[cfg(test)]
 mod ranges;
 #[cfg(test)]
 mod rows;
@@ -27,6 +29,10 @@ mod samples;
 mod tables;
 #[cfg(test)]
 mod text;
+#[cfg(test)]
+mod tree_text;
+#[cfg(test)]
+mod tree_words;
 #[cfg(test)]
 mod walks;
 #[cfg(test)]

@@ -65,7 +65,7 @@ fn writes_the_rows_of_two_files(rt: HostRuntime) {
 
 #[test]
 fn says_how_it_is_called(rt: HostRuntime) {
-    let cases: [&[&str]; 10] = [
+    let cases: [&[&str]; 11] = [
         &[],
         &[""],
         &["rows"],
@@ -76,7 +76,8 @@ fn says_how_it_is_called(rt: HostRuntime) {
         &["info", "abbrev", "rows"],
         // words are judged before a file is read
         &["check", "gone", "lost"],
-        &["tree", "info", "abbrev", "r"],
+        &["tree", "info", "abbrev"],
+        &["trees", "info", "abbrev", "r"],
     ];
     for words in cases {
         tries_words(&rt, rt.alloc(), words, 2, "", USAGE_LINE);

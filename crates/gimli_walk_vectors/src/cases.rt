@@ -1,48 +1,45 @@
 //! Cases of walks, each a line of words.
 
-use gimli_walk::CursorStep;
+use gimli_walk::{CursorStep, TreeStep};
 use std::alloc::Global;
 
-/// Whether sibling references are followed.
-#[derive(Clone, Copy, Debug, PartialEq, Eq)]
+/// What walks, and by which steps, in their order.
+#[derive(Drop)]
 pub(crate) enum Way {
-    /// They are followed.
-    Cursor,
-    /// Every entry is read.
-    Plain,
+    /// A cursor that follows sibling references.
+    Cursor(Vec<CursorStep>),
+    /// A cursor that reads every entry.
+    Plain(Vec<CursorStep>),
+    /// A tree.
+    Tree(Vec<TreeStep>),
 }
 
 /// A walk that is to be taken.
 #[derive(Drop)]
 pub(crate) struct Case {
-    /// How siblings are found.
+    /// What walks.
     pub(crate) way: Way,
     /// The bytes of `.debug_info`.
     pub(crate) info: Vec<u8>,
     /// The bytes of `.debug_abbrev`.
     pub(crate) abbrev: Vec<u8>,
-    /// The steps, in their order.
-    pub(crate) steps: Vec<CursorStep>,
 }
 
-/// The case of a line: `cursor` or `plain`, the bytes of both sections in hexadecimal, and the steps as letters, or `-`
-/// where there are none.
+/// The case of a line: `cursor`, `plain` or `tree`, the bytes of both sections in hexadecimal, and the steps as letters, or
+/// `-` where there are none.
 pub(crate) fn parse_case(alloc: Global, line: &str) -> Option<Case> {
     let mut words = line.split_ascii_whitespace();
-    let way = match words.next()? {
-        "cursor" => Way::Cursor,
-        "plain" => Way::Plain,
-        _ => return None,
-    };
+    let mode = words.next()?;
     let info = parse_bytes(alloc, words.next()?)?;
     let abbrev = parse_bytes(alloc, words.next()?)?;
-    let steps = parse_steps(alloc, words.next()?)?;
-    Some(Case {
-        way,
-        info,
-        abbrev,
-        steps,
-    })
+    let letters = words.next()?;
+    let way = match mode {
+        "cursor" => Way::Cursor(parse_steps(alloc, letters)?),
+        "plain" => Way::Plain(parse_steps(alloc, letters)?),
+        "tree" => Way::Tree(parse_tree_steps(alloc, letters)?),
+        _ => return None,
+    };
+    Some(Case { way, info, abbrev })
 }
 
 // The bytes that a word gives, each in two digits.
@@ -79,6 +76,25 @@ fn parse_steps(alloc: Global, word: &str) -> Option<Vec<CursorStep>> {
             b'e' => CursorStep::NextEntry,
             b'd' => CursorStep::NextDfs,
             b's' => CursorStep::NextSibling,
+            _ => return None,
+        };
+        steps.push(step).ok()?;
+    }
+    Some(steps)
+}
+
+// The steps of a tree that a word gives.
+fn parse_tree_steps(alloc: Global, word: &str) -> Option<Vec<TreeStep>> {
+    let mut steps = Vec::new(alloc);
+    if word == "-" {
+        return Some(steps);
+    }
+    for letter in word.as_bytes() {
+        let step = match letter {
+            b'r' => TreeStep::Root,
+            b'n' => TreeStep::Next,
+            b'i' => TreeStep::Enter,
+            b'o' => TreeStep::Leave,
             _ => return None,
         };
         steps.push(step).ok()?;

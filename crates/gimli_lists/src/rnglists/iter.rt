@@ -1,20 +1,21 @@
 //! The ranges of a list, which know their base address.
 
-ghost use Rattle.std.specs.Prelude.{◌≡◌, ◌<◌, length, IsTrue, MatchResult, IfOk, IfSome, IfNone, OnSome};
+ghost use Rattle.std.specs.Prelude.{◌≡◌, ◌<◌, length, unwrap_or, IsTrue, MatchResult, IfOk, IfSome, IfNone, OnSome};
 ghost use Rattle.std.specs.Option.{option_map};
 ghost use Rattle.std.specs.Iterator.{at_most};
-ghost use Rattle.gimli_base.specs.Address.{min_tombstone};
+ghost use Rattle.gimli_base.specs.Address.{min_tombstone, table_address};
 ghost use Rattle.gimli_base.specs.Offset.{answer_of};
 ghost use Rattle.gimli_base.specs.Reading.{is_size};
-ghost use Rattle.gimli_lists.specs.RangeEntry.{entry_of};
-ghost use Rattle.gimli_lists.specs.Ranges.{next_raw, RangesPlace, look_up_of, range_of, converted, ranges_ahead, IsBehind, read_from, IsNext};
-ghost use Rattle.gimli_lists.specs.Resolved.{answered, transposed};
+ghost use Rattle.gimli_lists.specs.Places.{next_raw, ListPlace, converted, InList, IsBehind, IsSpent, read_from, IsNext};
+ghost use Rattle.gimli_lists.specs.RangeEntry.{entry_of, range_grammar};
+ghost use Rattle.gimli_lists.specs.RangeReads.{range_grammar-takes};
+ghost use Rattle.gimli_lists.specs.Ranges.{range_of, ranges_ahead};
+ghost use Rattle.gimli_lists.specs.Resolved.{base_given, resolve, answered, transposed};
 
 use crate::rnglists::Range;
 use crate::rnglists::raw::{RawRngListEntry, RawRngListIter};
-use gimli_base::{
-    DebugAddr, DebugAddrBase, DebugAddrIndex, Reader, ReaderAddress, Result, Section,
-};
+use crate::walk::{EntryWalk, next_item};
+use gimli_base::{DebugAddr, DebugAddrBase, Reader, ReaderAddress, Result, Section};
 use std::marker::Model;
 
 /// The ranges of a list, in order.
@@ -28,7 +29,7 @@ pub struct RngListIter<R: Reader> {
 }
 
 impl<R: Reader> Model for RngListIter<R> {
-    ghost Value = { RangesPlace };
+    ghost Value = { ListPlace };
 
     ghost view = { λ i. record { raw = i.raw; base = i.base_address; addresses = R.view i.debug_addr.section; table = R.Offset.number i.debug_addr_base.0 } };
 
@@ -54,21 +55,12 @@ impl<R: Reader> RngListIter<R> {
         }
     }
 
-    // The address at an index of the unit's table.
-    #[inline]
-    fn get_address(&self, index: DebugAddrIndex<R::Offset>) -> Result<u64>
-        ensures { result ≡ look_up_of R.Offset.limit self.now (R.Offset.number index.0) }
-    {
-        self.debug_addr
-            .get_address(self.raw.address_size(), self.debug_addr_base, index)
-    }
-
     /// The next entry as it is written, or none behind the last. The answer is for `convert_raw`, which has to see each
     /// entry in turn.
     ///
     /// Refusals: those of `RawRngListIter::next`; nothing is left then.
     pub fn next_raw(&mut self) -> Result<Option<RawRngListEntry<R::Offset>>>
-        ensures value { (answer_of (option_map (entry_of R.Offset.number)) result, self.new.raw) ≡ next_raw R.Offset.limit self.old.raw }
+        ensures value { (answer_of (option_map (entry_of R.Offset.number)) result, self.new.raw) ≡ next_raw (range_grammar R.Offset.limit) self.old.raw }
         ensures same { self.new ≡ record self.old { raw = self.new.raw } }
         ensures takes { MatchResult result (λ entry. OnSome entry (length self.new.raw.rest.bytes < length self.old.raw.rest.bytes)) (λ _. length self.new.raw.rest.bytes < length self.old.raw.rest.bytes) }
     {
@@ -80,75 +72,131 @@ impl<R: Reader> RngListIter<R> {
     /// No range is given where it begins at or above the least address that stands for none, or not below its end, nor by
     /// a pair of offsets from a base that stands for none. Refusals, of the look-up of an address by its index:
     /// `UnexpectedEof`, `UnsupportedOffset`; the base and the rest of the list stay then.
-    #[tactic(auto, unfolding(crate::specs::Ranges::converted))]
+    #[tactic(auto, unfolding(crate::specs::Places::converted))]
     pub fn convert_raw(&mut self, raw_range: RawRngListEntry<R::Offset>) -> Result<Option<Range>>
         ensures { (answer_of (option_map range_of) result, self.new) ≡ converted R.Offset.limit (entry_of R.Offset.number raw_range) self.old }
     {
         let size = self.raw.address_size();
-        match raw_range {
-            RawRngListEntry::BaseAddress { addr } => {
-                self.base_address = addr;
-                Ok(None)
-            }
-            RawRngListEntry::BaseAddressx { addr } => {
-                self.base_address = self.get_address(addr)?;
-                Ok(None)
-            }
-            RawRngListEntry::StartxEndx { begin, end } => {
-                let begin = self.get_address(begin)?;
-                let end = self.get_address(end)?;
-                Ok(Range { begin, end }.kept(size))
-            }
-            RawRngListEntry::StartxLength { begin, length } => {
-                let begin = self.get_address(begin)?;
-                let end = begin.wrapping_add_sized(length, size);
-                Ok(Range { begin, end }.kept(size))
-            }
-            RawRngListEntry::AddressOrOffsetPair { begin, end }
-            | RawRngListEntry::OffsetPair { begin, end } => {
-                Ok(Range { begin, end }.kept_from(self.base_address, size))
-            }
-            RawRngListEntry::StartEnd { begin, end } => Ok(Range { begin, end }.kept(size)),
-            RawRngListEntry::StartLength { begin, length } => {
-                let end = begin.wrapping_add_sized(length, size);
-                Ok(Range { begin, end }.kept(size))
-            }
-        }
+        let mut base = self.base_address;
+        let range = resolve_entry(
+            raw_range,
+            size,
+            &mut base,
+            &self.debug_addr,
+            self.debug_addr_base,
+        );
+        self.base_address = base;
+        range
     }
 
     /// The next range, or none behind the last.
     ///
     /// Refusals: those of `RawRngListIter::next`, behind which nothing is left, and those of `convert_raw`, behind which
-    /// the rest of the list is left.
+    /// the rest of the list is left. Nothing is left behind the last entry either.
     pub fn next(&mut self) -> Result<Option<Range>>
         ensures ahead { ranges_ahead R.Offset.limit self.old ≡ answered (answer_of (option_map range_of) result) (ranges_ahead R.Offset.limit self.new) }
 
         // The entries that stand for nothing are read, and the one behind them; the base before the others is at hand.
-        ensures place { IsBehind R.Offset.limit (read_from R.Offset.limit self.old) self.old self.new }
-        ensures same { self.new ≡ record self.old { raw = record self.old.raw { rest = self.new.raw.rest }; base = self.new.base } }
+        ensures place { IsBehind (range_grammar R.Offset.limit) R.Offset.limit (read_from (range_grammar R.Offset.limit) R.Offset.limit self.old) self.old self.new }
+        ensures same { InList self.old self.new }
         ensures takes { MatchResult result (λ range. OnSome range (length self.new.raw.rest.bytes < length self.old.raw.rest.bytes)) (λ _. length self.new.raw.rest.bytes < length self.old.raw.rest.bytes) }
         ensures ended { IfOk result (λ range. IfNone range (length self.new.raw.rest.bytes ≡ 0)) }
+
+        // Where none of the entries that are left answers anything, nothing is left, whether the list ends or is refused.
+        ensures spent { IsSpent (range_grammar R.Offset.limit) R.Offset.limit self.old self.new }
 
         // A range begins below its end, and below the least address that stands for none.
         ensures sound { IfOk result (λ range. IfSome range (λ r. (r.begin < r.end) × (r.begin < min_tombstone self.old.raw.encoding.address_size))) }
     {
-        'entries: while let Some(raw_range) = self.next_raw()? {
-            if let Some(range) = self.convert_raw(raw_range)? {
-                return Ok(Some(range));
-            }
-        }
-        Ok(None)
+        next_item(self)
     }
+}
+
+impl<R: Reader> EntryWalk for RngListIter<R> {
+    type Entry = RawRngListEntry<R::Offset>;
+
+    type Item = Range;
+
+    ghost Payload = { Unit {0} };
+
+    ghost limit = { R.Offset.limit };
+
+    ghost grammar = { range_grammar R.Offset.limit };
+
+    ghost place = { λ s. s };
+
+    ghost written = { entry_of R.Offset.number };
+
+    ghost resolved = { range_of };
+
+    #[inline]
+    fn take_raw(&mut self) -> Result<Option<RawRngListEntry<R::Offset>>> {
+        self.next_raw()
+    }
+
+    #[inline]
+    fn convert(&mut self, raw: RawRngListEntry<R::Offset>) -> Result<Option<Range>> {
+        self.convert_raw(raw)
+    }
+
+    ghost takes_bytes = { range_grammar-takes R.Offset.limit };
 }
 
 impl<R: Reader> Iterator for RngListIter<R> {
     type Item = Result<Range>;
 
-    ghost next_gives = { λ s r t. IsNext R.Offset.limit s (answer_of (option_map range_of) (transposed r)) t };
+    ghost next_gives = { λ s r t. IsNext (range_grammar R.Offset.limit) R.Offset.limit s (answer_of (option_map range_of) (transposed r)) t };
 
     ghost remaining = { λ s. at_most (length s.raw.rest.bytes) };
 
     fn next(&mut self) -> Option<Result<Range>> {
         RngListIter::next(self).transpose()
+    }
+}
+
+/// What an entry stands for: a range, or none. An entry that gives a base address changes the one at hand.
+///
+/// The size of addresses has to be 1, 2, 4 or 8. Refusals, of the look-up of an address by its index: `UnexpectedEof`,
+/// `UnsupportedOffset`; the base stays then.
+#[inline]
+pub(crate) fn resolve_entry<R: Reader>(
+    entry: RawRngListEntry<R::Offset>,
+    size: u8,
+    base: &mut u64,
+    debug_addr: &DebugAddr<R>,
+    debug_addr_base: DebugAddrBase<R::Offset>,
+) -> Result<Option<Range>>
+    requires { IsTrue (is_size size) }
+    ensures value { answer_of (option_map range_of) result ≡ resolve size (λ index. table_address R.Offset.limit size (R.Offset.number debug_addr_base.0) index (⟦<DebugAddr<R> as Section<R>>⟧.content debug_addr.now)) base.old (entry_of R.Offset.number entry) }
+    ensures given { base.new ≡ unwrap_or (base_given (λ index. table_address R.Offset.limit size (R.Offset.number debug_addr_base.0) index (⟦<DebugAddr<R> as Section<R>>⟧.content debug_addr.now)) (entry_of R.Offset.number entry)) base.old }
+{
+    match entry {
+        RawRngListEntry::BaseAddress { addr } => {
+            *base = addr;
+            Ok(None)
+        }
+        RawRngListEntry::BaseAddressx { addr } => {
+            *base = debug_addr.get_address(size, debug_addr_base, addr)?;
+            Ok(None)
+        }
+        RawRngListEntry::StartxEndx { begin, end } => {
+            let begin = debug_addr.get_address(size, debug_addr_base, begin)?;
+            let end = debug_addr.get_address(size, debug_addr_base, end)?;
+            Ok(Range { begin, end }.kept(size))
+        }
+        RawRngListEntry::StartxLength { begin, length } => {
+            let begin = debug_addr.get_address(size, debug_addr_base, begin)?;
+            let end = begin.wrapping_add_sized(length, size);
+            Ok(Range { begin, end }.kept(size))
+        }
+        RawRngListEntry::AddressOrOffsetPair { begin, end }
+        | RawRngListEntry::OffsetPair { begin, end } => {
+            Ok(Range { begin, end }.kept_from(*base, size))
+        }
+        RawRngListEntry::StartEnd { begin, end } => Ok(Range { begin, end }.kept(size)),
+        RawRngListEntry::StartLength { begin, length } => {
+            let end = begin.wrapping_add_sized(length, size);
+            Ok(Range { begin, end }.kept(size))
+        }
     }
 }

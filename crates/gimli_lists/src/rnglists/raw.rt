@@ -6,26 +6,18 @@ ghost use Rattle.std.specs.Iterator.{at_most};
 ghost use Rattle.gimli_base.specs.Address.{ones_sized};
 ghost use Rattle.gimli_base.specs.Offset.{answer_of};
 ghost use Rattle.gimli_base.specs.Reading.{read, is_size};
-ghost use Rattle.gimli_lists.specs.RawList.{pair_at, old_entry_at, index_at};
-ghost use Rattle.gimli_lists.specs.RangeEntry.{entry_of, nothing_at, new_entry_at, range_entry_at, RawPlace};
-ghost use Rattle.gimli_lists.specs.Ranges.{next_raw};
+ghost use Rattle.gimli_lists.specs.RawList.{IsFirstOf, pair_at, old_entry_at, index_at};
+ghost use Rattle.gimli_lists.specs.RangeEntry.{entry_of, nothing_at, new_entry_at, range_grammar};
+ghost use Rattle.gimli_lists.specs.Places.{RawPlace, next_raw, raw_list_ahead};
 ghost use Rattle.gimli_lists.specs.Resolved.{transposed};
 
+use crate::lists::ListsFormat;
 use gimli_base::{
     DW_RLE_base_address, DW_RLE_base_addressx, DW_RLE_end_of_list, DW_RLE_offset_pair,
     DW_RLE_start_end, DW_RLE_start_length, DW_RLE_startx_endx, DW_RLE_startx_length,
     DebugAddrIndex, DwRle, Encoding, Error, Reader, ReaderAddress, ReaderOffset, Result,
 };
 use std::marker::Model;
-
-/// How a list is written.
-#[derive(Clone, Copy, Debug, PartialEq, Eq)]
-pub(crate) enum RangeListsFormat {
-    /// Pairs of addresses, up to version 4.
-    Bare,
-    /// A code and operands, since version 5.
-    Rle,
-}
 
 /// An entry of a range list, as it is written.
 #[derive(Debug, Drop)]
@@ -164,7 +156,7 @@ impl RawRange {
 
 // The next index of an address; where it is refused, the input is left anywhere.
 #[inline]
-fn read_index<R: Reader>(input: &mut R) -> Result<DebugAddrIndex<R::Offset>>
+pub(crate) fn read_index<R: Reader>(input: &mut R) -> Result<DebugAddrIndex<R::Offset>>
     ensures { read (answer_of (λ i. R.Offset.number i.0) result) (R.view input.new) ≡ index_at R.Offset.limit (R.view input.old) }
 {
     let number = input.read_uleb128()?;
@@ -245,13 +237,13 @@ fn parse_rle<R: Reader>(
 fn parse_entry<R: Reader>(
     input: &mut R,
     encoding: Encoding,
-    format: RangeListsFormat,
+    format: ListsFormat,
 ) -> Result<Option<RawRngListEntry<R::Offset>>>
-    ensures { read (answer_of (option_map (entry_of R.Offset.number)) result) (R.view input.new) ≡ range_entry_at R.Offset.limit format encoding.address_size (R.view input.old) }
+    ensures { read (answer_of (option_map (entry_of R.Offset.number)) result) (R.view input.new) ≡ range_grammar R.Offset.limit format encoding (R.view input.old) }
 {
     match format {
-        RangeListsFormat::Bare => parse_bare(input, encoding.address_size),
-        RangeListsFormat::Rle => parse_rle(input, encoding.address_size),
+        ListsFormat::Bare => parse_bare(input, encoding.address_size),
+        ListsFormat::Coded => parse_rle(input, encoding.address_size),
     }
 }
 
@@ -260,7 +252,7 @@ fn parse_entry<R: Reader>(
 pub struct RawRngListIter<R: Reader> {
     input: R,
     encoding: Encoding,
-    format: RangeListsFormat,
+    format: ListsFormat,
 }
 
 impl<R: Reader> Model for RawRngListIter<R> {
@@ -271,7 +263,7 @@ impl<R: Reader> Model for RawRngListIter<R> {
 
 impl<R: Reader> RawRngListIter<R> {
     // The list that begins where the input begins.
-    pub(crate) fn new(input: R, encoding: Encoding, format: RangeListsFormat) -> RawRngListIter<R>
+    pub(crate) fn new(input: R, encoding: Encoding, format: ListsFormat) -> RawRngListIter<R>
         ensures { result ≡ record { rest = R.view input; encoding = encoding; format = format } }
     {
         RawRngListIter {
@@ -292,9 +284,12 @@ impl<R: Reader> RawRngListIter<R> {
     ///
     /// Refusals: `UnexpectedEof`, `BadUnsignedLeb128`, `UnsupportedAddressSize`, `UnsupportedOffset` for an index that
     /// does not fit, `UnknownRangeListsEntry`. Nothing is left behind the end, and behind a refusal.
-    #[tactic(auto, unfolding(crate::specs::RawList::next_entry, crate::specs::Ranges::next_raw))]
+    #[tactic(auto, unfolding(crate::specs::RawList::next_entry, crate::specs::Places::next_raw))]
     pub fn next(&mut self) -> Result<Option<RawRngListEntry<R::Offset>>>
-        ensures value { (answer_of (option_map (entry_of R.Offset.number)) result, self.new) ≡ next_raw R.Offset.limit self.old }
+        ensures value { (answer_of (option_map (entry_of R.Offset.number)) result, self.new) ≡ next_raw (range_grammar R.Offset.limit) self.old }
+
+        // An entry stands in front of those that are left; no entry and a refusal say how the list ends.
+        ensures ahead { IsFirstOf (answer_of (option_map (entry_of R.Offset.number)) result) (raw_list_ahead (range_grammar R.Offset.limit) self.old) (raw_list_ahead (range_grammar R.Offset.limit) self.new) }
         ensures takes { MatchResult result (λ entry. OnSome entry (length self.new.rest.bytes < length self.old.rest.bytes)) (λ _. length self.new.rest.bytes < length self.old.rest.bytes) }
     {
         if self.input.is_empty() {
@@ -321,7 +316,7 @@ impl<R: Reader> RawRngListIter<R> {
 impl<R: Reader> Iterator for RawRngListIter<R> {
     type Item = Result<RawRngListEntry<R::Offset>>;
 
-    ghost next_gives = { λ s r t. (answer_of (option_map (entry_of R.Offset.number)) (transposed r), t) ≡ next_raw R.Offset.limit s };
+    ghost next_gives = { λ s r t. ((answer_of (option_map (entry_of R.Offset.number)) (transposed r), t) ≡ next_raw (range_grammar R.Offset.limit) s) × IsFirstOf (answer_of (option_map (entry_of R.Offset.number)) (transposed r)) (raw_list_ahead (range_grammar R.Offset.limit) s) (raw_list_ahead (range_grammar R.Offset.limit) t) };
 
     ghost remaining = { λ s. at_most (length s.rest.bytes) };
 

@@ -1,80 +1,12 @@
 use super::{Start, lists, range, ranges_from, tries_answers};
+use crate::pieces::{ADDRESSES, Piece, highest, push_header, push_pieces};
 use crate::samples::{part, whole};
+use Piece::{Address, BelowHighest, Bytes, Highest, HighestNumber};
 use gimli_base::{DebugAddr, Encoding, Format, LittleEndian, RangeListsOffset, Reader, Result};
 use gimli_lists::{Range, RawRngListEntry};
 use std::alloc::{AllocError, Global};
 use std::process::Abort;
 use std::test::Fail;
-
-// A part of a list whose addresses have four or eight bytes.
-#[derive(Clone, Copy)]
-enum Piece {
-    // these bytes
-    Bytes(&'static [u8]),
-    // an address
-    Address(u64),
-    // the highest address
-    Highest,
-    // the address below the highest
-    BelowHighest,
-    // the highest address as a LEB128 number
-    HighestNumber,
-}
-
-use Piece::{Address, BelowHighest, Bytes, Highest, HighestNumber};
-
-// The highest address of a size.
-fn highest(size: u8) -> u64 {
-    if size == 4 { 0xffff_ffff } else { u64::MAX }
-}
-
-fn push_address(
-    bytes: &mut Vec<u8>,
-    size: u8,
-    address: u64,
-) -> std::result::Result<(), AllocError> {
-    let all = address.to_le_bytes();
-    if size == 4 {
-        bytes.extend_from_slice(&all[..4])
-    } else {
-        bytes.extend_from_slice(&all)
-    }
-}
-
-fn push_piece(bytes: &mut Vec<u8>, size: u8, piece: Piece) -> std::result::Result<(), AllocError> {
-    match piece {
-        Bytes(own) => bytes.extend_from_slice(own),
-        Address(address) => push_address(bytes, size, address),
-        Highest => push_address(bytes, size, u64::MAX),
-        BelowHighest => push_address(bytes, size, u64::MAX - 1),
-        HighestNumber if size == 4 => bytes.extend_from_slice(&[0xff, 0xff, 0xff, 0xff, 0x0f]),
-        HighestNumber => bytes.extend_from_slice(&[
-            0xff, 0xff, 0xff, 0xff, 0xff, 0xff, 0xff, 0xff, 0xff, 0x01,
-        ]),
-    }
-}
-
-// Adds these pieces to a list.
-fn push_pieces(
-    bytes: &mut Vec<u8>,
-    size: u8,
-    pieces: &[Piece],
-) -> std::result::Result<(), AllocError> {
-    for piece in pieces {
-        push_piece(bytes, size, *piece)?;
-    }
-    Ok(())
-}
-
-const ADDRESSES: [Piece; 7] = [
-    Address(0x0300_0000),
-    Address(0x0301_0300),
-    Address(0x0301_0400),
-    Address(0x0301_0500),
-    Highest,
-    Address(0x0301_0600),
-    Address(0),
-];
 
 // Entries whose ranges are kept.
 const KEPT: [Piece; 21] = [
@@ -159,20 +91,6 @@ fn tries_new<R: Reader>(rt: &impl Abort, none: R, reader: R, addr: R, start: Sta
         ..start
     };
     tries_answers(rt, ranges_from(rt, &of_both, end, &table, 0), &[]);
-}
-
-// A header before a list whose length field says how many bytes follow it.
-fn push_header(
-    bytes: &mut Vec<u8>,
-    format: Format,
-    size: u8,
-) -> std::result::Result<(), AllocError> {
-    if format == Format::Dwarf64 {
-        bytes.extend_from_slice(&[0xff, 0xff, 0xff, 0xff, 0x80, 0, 0, 0, 0, 0, 0, 0])?;
-    } else {
-        bytes.extend_from_slice(&[0x80, 0, 0, 0])?;
-    }
-    bytes.extend_from_slice(&[5, 0, size, 0, 0, 0, 0, 0])
 }
 
 fn tries_new_lists(

@@ -1,7 +1,8 @@
 use Rattle.std.proofs.Common.{rules, ◌≡◌, ◌++◌, [], ◌∷◌, refl, sym, ap, ◌∙◌, arith, map, drop, get_or, length, length-append}
 use Rattle.std.proofs.lemmas.List.{drop_more, map-append}
 use Rattle.gimli_walk.specs.declared.cursor.CursorStep.TheVariants.{NextEntry}
-use Rattle.gimli_walk.specs.Cursors.{seen}
+use Rattle.std.proofs.lemmas.List.Elements.{All-append, All-cons, All-nil}
+use Rattle.gimli_walk.specs.Cursors.{seen, IsPaired}
 use Rattle.gimli_walk.proofs.CursorRuns.{run_more, run_done}
 use Rattle.gimli_walk.proofs.cursor.run_steps.Goals as goal
 
@@ -22,5 +23,6 @@ steps-preserved g c =
     let next = drop_more c.args.steps.now c.steps.step-index NextEntry c.steps-test.true in
     record {
       completes = run_more g.R.Offset.ReaderOffset.limit c.args.cursor.now c.steps.cursor c.next_answer.new.cursor c.args.steps.now c.steps.step-index _ (map f c.steps.answers.items) _ (f c.in-Ok.answer) next c.in-Ok.ensures.answered seen_items c.steps.invariant.completes;
+      paired = rw items (All-append (IsPaired g.R.Offset.ReaderOffset.number) c.steps.answers.items (c.in-Ok.answer ∷ []) c.steps.invariant.paired (All-cons (IsPaired g.R.Offset.ReaderOffset.number) c.in-Ok.answer [] c.in-Ok.ensures.paired (All-nil (IsPaired g.R.Offset.ReaderOffset.number))));
       count = omega (arith, ap length items, length-append c.steps.answers.items (c.in-Ok.answer ∷ []), c.steps.invariant.count);
     }

@@ -1,5 +1,6 @@
 use Rattle.std.proofs.Common.{◌≡◌, ◌++◌, List, length, map, drop}
-use Rattle.gimli_walk.specs.Cursors.{Answer, seen}
+use Rattle.std.specs.List.{All}
+use Rattle.gimli_walk.specs.Cursors.{Answer, seen, IsPaired}
 use Rattle.gimli_walk.specs.CursorTurns.{HasRun}
 use Rattle.gimli_walk.proofs.cursor.run_steps.Given as goal
 
@@ -9,5 +10,6 @@ invariant-steps g l =
     let answered = map (seen g.R.Reader.view g.R.Offset.ReaderOffset.number) l.answers.items in
     record {
       completes : (rest : List Answer) → HasRun g.R.Offset.ReaderOffset.limit l.cursor (drop l.step-index l.steps) rest → HasRun g.R.Offset.ReaderOffset.limit l.initial.cursor l.steps (answered ++ rest);
+      paired : All (IsPaired g.R.Offset.ReaderOffset.number) l.answers.items;
       count : length l.answers.items ≡ l.step-index;
     }

@@ -4,7 +4,9 @@ use Rattle.gimli_units.specs.UnitKind.{map_type}
 use Rattle.gimli_units.specs.Unit.{UnitView}
 use Rattle.gimli_walk.proofs.WrittenLines.{Wrote-same_if}
 use Rattle.gimli_walk.proofs.Roots.{root_text, root_refused}
+use Rattle.gimli_walk.specs.TreeText.{tree_lines, no_tree}
 use Rattle.gimli_walk.proofs.AnswerLines.{if_ok, run_lines}
+use Rattle.gimli_walk.proofs.TreeLines.{tree_run_lines, no_tree_line}
 use Rattle.gimli_walk.proofs.text.walk_declared.Goals as goal
 
 pub returns-in-Ok-clause-text : goal.returns-in-Ok-clause-text
@@ -78,3 +80,28 @@ returns-in-Ok-run_cursor_plain-clause-true_lines g c =
 
 pub returns-in_ok-write_error-in-Err-run_cursor-clause-true_lines : goal.returns-in_ok-write_error-in-Err-run_cursor-clause-true_lines
 returns-in_ok-write_error-in-Err-run_cursor-clause-true_lines g c = let never = c.in-Err-run_cursor.ensures.refused in absurd (cc)
+
+pub returns-in-Ok-run_tree-clause-text : goal.returns-in-Ok-run_tree-clause-text
+returns-in-Ok-run_tree-clause-text g c h =
+    let number = g.R.Offset.ReaderOffset.number in
+    let unit : UnitView = record {
+      encoding = c.args.unit.now.encoding;
+      unit_length = number c.args.unit.now.unit_length;
+      kind = map_type number c.args.unit.now.unit_type;
+      abbreviations = number c.args.unit.now.debug_abbrev_offset.0;
+      section = c.args.unit.now.section;
+      offset = number c.args.unit.now.unit_offset.0;
+      entries = g.R.Reader.view c.args.unit.now.entries_buf;
+    } in
+    let honest = rw c.in-Tree.is at h in
+    let run = c.in-Ok-run_tree.run' in
+    rw c.in-Tree.is (tree_run_lines g.R.Offset.ReaderOffset.limit unit (found c.args.abbreviations.now) c.in-Tree.steps.now _ _ g.R.Reader.view number run.answers.items run.stopped c.write_tree_run.result
+    (c.in-Ok-run_tree.ensures.answers honest) c.in-Ok-run_tree.ensures.stopped c.write_tree_run.ensures)
+
+pub returns-in-Ok-run_tree-clause-true_lines : goal.returns-in-Ok-run_tree-clause-true_lines
+returns-in-Ok-run_tree-clause-true_lines g c =
+    rw c.in-Tree.is (if_ok c.write_tree_run.result (λ status w. tree_lines _ _ c.in-Ok-run_tree.ensures.true_answers c.in-Ok-run_tree.ensures.growing w) c.write_tree_run.ensures)
+
+pub returns-in_ok-write_error-in-Err-run_tree-clause-true_lines : goal.returns-in_ok-write_error-in-Err-run_tree-clause-true_lines
+returns-in_ok-write_error-in-Err-run_tree-clause-true_lines g c =
+    rw c.in-Tree.is (no_tree c.in-Err-run_tree.error c.in-Err-run_tree.ensures.refused c.in_ok-write_error-in-Err-run_tree.ensures refl)

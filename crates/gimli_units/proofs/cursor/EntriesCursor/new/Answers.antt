@@ -9,4 +9,5 @@ invariant_of-result g c =
       fits = c.requires.fits;
       next_shallow = c.requires.shallow;
       behind = λ entry. absurd (cc);
+      past = λ entry. absurd (cc);
     })

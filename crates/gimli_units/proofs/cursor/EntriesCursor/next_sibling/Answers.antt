@@ -1,36 +1,29 @@
-use Rattle.std.proofs.Common.{rules, ◌≡◌, refl, sym, ap, ◌∙◌, arith, false, w64, FitsSigned}
-use Rattle.std.proofs.lemmas.Bool.{not-true, not-false}
-use Rattle.std.proofs.lemmas.Int.{to_z-of_z}
-use Rattle.gimli_units.specs.CursorMoves.{CursorView}
-use Rattle.gimli_units.proofs.Onward.{unless_then}
-use Rattle.gimli_units.proofs.Walking.{sibling_sought, no_sibling}
+use Rattle.std.proofs.Common.{rules, ◌≡◌, refl, sym, ◌∙◌, Err}
+use Rattle.gimli_units.specs.CursorLent.{HasWalkedOver}
 use Rattle.gimli_units.proofs.cursor.EntriesCursor.next_sibling.Goals as goal
 
-pub returns-then-not-is_on_entry-clause-moves : goal.returns-then-not-is_on_entry-clause-moves
-returns-then-not-is_on_entry-clause-moves g c h =
-    no_sibling g.R.Offset.ReaderOffset.limit c.args.self.now (not-false _ (sym c.is_on_entry.ensures ∙ c.if-not-is_on_entry.true))
-
-pub returns-clause-moves : goal.returns-clause-moves
-returns-clause-moves g c h =
-    let entry = not-true _ (sym c.is_on_entry.ensures ∙ c.if-not-is_on_entry.false) in
-    let e = c.self.inside.entry in
-    let fits : FitsSigned w64 e.depth = search rules in
-    let deep = to_z-of_z w64 e.depth fits ∙ ap (λ (x : CursorView). x.depth) c.self.view_is in
-    let at = ap (λ (x : CursorView). x.offset) c.self.view_is in
-    let found = rw (deep, at) at c.seek.ensures.found in
-    unless_then c.seek.result (found h) (λ k. k ∙ sibling_sought g.R.Offset.ReaderOffset.limit c.args.self.now entry)
-
-pub returns-clause-refused_there : goal.returns-clause-refused_there
-returns-clause-refused_there g c e h t leads =
-    let x = c.self.inside.entry in
-    let fits : FitsSigned w64 x.depth = search rules in
-    let deep = to_z-of_z w64 x.depth fits ∙ ap (λ (x : CursorView). x.depth) c.self.view_is in
-    (rw deep at c.seek.ensures.refused_there) e h t leads refl
-
-pub returns-clause-not_found : goal.returns-clause-not_found
-returns-clause-not_found g c h some =
-    let x = c.self.inside.entry in
-    let fits : FitsSigned w64 x.depth = search rules in
-    let deep = to_z-of_z w64 x.depth fits ∙ ap (λ (x : CursorView). x.depth) c.self.view_is in
-    let at = ap (λ (x : CursorView). x.offset) c.self.view_is in
-    (rw (deep, at) at c.seek.ensures.no) h
+pub returns-in_err-walk_over : goal.returns-in_err-walk_over
+returns-in_err-walk_over g c =
+    let w = c.walk_over.ensures in
+    let r : c.from_residual.result ≡ Err c.in_err-walk_over.field-0.0 = search rules in
+    let fails : c.walk_over.result ≡ Err c.in_err-walk_over.field-0.0 = search rules in
+    let walked : HasWalkedOver g.R.Offset.ReaderOffset.limit c.args.self.now c.walk_over.result c.walk_over.new.self = record {
+      moves = w.moves;
+      idle = w.idle;
+      true_entry = w.true_entry;
+      refused = w.refused;
+      place = w.place;
+      taken = w.taken;
+      one_read = w.one_read;
+      refused_there = w.refused_there;
+      not_found = w.not_found;
+      counted = w.counted;
+      plain = w.plain;
+      shorter = w.shorter;
+      none = w.none;
+      more = w.more;
+      few = w.few;
+      further = w.further;
+      unit = w.unit;
+    } in
+    rw r ((refl, (λ w. tt), (rw fails at walked, tt)), record { leaves = tt })

@@ -1,0 +1,74 @@
+//! The walk over the entries of a list, of ranges or of locations alike, up to one that stands for something.
+
+ghost use Rattle.std.specs.Prelude.{◌≡◌, ℕ, ◌<◌, length, MatchResult, IfOk, IfSome, IfNone, OnSome};
+ghost use Rattle.std.specs.Option.{option_map};
+ghost use Rattle.gimli_base.specs.Offset.{answer_of};
+ghost use Rattle.gimli_lists.specs.ListSteps.{IsSound};
+ghost use Rattle.gimli_lists.specs.Places.{Grammar, TakesBytes, ListPlace, next_raw, converted, answers_ahead, InList, IsBehind, IsSpent, read_from};
+ghost use Rattle.gimli_lists.specs.RawList.{Entry};
+ghost use Rattle.gimli_lists.specs.Resolved.{Resolved, answered};
+
+use gimli_base::Result;
+
+/// A list whose entries are read one by one, and whose base address each of them may change.
+pub(crate) trait EntryWalk {
+    /// An entry, as it is written.
+    type Entry;
+    /// What an entry stands for.
+    type Item;
+
+    // what stands behind the operands of an entry
+    ghost Payload: { Type 0 };
+
+    // the offsets of the list's reader are the numbers below this
+    ghost limit: { ℕ };
+
+    // how the entries are read
+    ghost grammar: { Grammar Payload };
+
+    // where the walk stands
+    ghost place: { Self → ListPlace };
+
+    // the entry that code holds
+    ghost written: { Self.Entry → Entry Payload };
+
+    // what code holds of an entry's meaning
+    ghost resolved: { Self.Item → Resolved Payload };
+
+    /// The next entry, or none behind the last; nothing is left behind a refusal.
+    fn take_raw(&mut self) -> Result<Option<Self::Entry>>
+        ensures value { (answer_of (option_map written) result, (place self.new).raw) ≡ next_raw grammar (place self.old).raw }
+        ensures same { place self.new ≡ record (place self.old) { raw = (place self.new).raw } }
+        ensures takes { MatchResult result (λ entry. OnSome entry (length (place self.new).raw.rest.bytes < length (place self.old).raw.rest.bytes)) (λ _. length (place self.new).raw.rest.bytes < length (place self.old).raw.rest.bytes) };
+
+    /// What an entry stands for, or none.
+    fn convert(&mut self, raw: Self::Entry) -> Result<Option<Self::Item>>
+        ensures { (answer_of (option_map resolved) result, place self.new) ≡ converted limit (written raw) (place self.old) };
+
+    ghost takes_bytes: { TakesBytes grammar };
+}
+
+/// What the next entry stands for that stands for something, or none behind the last entry.
+#[inline]
+pub(crate) fn next_item<W: EntryWalk>(walk: &mut W) -> Result<Option<W::Item>>
+    ensures ahead { answers_ahead W.grammar W.limit (W.place walk.old) ≡ answered (answer_of (option_map W.resolved) result) (answers_ahead W.grammar W.limit (W.place walk.new)) }
+
+    // The entries that stand for nothing are read, and the one behind them; the base before the others is at hand.
+    ensures place { IsBehind W.grammar W.limit (read_from W.grammar W.limit (W.place walk.old)) (W.place walk.old) (W.place walk.new) }
+    ensures same { InList (W.place walk.old) (W.place walk.new) }
+    ensures takes { MatchResult result (λ item. OnSome item (length (W.place walk.new).raw.rest.bytes < length (W.place walk.old).raw.rest.bytes)) (λ _. length (W.place walk.new).raw.rest.bytes < length (W.place walk.old).raw.rest.bytes) }
+    ensures ended { IfOk result (λ item. IfNone item (length (W.place walk.new).raw.rest.bytes ≡ 0)) }
+
+    // Where none of the entries that are left answers anything, nothing is left, whether the list ends or is refused.
+    ensures spent { IsSpent W.grammar W.limit (W.place walk.old) (W.place walk.new) }
+
+    // What stands for addresses begins below its end, and below the least address that stands for none.
+    ensures sound { IfOk result (λ item. IfSome item (λ i. IsSound (W.place walk.old).raw.encoding.address_size (W.resolved i))) }
+{
+    'entries: while let Some(raw) = walk.take_raw()? {
+        if let Some(item) = walk.convert(raw)? {
+            return Ok(Some(item));
+        }
+    }
+    Ok(None)
+}

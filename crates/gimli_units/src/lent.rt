@@ -1,0 +1,39 @@
+//! The steps of a cursor that lend their entry.
+
+ghost use Rattle.std.specs.Prelude.{[]};
+ghost use Rattle.std.specs.Borrow.{sem};
+ghost use mir.Syntax.{named};
+ghost use Rattle.gimli_units.specs.contracts.cursor.EntriesCursor.{the_row};
+ghost use Rattle.gimli_units.specs.CursorLent.{HasWalked, HasWalkedOver, LendsEntry};
+
+use crate::{DebuggingInformationEntry, EntriesCursor};
+use gimli_base::{Reader, Result};
+use std::alloc::Allocator;
+
+impl<'abbrev, R: Reader, A: Allocator> EntriesCursor<'abbrev, R, A> {
+    /// Reads on to the next entry that is no null, and lends it. Answers `None` at the end, and then there is no current entry.
+    ///
+    /// Refusals: those of `next_entry`.
+    pub fn next_dfs(&mut self) -> Result<Option<&DebuggingInformationEntry<R, A>>>
+        ensures* leaves { sem 𝓛 (LendsEntry (the_row (record { mir = named 0; lft = [] }) R.row A.row R.Endian.row R.Offset.row R.Endian.Kept.row (record { view = R.view }) (record { debug_output = R.debug_output }) (record { big = R.Endian.big; kept = R.Endian.kept; order = R.Endian.order }) (record { debug_output = R.Endian.debug_output }) (record { eq = R.Endian.eq }) (record { number = R.Offset.number; limit = R.Offset.limit }) (record { debug_output = R.Offset.debug_output }) (record { eq = R.Offset.eq }) (record { cmp = R.Offset.cmp }) (record { partial_cmp = R.Offset.partial_cmp }) A.Allocator) (λ c. c) R.view R.Offset.number (HasWalked R.Offset.limit) self.entry result) }
+    {
+        self.walk_on()?;
+        Ok(self.current())
+    }
+
+    /// Goes to the next sibling of the current entry, and lends it: the next entry of its depth, before the null that closes
+    /// their list. Answers `None` where there is none, and then there is no current entry; at the end of the input the cursor is
+    /// set back to the entry's offset and depth. Without a current entry it answers `None` and moves nothing.
+    ///
+    /// Where the cursor follows references, an entry whose `DW_AT_sibling` leads on in the unit is left for where it leads,
+    /// with its children unread. So it answers as plain walking does where those references are honest; any others lead to an
+    /// entry of the unit, too.
+    ///
+    /// Refusals: those of `next_entry`.
+    pub fn next_sibling(&mut self) -> Result<Option<&DebuggingInformationEntry<R, A>>>
+        ensures* leaves { sem 𝓛 (LendsEntry (the_row (record { mir = named 0; lft = [] }) R.row A.row R.Endian.row R.Offset.row R.Endian.Kept.row (record { view = R.view }) (record { debug_output = R.debug_output }) (record { big = R.Endian.big; kept = R.Endian.kept; order = R.Endian.order }) (record { debug_output = R.Endian.debug_output }) (record { eq = R.Endian.eq }) (record { number = R.Offset.number; limit = R.Offset.limit }) (record { debug_output = R.Offset.debug_output }) (record { eq = R.Offset.eq }) (record { cmp = R.Offset.cmp }) (record { partial_cmp = R.Offset.partial_cmp }) A.Allocator) (λ c. c) R.view R.Offset.number (HasWalkedOver R.Offset.limit) self.entry result) }
+    {
+        self.walk_over()?;
+        Ok(self.current())
+    }
+}

@@ -1,0 +1,272 @@
+//! The entries of a unit as a tree.
+
+ghost use Rattle.std.specs.Prelude.{◌≡◌, ℕ, ◌+◌, ◌-◌, ◌<◌, ◌≤◌, ◌^◌, length, unsigned_abs, Ok, Err, Some, None, false, true, pos, IfOk, IfErr, IfSome, IsOk, OnErr, [], ◌∷◌};
+ghost use Rattle.std.specs.Option.{option_map};
+ghost use Rattle.gimli_base.specs.declared.error.Error.{Error as SpecError};
+ghost use Rattle.gimli_base.specs.declared.error.Error.TheVariants.{OutOfMemory};
+ghost use Rattle.gimli_base.specs.Offset.{answer_of};
+ghost use Rattle.gimli_base.specs.Reading.{UnlessMemory};
+ghost use Rattle.gimli_units.specs.Entry.{entry_of, is_null};
+ghost use Rattle.gimli_units.specs.CursorPlace.{first_of_rows};
+ghost use Rattle.gimli_units.specs.CursorMoves.{CursorView, rows_of, rows_from, view_from, followed_to, one_if_left, IsHonestFor, IsTrueEntry, IsRefused, IsOver, AreFewReads};
+ghost use Rattle.gimli_units.specs.TreePlace.{children_of, to_root, to_next, found_in};
+ghost use Rattle.gimli_units.specs.TreeMoves.{TreeView, node_at, list_of, on_node, in_lists, before_root, tree_from, told_root, told_next, IsTree, IsNoRoot, HasBegun, IsRefusedWithin, HasGoneOn, IsInside};
+
+use crate::{
+    DebuggingInformationEntry, EntriesCursor, EntriesRaw, HasUnit, UnitHeader, UnitOffset,
+};
+use gimli_base::{Abbreviations, Error, Reader, ReaderOffset, Result};
+use std::alloc::Allocator;
+use std::marker::Model;
+
+/// The entries of a unit as a tree: an entry with children has those below it that come before the null that closes their
+/// list (DWARF 5, 2.3).
+///
+/// Nodes and lists of children lend the one tree for writing, so that one path from the root is walked at a time. A walk
+/// that goes down by nested calls takes as much of the machine's stack as the entries are deep.
+#[derive(Drop)]
+#[derive_where(Debug)]
+pub struct EntriesTree<'abbrev, R: Reader, A: Allocator> {
+    // where the entries of the tree begin
+    start: EntriesRaw<'abbrev, R, A>,
+    // stands on the entry that was read last
+    cursor: EntriesCursor<'abbrev, R, A>,
+}
+
+impl<'abbrev, R: Reader, A: Allocator> Model for EntriesTree<'abbrev, R, A> {
+    ghost Value = { TreeView };
+
+    ghost view = { λ t. record { start = t.start; cursor = t.cursor } };
+
+    ghost invariant = { λ t. IsTree (record { start = t.start; cursor = t.cursor }) };
+}
+
+impl<R: Reader> UnitHeader<R> {
+    ghost use Rattle.gimli_units.specs.Unit.{UnitView};
+
+    /// The entries from an offset on as a tree, or those from the first; sibling references are followed. Refusal:
+    /// `OffsetOutOfBounds`, also without an offset where the unit has no bytes of entries.
+    pub fn entries_tree<'abbrev, A: Allocator + Copy>(
+        &self,
+        alloc: A,
+        abbreviations: &'abbrev Abbreviations<A>,
+        offset: Option<UnitOffset<R::Offset>>,
+    ) -> Result<EntriesTree<'abbrev, R, A>>
+        ensures { result ≡ tree_from (⟦<UnitHeader<R> as HasUnit>⟧.unit self.now) abbreviations.now (option_map (λ o. R.Offset.number o.0) offset) }
+    {
+        let start = self.entries_raw(abbreviations, offset)?;
+        Ok(EntriesTree::new(alloc, start))
+    }
+}
+
+impl<'abbrev, R: Reader, A: Allocator + Copy> EntriesTree<'abbrev, R, A> {
+    // A tree of the entries that `start` reads.
+    fn new(alloc: A, start: EntriesRaw<'abbrev, R, A>) -> Self
+        requires some { 0 < length start.rest.bytes }
+        requires small { length start.rest.bytes < 2 ^ 63 }
+        requires fits { length start.rest.bytes ≤ start.end }
+        requires depth { start.depth ≡ pos 0 }
+        ensures { result ≡ before_root start.entry }
+    {
+        let cursor = EntriesCursor::new(alloc, start.copy(), true);
+        EntriesTree { start, cursor }
+    }
+
+    /// A tree that stands where this one stands. Refusal: `OutOfMemory`, only where the entry that was read last has
+    /// attributes.
+    pub fn try_clone(&self, alloc: A) -> Result<Self>
+        ensures value { IfOk result (λ t. t ≡ self.now) }
+        ensures refusal { IfErr result (λ e. e ≡ OutOfMemory) }
+        ensures without_memory { self.now.cursor.entry.attributes ≡ [] → IsOk result }
+    {
+        Ok(EntriesTree {
+            start: self.start.copy(),
+            cursor: self.cursor.try_clone(alloc)?,
+        })
+    }
+}
+
+impl<'abbrev, R: Reader, A: Allocator> EntriesTree<'abbrev, R, A> {
+    /// How many entries were read since the root was asked for last, nulls and refused ones too.
+    #[inline]
+    pub fn reads(&self) -> usize
+        ensures count { result ≡ self.now.cursor.reads }
+        ensures few { result ≤ length self.now.start.rest.bytes }
+    {
+        self.cursor.reads()
+    }
+
+    /// The entry that was read last, a null where there is none.
+    #[inline]
+    pub fn entry(&self) -> &DebuggingInformationEntry<R, A>
+        ensures entry { entry_of R.view R.Offset.number result.now.tag result.now.has_children result.now.attrs.items ≡ self.now.cursor.entry }
+        ensures offset { R.Offset.number result.now.offset.0 ≡ self.now.cursor.offset }
+        ensures depth { result.now.depth ≡ self.now.cursor.depth }
+    {
+        self.cursor.last()
+    }
+
+    /// The depth of what is read next: that of the children of the entry that was read last, where it has any.
+    #[inline]
+    pub fn next_depth(&self) -> isize
+        ensures depth { result ≡ self.now.cursor.raw.depth }
+        ensures children { is_null self.now.cursor.entry ≡ false → list_of self.now.cursor.entry.has_children result ≡ children_of (node_at self.now) }
+        ensures shallow { unsigned_abs result < 2 ^ 63 }
+        ensures tree { IsTree self.now }
+    {
+        self.cursor.next_depth()
+    }
+
+    /// Goes to the root, as `root` does, without lending the tree.
+    pub fn go_to_root(&mut self) -> Result<()>
+        ensures { HasBegun R.Offset.limit self.old result self.new }
+    {
+        let start = self.start.copy();
+        self.cursor.restart(start);
+        self.cursor.read_next()?;
+        let entry = self.cursor.last();
+        if entry.is_null() {
+            return Err(Error::NoEntryAtGivenOffset(entry.offset().0.into_u64()));
+        }
+        Ok(())
+    }
+
+    /// Goes to the next entry of a depth, as `EntriesTreeIter::next` does, without lending the tree; the depth is not the
+    /// least of its type. Answers false at a null of that depth, and at the end of the bytes.
+    pub fn go_to_next(&mut self, depth: isize) -> Result<bool>
+        requires { unsigned_abs depth < 2 ^ 63 }
+        ensures { HasGoneOn R.Offset.limit depth self.old result self.new }
+    {
+        let offset = self.cursor.offset();
+        let found = self.cursor.seek(offset, depth);
+        let _ = self.cursor.last();
+        found
+    }
+}
+
+/// A node of a tree: the entry that was read last. Whoever holds it may take its children's list, or let it go.
+#[derive(Drop)]
+#[derive_where(Debug)]
+pub struct EntriesTreeNode<'abbrev, 'tree, R: Reader, A: Allocator> {
+    /// The tree, which stands on the node's entry.
+    pub tree: &'tree mut EntriesTree<'abbrev, R, A>,
+}
+
+/// The children of a node of a tree, one behind the other. Whatever was left unread below one does not change which comes
+/// next, where the sibling references that are followed are honest.
+#[derive(Drop)]
+#[derive_where(Debug)]
+pub struct EntriesTreeIter<'abbrev, 'tree, R: Reader, A: Allocator> {
+    /// The tree, which stands on the entry that was read last.
+    pub tree: &'tree mut EntriesTree<'abbrev, R, A>,
+    /// The depth of the children.
+    pub depth: isize,
+    /// Whether the list is open: it is closed behind its last child, and from the first where no children follow.
+    pub open: bool,
+}
+
+impl<'abbrev, R: Reader, A: Allocator> EntriesTree<'abbrev, R, A> {
+    /// Goes to the root, the first entry, at depth 0; whatever was walked before, the tree begins anew.
+    ///
+    /// Refusals: those of `EntriesRaw::read_entry`, and `NoEntryAtGivenOffset` at a null. The tree is then ready for another
+    /// `root`.
+    pub fn root<'me>(&'me mut self) -> Result<EntriesTreeNode<'abbrev, 'me, R, A>>
+        ensures same_reference { IfOk result (λ node. node.tree.ghost_name ≡ self.entry.ghost_name) }
+        ensures answers { UnlessMemory result (told_root (answer_of (λ node. node.tree.now) result) ≡ (to_root self.old.start.end (rows_of R.Offset.limit self.old.start)).told) }
+        ensures place { IfOk result (λ node. on_node R.Offset.limit node.tree.now [] ≡ (to_root self.old.start.end (rows_of R.Offset.limit self.old.start)).place) }
+        ensures begun { IfOk result (λ node. HasBegun R.Offset.limit self.old (Ok tt) node.tree.now) }
+        ensures refused { IfErr result (λ e. IsNoRoot R.Offset.limit self.old.start e) }
+        ensures reads { IfOk result (λ node. node.tree.now.cursor.reads ≡ 1) }
+    {
+        self.go_to_root()?;
+        Ok(EntriesTreeNode { tree: self })
+    }
+}
+
+impl<'abbrev, 'tree, R: Reader, A: Allocator> EntriesTreeNode<'abbrev, 'tree, R, A> {
+    /// The entry.
+    #[inline]
+    pub fn entry(&self) -> &DebuggingInformationEntry<R, A>
+        ensures entry { entry_of R.view R.Offset.number result.now.tag result.now.has_children result.now.attrs.items ≡ self.now.tree.now.cursor.entry }
+        ensures offset { R.Offset.number result.now.offset.0 ≡ self.now.tree.now.cursor.offset }
+        ensures depth { result.now.depth ≡ self.now.tree.now.cursor.depth }
+    {
+        self.tree.entry()
+    }
+
+    /// How many entries were read since the root was asked for last.
+    #[inline]
+    pub fn reads(&self) -> usize
+        ensures count { result ≡ self.now.tree.now.cursor.reads }
+        ensures few { result ≤ length self.now.tree.now.start.rest.bytes }
+    {
+        self.tree.reads()
+    }
+
+    /// The children of the entry; where none follow, the list is closed at once.
+    pub fn children(self) -> EntriesTreeIter<'abbrev, 'tree, R, A>
+        ensures same_reference { result.tree.ghost_name ≡ self.entry.tree.ghost_name }
+        ensures same_tree { result.tree.now ≡ self.entry.tree.now }
+        ensures open { result.open ≡ self.entry.tree.now.cursor.entry.has_children }
+        ensures children { is_null self.entry.tree.now.cursor.entry ≡ false → list_of result.open result.depth ≡ children_of (node_at self.entry.tree.now) }
+        ensures inside { is_null self.entry.tree.now.cursor.entry ≡ false → result.open ≡ true → IsInside result.depth result.tree.now }
+    {
+        let open = self.tree.entry().has_children();
+        let depth = self.tree.next_depth();
+        EntriesTreeIter {
+            tree: self.tree,
+            depth,
+            open,
+        }
+    }
+}
+
+impl<'abbrev, 'tree, R: Reader, A: Allocator> EntriesTreeIter<'abbrev, 'tree, R, A> {
+    /// How many entries were read since the root was asked for last.
+    #[inline]
+    pub fn reads(&self) -> usize
+        ensures count { result ≡ self.now.tree.now.cursor.reads }
+        ensures few { result ≤ length self.now.tree.now.start.rest.bytes }
+    {
+        let tree = &*self.tree;
+        tree.reads()
+    }
+
+    /// The next child: the next entry of the list's depth, before the null that closes the list. Answers none there, at the
+    /// end of the bytes, and always when the list is closed. No entry is so deep as the least number of the depth's type.
+    ///
+    /// An entry whose `DW_AT_sibling` leads on in the unit is left for where it leads, with what is below it unread. So the
+    /// children are those of plain walking where these references are honest; where they are not, a child is still an entry
+    /// of the unit, of the list's depth.
+    ///
+    /// Refusals: those of `EntriesRaw::read_entry`. Every list of the tree is then at its end, until `root` is asked for.
+    pub fn next<'me>(&'me mut self) -> Result<Option<EntriesTreeNode<'abbrev, 'me, R, A>>>
+        ensures answers { unsigned_abs self.old.depth < 2 ^ 63 → IsHonestFor R.Offset.limit self.old.depth self.old.tree.now.cursor → UnlessMemory result (told_next (answer_of (option_map (λ node. node.tree.now)) result) ≡ (to_next self.old.tree.now.start.end (in_lists R.Offset.limit self.old.tree.now (list_of self.old.open self.old.depth ∷ []))).told) }
+        ensures place { IsHonestFor R.Offset.limit self.old.depth self.old.tree.now.cursor → IfOk result (λ o. IfSome o (λ node. on_node R.Offset.limit node.tree.now (list_of self.old.open self.old.depth ∷ []) ≡ (to_next self.old.tree.now.start.end (in_lists R.Offset.limit self.old.tree.now (list_of self.old.open self.old.depth ∷ []))).place)) }
+        ensures true_child { IfOk result (λ o. IfSome o (λ node. IsTrueEntry R.Offset.limit self.old.tree.now.cursor node.tree.now.cursor × (is_null node.tree.now.cursor.entry ≡ false) × (node.tree.now.cursor.depth ≡ self.old.depth))) }
+        ensures refused { IfErr result (λ e. (last : CursorView) × IsRefused R.Offset.limit self.old.tree.now.cursor e last × IsRefusedWithin R.Offset.limit self.old.depth self.old.tree.now.cursor last) }
+        ensures taken { unsigned_abs self.old.depth < 2 ^ 63 → self.old.open ≡ true → self.old.tree.now.cursor.depth ≡ self.old.depth → (t : ℕ) → followed_to self.old.tree.now.cursor ≡ Some t → UnlessMemory result (told_next (answer_of (option_map (λ node. node.tree.now)) result) ≡ (found_in self.old.depth [] (first_of_rows self.old.tree.now.cursor.raw.end self.old.depth self.old.tree.now.cursor.offset (rows_from R.Offset.limit self.old.tree.now.cursor.raw t self.old.depth))).told) }
+        ensures past { IfOk result (λ o. IfSome o (λ node. is_null self.old.tree.now.cursor.entry ≡ false → self.old.tree.now.cursor.offset < node.tree.now.cursor.offset)) }
+        ensures one_read { self.old.tree.now.cursor.depth ≡ self.old.depth → (t : ℕ) → followed_to self.old.tree.now.cursor ≡ Some t → IfOk result (λ o. IfSome o (λ node. node.tree.now.cursor.reads ≡ self.old.tree.now.cursor.reads + one_if_left (view_from self.old.tree.now.cursor.raw t))) }
+        ensures few { IfOk result (λ o. IfSome o (λ node. AreFewReads self.old.tree.now.cursor node.tree.now.cursor)) }
+        ensures gone_on { IfOk result (λ o. IfSome o (λ node. HasGoneOn R.Offset.limit self.old.depth self.old.tree.now (Ok true) node.tree.now)) }
+        ensures inside { unsigned_abs self.old.depth < 2 ^ 63 → IfOk result (λ o. IfSome o (λ node. IsInside self.old.depth node.tree.now)) }
+        ensures closed { self.old.open ≡ false → result ≡ Ok None }
+        ensures over { IsOver self.old.tree.now.cursor → result ≡ Ok None }
+    {
+        if !self.open {
+            return Ok(None);
+        }
+        if self.depth == isize::MIN {
+            return Ok(None);
+        }
+        let found = self.tree.go_to_next(self.depth)?;
+        if !found {
+            self.open = false;
+            return Ok(None);
+        }
+        Ok(Some(EntriesTreeNode {
+            tree: &mut *self.tree,
+        }))
+    }
+}

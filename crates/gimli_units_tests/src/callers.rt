@@ -1,0 +1,65 @@
+//! Loops over entries, as a user of the library writes them.
+
+use crate::samples::{NESTED_STRINGS, TABLE_NESTED_STRINGS, input, table_of, unit_of, whole};
+use gimli_base::{Abbreviations, LittleEndian, Reader};
+use gimli_units::UnitHeader;
+use std::alloc::Global;
+use std::test::Fail;
+
+// How many entries of a unit have children.
+fn count_parents<R: Reader>(
+    alloc: Global,
+    unit: &UnitHeader<R>,
+    table: &Abbreviations<Global>,
+) -> gimli_base::Result<u64> {
+    let mut cursor = unit.entries(alloc, table);
+    let mut count = 0u64;
+    while let Some(entry) = cursor.next_dfs()? {
+        if entry.has_children() {
+            count = count.wrapping_add(1);
+        }
+    }
+    Ok(count)
+}
+
+// How many children of the root have children of their own.
+fn count_parents_below_the_root<R: Reader>(
+    alloc: Global,
+    unit: &UnitHeader<R>,
+    table: &Abbreviations<Global>,
+) -> gimli_base::Result<u64> {
+    let mut tree = unit.entries_tree(alloc, table, None)?;
+    let mut children = tree.root()?.children();
+    let mut count = 0u64;
+    for _ in 0..u64::MAX {
+        let Some(child) = children.next()? else {
+            break;
+        };
+        if child.entry().has_children() {
+            count = count.wrapping_add(1);
+        }
+    }
+    Ok(count)
+}
+
+#[test]
+fn goes_over_all_entries(rt: HostRuntime) -> Result<(), Fail> {
+    let alloc = rt.alloc();
+    let table = table_of(alloc, &TABLE_NESTED_STRINGS)?;
+    let unit = unit_of(&rt, input(&NESTED_STRINGS, LittleEndian));
+    assert_eq!(rt; count_parents(alloc, &unit, &table)?, 3);
+    let unit = unit_of(&rt, whole(&rt, &NESTED_STRINGS, LittleEndian));
+    assert_eq!(rt; count_parents(alloc, &unit, &table)?, 3);
+    Ok(())
+}
+
+#[test]
+fn goes_over_the_children_of_the_root(rt: HostRuntime) -> Result<(), Fail> {
+    let alloc = rt.alloc();
+    let table = table_of(alloc, &TABLE_NESTED_STRINGS)?;
+    let unit = unit_of(&rt, input(&NESTED_STRINGS, LittleEndian));
+    assert_eq!(rt; count_parents_below_the_root(alloc, &unit, &table)?, 1);
+    let unit = unit_of(&rt, whole(&rt, &NESTED_STRINGS, LittleEndian));
+    assert_eq!(rt; count_parents_below_the_root(alloc, &unit, &table)?, 1);
+    Ok(())
+}
