@@ -1,7 +1,32 @@
-// Lists of ranges and ranges of addresses, by the peer; and the lists that the entries of a corpus name.
+// Lists of ranges and of locations and ranges of addresses, by the peer; and the lists that the entries of a corpus name.
 use crate::peer::mixed;
 use crate::values::refused;
 use gimli::*;
+
+// Which lists are read, as in the crate gimli_marks.
+#[derive(Clone, Copy, PartialEq)]
+pub enum Kind {
+    Ranges,
+    Locations,
+}
+
+struct Sections<R: Reader> {
+    ranges: RangeLists<R>,
+    locations: LocationLists<R>,
+    addresses: DebugAddr<R>,
+}
+
+// The lists of both kinds in a section, and the addresses.
+fn sections<R: Reader>([old, new]: [R; 2], addresses: R) -> Sections<R> {
+    Sections {
+        ranges: RangeLists::new(
+            DebugRanges::from(old.clone()),
+            DebugRngLists::from(new.clone()),
+        ),
+        locations: LocationLists::new(DebugLoc::from(old), DebugLocLists::from(new)),
+        addresses: DebugAddr::from(addresses),
+    }
+}
 
 // The peer gives ranges without a byte, which the library leaves out.
 #[inline(always)]
@@ -31,13 +56,42 @@ fn with_ranges<R: Reader>(sum: u64, mut ranges: RngListIter<R>) -> u64 {
     }
 }
 
+// Locations over a range without a byte are left out, too.
+#[inline(always)]
+fn next_location<R: Reader>(sum: u64, locations: &mut LocListIter<R>) -> Result<Option<u64>> {
+    match locations.next()? {
+        Some(entry) if entry.range.begin < entry.range.end => {
+            let range = mixed(mixed(sum, entry.range.begin), entry.range.end);
+            Ok(Some(mixed(range, entry.data.0.len().into_u64())))
+        }
+        Some(_) => Ok(Some(sum)),
+        None => Ok(None),
+    }
+}
+
+#[inline(never)]
+fn with_locations<R: Reader>(sum: u64, mut locations: LocListIter<R>) -> u64 {
+    let mut all = match next_location(sum, &mut locations) {
+        Ok(Some(first)) => first,
+        Ok(None) => return sum,
+        Err(error) => return refused(sum, error),
+    };
+    loop {
+        match next_location(all, &mut locations) {
+            Ok(Some(next)) => all = next,
+            Ok(None) => return all,
+            Err(error) => return refused(all, error),
+        }
+    }
+}
+
 fn with_list<R: Reader>(
     sum: u64,
-    lists: &RangeLists<R>,
-    addresses: &DebugAddr<R>,
+    kind: Kind,
+    sections: &Sections<R>,
     named: &mut EndianSlice<'_, LittleEndian>,
 ) -> Result<u64> {
-    let offset = RangeListsOffset(R::Offset::from_u64(named.read_u64()?)?);
+    let offset = R::Offset::from_u64(named.read_u64()?)?;
     let version = if named.read_u64()? < 5 { 4 } else { 5 };
     let base = named.read_u64()?;
     let table = DebugAddrBase(R::Offset::from_u64(named.read_u64()?)?);
@@ -46,32 +100,47 @@ fn with_list<R: Reader>(
         format: Format::Dwarf32,
         version,
     };
-    let ranges = lists.ranges(offset, encoding, base, addresses, table)?;
-    Ok(with_ranges(sum, ranges))
+    let addresses = &sections.addresses;
+    match kind {
+        Kind::Ranges => {
+            let offset = RangeListsOffset(offset);
+            let lists = &sections.ranges;
+            let ranges = lists.ranges(offset, encoding, base, addresses, table)?;
+            Ok(with_ranges(sum, ranges))
+        }
+        Kind::Locations => {
+            let offset = LocationListsOffset(offset);
+            let lists = &sections.locations;
+            let locations = lists.locations(offset, encoding, base, addresses, table)?;
+            Ok(with_locations(sum, locations))
+        }
+    }
 }
 
 fn whole<R: Reader>(
-    lists: &RangeLists<R>,
+    kind: Kind,
+    section: R,
     mut second: R,
     mut named: EndianSlice<'_, LittleEndian>,
 ) -> Result<u64> {
     let count = named.read_u64()?;
     second.skip(R::Offset::from_u64(named.read_u64()?)?)?;
-    let addresses = DebugAddr::from(second);
+    let sections = sections([section.clone(), section], second);
     let mut sum = 0u64;
     for _ in 0..count {
-        sum = with_list(sum, lists, &addresses, &mut named)?;
+        sum = with_list(sum, kind, &sections, &mut named)?;
     }
     Ok(sum)
 }
 
 #[inline(never)]
-pub fn checksum<R: Reader>(section: R, second: R, named: EndianSlice<'_, LittleEndian>) -> u64 {
-    let lists = RangeLists::new(
-        DebugRanges::from(section.clone()),
-        DebugRngLists::from(section),
-    );
-    whole(&lists, second, named).unwrap_or(0)
+pub fn checksum<R: Reader>(
+    kind: Kind,
+    section: R,
+    second: R,
+    named: EndianSlice<'_, LittleEndian>,
+) -> u64 {
+    whole(kind, section, second, named).unwrap_or(0)
 }
 
 #[inline(always)]
@@ -119,11 +188,48 @@ type Bytes<'a> = EndianSlice<'a, LittleEndian>;
 // A list that is named: its offset, the version and the base address of its unit, and the unit's table of addresses.
 type Named = [u64; 4];
 
+// The base of a unit's table of lists of a kind.
+fn base_of_lists(kind: Kind, root: &DebuggingInformationEntry<Bytes>) -> Result<usize> {
+    Ok(match kind {
+        Kind::Ranges => match root.attr_value(DW_AT_rnglists_base)? {
+            Some(AttributeValue::DebugRngListsBase(base)) => base.0,
+            _ => 0,
+        },
+        Kind::Locations => match root.attr_value(DW_AT_loclists_base)? {
+            Some(AttributeValue::DebugLocListsBase(base)) => base.0,
+            _ => 0,
+        },
+    })
+}
+
+// The offset of the list of a kind that a value names.
+fn offset_of_list(
+    kind: Kind,
+    value: AttributeValue<Bytes>,
+    encoding: Encoding,
+    base: usize,
+    sections: &Sections<Bytes>,
+) -> Result<Option<usize>> {
+    Ok(match (kind, value) {
+        (Kind::Ranges, AttributeValue::RangeListsRef(offset)) => Some(offset.0),
+        (Kind::Ranges, AttributeValue::DebugRngListsIndex(index)) => {
+            let base = DebugRngListsBase(base);
+            Some(sections.ranges.get_offset(encoding, base, index)?.0)
+        }
+        (Kind::Locations, AttributeValue::LocationListsRef(offset)) => Some(offset.0),
+        (Kind::Locations, AttributeValue::DebugLocListsIndex(index)) => {
+            let base = DebugLocListsBase(base);
+            Some(sections.locations.get_offset(encoding, base, index)?.0)
+        }
+        _ => None,
+    })
+}
+
 fn lists_of_unit(
+    kind: Kind,
     unit: &UnitHeader<Bytes>,
     debug_abbrev: &DebugAbbrev<Bytes>,
-    lists: &RangeLists<Bytes>,
-    debug_addr: &DebugAddr<Bytes>,
+    sections: &Sections<Bytes>,
 ) -> Result<Vec<Named>> {
     let table = unit.abbreviations(debug_abbrev)?;
     let encoding = unit.encoding();
@@ -134,55 +240,50 @@ fn lists_of_unit(
         Some(AttributeValue::DebugAddrBase(base)) => base,
         _ => DebugAddrBase(0),
     };
-    let lists_base = match root.attr_value(DW_AT_rnglists_base)? {
-        Some(AttributeValue::DebugRngListsBase(base)) => base,
-        _ => DebugRngListsBase(0),
-    };
+    let lists_base = base_of_lists(kind, root)?;
     let base = match root.attr_value(DW_AT_low_pc)? {
         Some(AttributeValue::Addr(address)) => address,
         Some(AttributeValue::DebugAddrIndex(index)) => {
-            debug_addr.get_address(encoding.address_size, addr_base, index)?
+            let addresses = &sections.addresses;
+            addresses.get_address(encoding.address_size, addr_base, index)?
         }
         _ => 0,
     };
+    let version = u64::from(encoding.version);
     let mut named = vec![];
     let mut cursor = unit.entries(&table);
     while let Some((_, entry)) = cursor.next_dfs()? {
-        let offset = match entry.attr_value(DW_AT_ranges)? {
-            Some(AttributeValue::RangeListsRef(offset)) => offset.0,
-            Some(AttributeValue::DebugRngListsIndex(index)) => {
-                lists.get_offset(encoding, lists_base, index)?.0
+        let mut attributes = entry.attrs();
+        while let Some(attribute) = attributes.next()? {
+            let value = attribute.value();
+            if let Some(offset) = offset_of_list(kind, value, encoding, lists_base, sections)? {
+                named.push([offset as u64, version, base, addr_base.0 as u64]);
             }
-            _ => continue,
-        };
-        let version = u64::from(encoding.version);
-        named.push([offset as u64, version, base, addr_base.0 as u64]);
+        }
     }
     Ok(named)
 }
 
-// The two sections of range lists one behind the other, and what names the lists: their number, where the section of
+// The two sections of lists of a kind one behind the other, and what names the lists: their number, where the section of
 // addresses begins in it, and each list, in words of 8 bytes; then the section of addresses. Each list is named several
 // times, so that a round is not too short.
 pub fn named(
+    kind: Kind,
     [info, abbrev]: [&[u8]; 2],
-    [ranges, rnglists, addr]: [&[u8]; 3],
+    [old, new, addr]: [&[u8]; 3],
 ) -> (Vec<u8>, Vec<u8>) {
+    let reader = |bytes| EndianSlice::new(bytes, LittleEndian);
     let debug_info = DebugInfo::new(info, LittleEndian);
     let debug_abbrev = DebugAbbrev::new(abbrev, LittleEndian);
-    let lists = RangeLists::new(
-        DebugRanges::new(ranges, LittleEndian),
-        DebugRngLists::new(rnglists, LittleEndian),
-    );
-    let debug_addr = DebugAddr::from(EndianSlice::new(addr, LittleEndian));
+    let sections = sections([reader(old), reader(new)], reader(addr));
     let mut all = vec![];
     let mut units = debug_info.units();
     while let Some(unit) = units.next().expect("a unit") {
-        all.extend(lists_of_unit(&unit, &debug_abbrev, &lists, &debug_addr).expect("entries"));
+        all.extend(lists_of_unit(kind, &unit, &debug_abbrev, &sections).expect("entries"));
     }
     for list in &mut all {
         if list[1] >= 5 {
-            list[0] += ranges.len() as u64;
+            list[0] += old.len() as u64;
         }
     }
     let again = 1 + (1 << 15) / all.len().max(1);
@@ -192,8 +293,5 @@ pub fn named(
         words.extend(all.iter().flatten());
     }
     let words = words.iter().flat_map(|word| word.to_le_bytes());
-    (
-        [ranges, rnglists].concat(),
-        words.chain(addr.iter().copied()).collect(),
-    )
+    ([old, new].concat(), words.chain(addr.iter().copied()).collect())
 }

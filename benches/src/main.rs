@@ -1,7 +1,7 @@
 // gimli_benches ROUNDS [TASK]: our libraries and the peer in one process, rounds interleaved, best of N.
 // gimli_benches one SIDE TASK ORDER: one run of one side (peer or a library), for counting instructions.
-// CORPUS names the folder with the sections `info` and `abbrev`, and `ranges`, `rnglists`, `addr` and `aranges` if they are
-// there.
+// CORPUS names the folder with the sections `info` and `abbrev`, and `ranges`, `rnglists`, `loc`, `loclists`, `addr` and
+// `aranges` if they are there.
 use std::hint::black_box;
 use std::time::Instant;
 
@@ -11,6 +11,8 @@ mod inputs;
 #[cfg(feature = "lists")]
 mod lists;
 mod peer;
+#[cfg(feature = "trees")]
+mod trees;
 #[cfg(feature = "entries")]
 mod units;
 mod values;
@@ -34,6 +36,7 @@ fn is_built(task: usize) -> bool {
         0..=7 => true,
         8..=10 => cfg!(feature = "entries"),
         11..=14 => cfg!(feature = "cursors"),
+        18 => cfg!(feature = "trees"),
         _ => cfg!(feature = "lists"),
     }
 }
@@ -45,16 +48,16 @@ fn main() {
     let abbrev = std::fs::read(format!("{corpus}/abbrev")).expect("the section abbrev");
     let optional = |name: &str| std::fs::read(format!("{corpus}/{name}")).unwrap_or_default();
     #[cfg(feature = "lists")]
-    let (lists, named) = lists::named(
-        [&info, &abbrev],
+    let [(lists, named), (locations, named_locations)] = {
+        let addr = optional("addr");
         [
-            &optional("ranges"),
-            &optional("rnglists"),
-            &optional("addr"),
-        ],
-    );
+            (lists::Kind::Ranges, optional("ranges"), optional("rnglists")),
+            (lists::Kind::Locations, optional("loc"), optional("loclists")),
+        ]
+        .map(|(kind, old, new)| lists::named(kind, [&info, &abbrev], [&old, &new, &addr]))
+    };
     #[cfg(not(feature = "lists"))]
-    let (lists, named) = (vec![], vec![]);
+    let [(lists, named), (locations, named_locations)]: [(Vec<u8>, Vec<u8>); 2] = Default::default();
     let aranges = optional("aranges");
     let aranges = aranges.repeat(1 + (1 << 20) / aranges.len().max(1));
     let offsets = inputs::tables(&abbrev);
@@ -65,7 +68,7 @@ fn main() {
         .collect();
     let (numbers, words) = (inputs::leb128(1 << 21), inputs::words(1 << 21));
     // in the order of their numbers
-    let tasks: [(&str, &[u8], &[u8]); 17] = [
+    let tasks: [(&str, &[u8], &[u8]); 19] = [
         ("LEB128, sum", &numbers, &[]),
         ("words of 2", &words, &[]),
         ("words of 4", &words, &[]),
@@ -83,6 +86,8 @@ fn main() {
         ("siblings", &info, &abbrev),
         ("range lists", &lists, &named),
         ("aranges", &aranges, &[]),
+        ("location lists", &locations, &named_locations),
+        ("trees", &info, &abbrev),
     ];
     let run = |side: usize, task: u64, order: u64| {
         let (_, first, second) = tasks[task as usize];

@@ -2,7 +2,9 @@
 #[cfg(feature = "cursors")]
 use crate::cursors::{self, Walk};
 #[cfg(feature = "lists")]
-use crate::lists;
+use crate::lists::{self, Kind};
+#[cfg(feature = "trees")]
+use crate::trees;
 #[cfg(feature = "entries")]
 use crate::units::{self, Work};
 use gimli::*;
@@ -202,10 +204,22 @@ fn task_of<E: Endianity>(task: u64, endian: E, first: &[u8], second: &[u8]) -> u
         #[cfg(feature = "lists")]
         15 => {
             let section = EndianSlice::new(first, endian);
-            lists::checksum(section, EndianSlice::new(second, endian), offsets)
+            let second = EndianSlice::new(second, endian);
+            lists::checksum(Kind::Ranges, section, second, offsets)
         }
         #[cfg(feature = "lists")]
         16 => lists::checksum_of_addresses(EndianSlice::new(first, endian)),
+        #[cfg(feature = "lists")]
+        17 => {
+            let section = EndianSlice::new(first, endian);
+            let second = EndianSlice::new(second, endian);
+            lists::checksum(Kind::Locations, section, second, offsets)
+        }
+        #[cfg(feature = "trees")]
+        18 => {
+            let info = EndianSlice::new(first, endian);
+            trees::checksum(info, EndianSlice::new(second, endian))
+        }
         _ => 0,
     }
 }

@@ -1,15 +1,16 @@
-//! Cursors over the entries of units.
+//! Cursors over the entries of units, and their trees.
 //!
 //! The first step of a unit is taken by one call, and the others by another, so that each step has two callers.
 
 use crate::mixed;
+use crate::trees::with_tree;
 use crate::units::{refused, with_values};
 use gimli_base::{DebugAbbrev, Reader, ReaderOffset, Result};
 use gimli_headers::DebugInfo;
 use gimli_units::{DebuggingInformationEntry, EntriesCursor, UnitHeader};
 use std::alloc::Global;
 
-/// How a cursor goes over a unit.
+/// How a cursor or a tree goes over a unit.
 #[derive(Clone, Copy, Debug, PartialEq, Eq)]
 pub enum Walk {
     /// To every entry, nulls too.
@@ -20,9 +21,12 @@ pub enum Walk {
     Values,
     /// To the first child of the root and on to its siblings, 16 times.
     Siblings,
+    /// To every node of the tree.
+    Tree,
 }
 
-fn with_entry<R: Reader>(sum: u64, entry: &DebuggingInformationEntry<R, Global>) -> u64 {
+/// The checksum with an entry's offset and tag.
+pub(crate) fn with_entry<R: Reader>(sum: u64, entry: &DebuggingInformationEntry<R, Global>) -> u64 {
     let place = mixed(sum, entry.offset().0.into_u64());
     mixed(place, u64::from(entry.tag().0))
 }
@@ -192,10 +196,14 @@ fn with_unit<R: Reader>(
             }
             all
         }
+        Walk::Tree => match unit.entries_tree(alloc, &table, None) {
+            Ok(tree) => with_tree(sum, tree),
+            Err(error) => refused(sum, error),
+        },
     }
 }
 
-/// A checksum of the entries of all units of `.debug_info` that a cursor comes to; a refusal's number is folded in, and
+/// A checksum of the entries of all units of `.debug_info` that a walk comes to; a refusal's number is folded in, and
 /// the rest of its unit left out.
 #[inline(never)]
 pub fn checksum<R: Reader>(alloc: Global, walk: Walk, info: R, abbrev: R) -> u64 {

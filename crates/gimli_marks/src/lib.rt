@@ -6,6 +6,7 @@ mod cursors;
 mod lists;
 mod numbers;
 mod tables;
+mod trees;
 mod units;
 mod words;
 
@@ -13,6 +14,7 @@ use cursors::Walk;
 use gimli_base::{
     BigEndian, EndianSlice, Endianity, LittleEndian, Reader, RunTimeEndian, WholeSlice,
 };
+use lists::Kind;
 use std::alloc::Global;
 use units::Work;
 
@@ -24,7 +26,8 @@ use units::Work;
 /// nearly all of the work; 7, a checksum of the unsigned LEB128 numbers taken in twos; 8, 9 and 10, a checksum of the
 /// entries of `.debug_info`, with `.debug_abbrev` in `second`: read as a whole, their attributes read into a list, and
 /// their attributes passed; 11 to 14, a checksum of the entries that a cursor comes to, as `Walk` lists its ways; 15, a
-/// checksum of the range lists that `second` names; 16, a checksum of the ranges of addresses.
+/// checksum of the range lists that `second` names; 16, a checksum of the ranges of addresses; 17, of the location lists that
+/// `second` names; 18, of the entries of whole trees.
 #[inline(never)]
 fn task_of<R: Reader>(
     alloc: Global,
@@ -49,8 +52,10 @@ fn task_of<R: Reader>(
         12 => cursors::checksum(alloc, Walk::DepthFirst, first, second),
         13 => cursors::checksum(alloc, Walk::Values, first, second),
         14 => cursors::checksum(alloc, Walk::Siblings, first, second),
-        15 => lists::checksum(first, second, offsets),
+        15 => lists::checksum(Kind::Ranges, first, second, offsets),
         16 => lists::checksum_of_addresses(first),
+        17 => lists::checksum(Kind::Locations, first, second, offsets),
+        18 => cursors::checksum(alloc, Walk::Tree, first, second),
         _ => 0,
     }
 }
