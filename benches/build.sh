@@ -1,6 +1,6 @@
 #!/bin/bash
 # build.sh NAME=LIBRARY.a ..: renames the export of each library to gimli_marks_NAME and builds the program.
-# TASKS is entries (the default), cursors, trees or lists; KIT names the folder of the kit; TARGET (default: target beside this
+# TASKS is entries (the default), cursors, trees, lists or locations; KIT names the folder of the kit; TARGET (default: target beside this
 # file) takes what is made.
 set -e
 here=$(cd "$(dirname "$0")" && pwd)

@@ -8,7 +8,7 @@ use std::time::Instant;
 #[cfg(feature = "cursors")]
 mod cursors;
 mod inputs;
-#[cfg(feature = "lists")]
+#[cfg(any(feature = "lists", feature = "locations"))]
 mod lists;
 mod peer;
 #[cfg(feature = "trees")]
@@ -36,6 +36,7 @@ fn is_built(task: usize) -> bool {
         0..=7 => true,
         8..=10 => cfg!(feature = "entries"),
         11..=14 => cfg!(feature = "cursors"),
+        17 => cfg!(feature = "locations"),
         18 => cfg!(feature = "trees"),
         _ => cfg!(feature = "lists"),
     }
@@ -47,7 +48,7 @@ fn main() {
     let info = std::fs::read(format!("{corpus}/info")).expect("the section info");
     let abbrev = std::fs::read(format!("{corpus}/abbrev")).expect("the section abbrev");
     let optional = |name: &str| std::fs::read(format!("{corpus}/{name}")).unwrap_or_default();
-    #[cfg(feature = "lists")]
+    #[cfg(any(feature = "lists", feature = "locations"))]
     let [(lists, named), (locations, named_locations)] = {
         let addr = optional("addr");
         [
@@ -56,7 +57,7 @@ fn main() {
         ]
         .map(|(kind, old, new)| lists::named(kind, [&info, &abbrev], [&old, &new, &addr]))
     };
-    #[cfg(not(feature = "lists"))]
+    #[cfg(not(any(feature = "lists", feature = "locations")))]
     let [(lists, named), (locations, named_locations)]: [(Vec<u8>, Vec<u8>); 2] = Default::default();
     let aranges = optional("aranges");
     let aranges = aranges.repeat(1 + (1 << 20) / aranges.len().max(1));

@@ -1,7 +1,7 @@
 // The same work by the peer, gimli 0.27.0.
 #[cfg(feature = "cursors")]
 use crate::cursors::{self, Walk};
-#[cfg(feature = "lists")]
+#[cfg(any(feature = "lists", feature = "locations"))]
 use crate::lists::{self, Kind};
 #[cfg(feature = "trees")]
 use crate::trees;
@@ -209,7 +209,7 @@ fn task_of<E: Endianity>(task: u64, endian: E, first: &[u8], second: &[u8]) -> u
         }
         #[cfg(feature = "lists")]
         16 => lists::checksum_of_addresses(EndianSlice::new(first, endian)),
-        #[cfg(feature = "lists")]
+        #[cfg(feature = "locations")]
         17 => {
             let section = EndianSlice::new(first, endian);
             let second = EndianSlice::new(second, endian);

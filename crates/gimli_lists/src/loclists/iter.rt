@@ -73,6 +73,7 @@ impl<R: Reader> LocListIter<R> {
     }
 
     // What an entry of a range list with an expression stands for: a location, or none.
+    #[inline]
     #[tactic(auto, unfolding(crate::specs::Places::converted))]
     fn locate(
         &mut self,
@@ -110,48 +111,49 @@ impl<R: Reader> LocListIter<R> {
     ) -> Result<Option<LocationListEntry<R>>>
         ensures { (answer_of (option_map (location_of R.view)) result, self.new) ≡ converted R.Offset.limit (location_entry_of R.view R.Offset.number raw_loc) self.old }
     {
-        let size = self.raw.address_size();
-        match raw_loc {
+        let (entry, expr) = match raw_loc {
             RawLocListEntry::BaseAddress { addr } => {
                 self.base_address = addr;
-                Ok(None)
+                return Ok(None);
             }
             RawLocListEntry::BaseAddressx { addr } => {
+                let size = self.raw.address_size();
                 self.base_address = self
                     .debug_addr
                     .get_address(size, self.debug_addr_base, addr)?;
-                Ok(None)
+                return Ok(None);
             }
             RawLocListEntry::DefaultLocation { expr } => {
                 let range = Range {
                     begin: 0,
                     end: u64::MAX,
                 };
-                Ok(Some(LocationListEntry { range, expr }))
+                return Ok(Some(LocationListEntry { range, expr }));
             }
             RawLocListEntry::StartxEndx { begin, end, expr } => {
-                self.locate(RawRngListEntry::StartxEndx { begin, end }, expr)
+                (RawRngListEntry::StartxEndx { begin, end }, expr)
             }
             RawLocListEntry::StartxLength {
                 begin,
                 length,
                 expr,
-            } => self.locate(RawRngListEntry::StartxLength { begin, length }, expr),
+            } => (RawRngListEntry::StartxLength { begin, length }, expr),
             RawLocListEntry::AddressOrOffsetPair { begin, end, expr } => {
-                self.locate(RawRngListEntry::AddressOrOffsetPair { begin, end }, expr)
+                (RawRngListEntry::AddressOrOffsetPair { begin, end }, expr)
             }
             RawLocListEntry::OffsetPair { begin, end, expr } => {
-                self.locate(RawRngListEntry::OffsetPair { begin, end }, expr)
+                (RawRngListEntry::OffsetPair { begin, end }, expr)
             }
             RawLocListEntry::StartEnd { begin, end, expr } => {
-                self.locate(RawRngListEntry::StartEnd { begin, end }, expr)
+                (RawRngListEntry::StartEnd { begin, end }, expr)
             }
             RawLocListEntry::StartLength {
                 begin,
                 length,
                 expr,
-            } => self.locate(RawRngListEntry::StartLength { begin, length }, expr),
-        }
+            } => (RawRngListEntry::StartLength { begin, length }, expr),
+        };
+        self.locate(entry, expr)
     }
 
     /// The next location, or none behind the last.

@@ -161,6 +161,7 @@ fn read_short_expression<R: Reader>(input: &mut R) -> Result<Expression<R>>
 }
 
 // The expression of an entry of the new encoding; where it is refused, the input is left anywhere.
+#[inline]
 fn read_expression<R: Reader>(input: &mut R, version: u16) -> Result<Expression<R>>
     ensures { read (answer_of (λ e. R.view e.0) result) (R.view input.new) ≡ expression_at R.Offset.limit version (R.view input.old) }
 {

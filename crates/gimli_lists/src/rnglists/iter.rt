@@ -158,7 +158,7 @@ impl<R: Reader> Iterator for RngListIter<R> {
 ///
 /// The size of addresses has to be 1, 2, 4 or 8. Refusals, of the look-up of an address by its index: `UnexpectedEof`,
 /// `UnsupportedOffset`; the base stays then.
-#[inline]
+#[inline(always)]
 pub(crate) fn resolve_entry<R: Reader>(
     entry: RawRngListEntry<R::Offset>,
     size: u8,

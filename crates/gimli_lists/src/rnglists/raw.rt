@@ -143,11 +143,20 @@ impl RawRange {
 
     /// The next pair; where it is refused, the input is left anywhere.
     #[inline]
-    #[tactic(auto, unfolding(crate::specs::RawList::pair_at))]
+    #[tactic(auto, unfolding(crate::specs::RawList::pair_at, gimli_base::specs::Reading::address_at))]
     pub(crate) fn parse<R: Reader>(input: &mut R, address_size: u8) -> Result<RawRange>
         ensures value { read (answer_of (λ p. (p.begin, p.end)) result) (R.view input.new) ≡ pair_at address_size (R.view input.old) }
         ensures size { OnOk result (IsTrue (is_size address_size)) }
     {
+        // (by a call of one width the compiler keeps the numbers in registers)
+        if address_size == 8 {
+            let low = input.read_u64()?;
+            let high = input.read_u64()?;
+            return Ok(RawRange {
+                begin: low,
+                end: high,
+            });
+        }
         let begin = input.read_address(address_size)?;
         let end = input.read_address(address_size)?;
         Ok(RawRange { begin, end })
