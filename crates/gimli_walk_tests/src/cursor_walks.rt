@@ -1,5 +1,5 @@
 use failing::{Failing, Refusal};
-use gimli_walk::{CursorStep, Mode, run_words, walk_text};
+use gimli_walk::{CursorStep, Mode, TreeStep, run_words, walk_text};
 use std::alloc::Global;
 use std::process::Abort;
 
@@ -149,6 +149,30 @@ fn a_walk_writes_whole_lines_where_memory_is_refused(rt: HostRuntime) {
             assert!(rt; 0 < requests && requests < MANY, "at {text}");
         }
     }
+}
+
+#[test]
+fn a_walk_of_a_tree_writes_whole_lines_where_memory_is_refused(rt: HostRuntime) {
+    let down = [
+        TreeStep::Root,
+        TreeStep::Enter,
+        TreeStep::Next,
+        TreeStep::Enter,
+        TreeStep::Next,
+        TreeStep::Leave,
+        TreeStep::Next,
+    ];
+    let text = "node b 0 2e 1\nentered\nnode 10 1 2e 1\nentered\nnode 15 2 2e 1\nleft\nend\n";
+    let sections: (&[u8], &[u8]) = (&THREE_NESTED, &TABLE_NESTED_STRINGS);
+    let walk = (Mode::Tree(&down), sections);
+    let requests = tries_each_refusal(&rt, rt.alloc(), walk, (text, 0));
+    assert!(rt; 3 < requests && requests < MANY);
+    let beside = [TreeStep::Root, TreeStep::Enter, TreeStep::Next];
+    let sections: (&[u8], &[u8]) = (&SIBLINGS, &TABLE_WITH_SIBLINGS);
+    let walk = (Mode::Tree(&beside), sections);
+    let text = "node b 0 2e 1\nentered\nnode d 1 34 0\n";
+    let requests = tries_each_refusal(&rt, rt.alloc(), walk, (text, 0));
+    assert!(rt; 0 < requests && requests < MANY);
 }
 
 #[test]

@@ -30,6 +30,8 @@ mod tables;
 #[cfg(test)]
 mod text;
 #[cfg(test)]
+mod tree_runs;
+#[cfg(test)]
 mod tree_text;
 #[cfg(test)]
 mod tree_words;
