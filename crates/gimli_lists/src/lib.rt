@@ -4,6 +4,7 @@
 mod aranges;
 mod lists;
 mod loclists;
+mod raw;
 mod rnglists;
 mod walk;
 

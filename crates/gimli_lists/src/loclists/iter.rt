@@ -10,7 +10,8 @@ ghost use Rattle.gimli_base.specs.View.{View};
 ghost use Rattle.gimli_lists.specs.LocationEntry.{location_entry_of, location_grammar};
 ghost use Rattle.gimli_lists.specs.LocationReads.{location_grammar-takes};
 ghost use Rattle.gimli_lists.specs.Locations.{location_of, locations_ahead};
-ghost use Rattle.gimli_lists.specs.Places.{next_raw, ListPlace, converted, InList, IsBehind, IsSpent, read_from, IsNext};
+ghost use Rattle.gimli_lists.specs.Places.{next_raw, raw_list_ahead, ListPlace, converted, InList, IsBehind, IsSpent, read_from, IsNext};
+ghost use Rattle.gimli_lists.specs.RawList.{IsFirstOf};
 ghost use Rattle.gimli_lists.specs.RangeEntry.{entry_of};
 ghost use Rattle.gimli_lists.specs.Resolved.{answered, transposed};
 ghost use Rattle.gimli_lists.specs.WithPayload.{with_payload};
@@ -66,6 +67,7 @@ impl<R: Reader> LocListIter<R> {
     /// Refusals: those of `RawLocListIter::next`; nothing is left then.
     pub fn next_raw(&mut self) -> Result<Option<RawLocListEntry<R>>>
         ensures value { (answer_of (option_map (location_entry_of R.view R.Offset.number)) result, self.new.raw) ≡ next_raw (location_grammar R.Offset.limit) self.old.raw }
+        ensures ahead { IsFirstOf (answer_of (option_map (location_entry_of R.view R.Offset.number)) result) (raw_list_ahead (location_grammar R.Offset.limit) self.old.raw) (raw_list_ahead (location_grammar R.Offset.limit) self.new.raw) }
         ensures same { self.new ≡ record self.old { raw = self.new.raw } }
         ensures takes { MatchResult result (λ entry. OnSome entry (length self.new.raw.rest.bytes < length self.old.raw.rest.bytes)) (λ _. length self.new.raw.rest.bytes < length self.old.raw.rest.bytes) }
     {

@@ -6,11 +6,13 @@ ghost use Rattle.std.specs.Iterator.{at_most};
 ghost use Rattle.gimli_base.specs.Offset.{answer_of};
 ghost use Rattle.gimli_base.specs.Reading.{read};
 ghost use Rattle.gimli_lists.specs.LocationEntry.{location_entry_of, short_expression_at, expression_at, indexed_length_at, new_location_at, location_grammar};
+ghost use Rattle.gimli_lists.specs.LocationReads.{location_grammar-takes};
 ghost use Rattle.gimli_lists.specs.Places.{RawPlace, next_raw, raw_list_ahead};
 ghost use Rattle.gimli_lists.specs.RawList.{IsFirstOf, old_entry_at};
 ghost use Rattle.gimli_lists.specs.Resolved.{transposed};
 
 use crate::lists::ListsFormat;
+use crate::raw::{RawEntry, take_entry};
 use crate::rnglists::raw::{RawRange, read_index};
 use gimli_base::{
     DW_LLE_base_address, DW_LLE_base_addressx, DW_LLE_default_location, DW_LLE_end_of_list,
@@ -269,18 +271,27 @@ fn parse_coded<R: Reader>(
     }
 }
 
-// The next entry; where it is refused, the input is left anywhere.
-fn parse_entry<R: Reader>(
-    input: &mut R,
-    encoding: Encoding,
-    format: ListsFormat,
-) -> Result<Option<RawLocListEntry<R>>>
-    ensures { read (answer_of (option_map (location_entry_of R.view R.Offset.number)) result) (R.view input.new) ≡ location_grammar R.Offset.limit format encoding (R.view input.old) }
-{
-    match format {
-        ListsFormat::Bare => parse_bare(input, encoding.address_size),
-        ListsFormat::Coded => parse_coded(input, encoding.version, encoding.address_size),
+impl<R: Reader> RawEntry<R> for RawLocListEntry<R> {
+    ghost use Rattle.gimli_base.specs.View.{View};
+
+    ghost Payload = { View };
+
+    ghost grammar = { location_grammar R.Offset.limit };
+
+    ghost written = { location_entry_of R.view R.Offset.number };
+
+    fn parse(
+        input: &mut R,
+        encoding: Encoding,
+        format: ListsFormat,
+    ) -> Result<Option<RawLocListEntry<R>>> {
+        match format {
+            ListsFormat::Bare => parse_bare(input, encoding.address_size),
+            ListsFormat::Coded => parse_coded(input, encoding.version, encoding.address_size),
+        }
     }
+
+    ghost takes_bytes = { location_grammar-takes R.Offset.limit };
 }
 
 /// The entries of a location list as they are written, one behind the other.
@@ -321,7 +332,6 @@ impl<R: Reader> RawLocListIter<R> {
     /// Its expression is the input's bytes at their place, without the length before them. Refusals: `UnexpectedEof`,
     /// `BadUnsignedLeb128`, `UnsupportedAddressSize`, `UnsupportedOffset` for an index or a length that does not fit,
     /// `UnknownLocListsEntry`. Nothing is left behind the end, and behind a refusal.
-    #[tactic(auto, unfolding(crate::specs::RawList::next_entry, crate::specs::Places::next_raw))]
     pub fn next(&mut self) -> Result<Option<RawLocListEntry<R>>>
         ensures value { (answer_of (option_map (location_entry_of R.view R.Offset.number)) result, self.new) ≡ next_raw (location_grammar R.Offset.limit) self.old }
 
@@ -329,24 +339,7 @@ impl<R: Reader> RawLocListIter<R> {
         ensures ahead { IsFirstOf (answer_of (option_map (location_entry_of R.view R.Offset.number)) result) (raw_list_ahead (location_grammar R.Offset.limit) self.old) (raw_list_ahead (location_grammar R.Offset.limit) self.new) }
         ensures takes { MatchResult result (λ entry. OnSome entry (length self.new.rest.bytes < length self.old.rest.bytes)) (λ _. length self.new.rest.bytes < length self.old.rest.bytes) }
     {
-        if self.input.is_empty() {
-            return Ok(None);
-        }
-        let mut rest = self.input.copy();
-        match parse_entry(&mut rest, self.encoding, self.format) {
-            Ok(Some(entry)) => {
-                self.input = rest;
-                Ok(Some(entry))
-            }
-            Ok(None) => {
-                self.input.empty();
-                Ok(None)
-            }
-            Err(error) => {
-                self.input.empty();
-                Err(error)
-            }
-        }
+        take_entry(&mut self.input, self.encoding, self.format)
     }
 }
 

@@ -6,7 +6,8 @@ ghost use Rattle.std.specs.Iterator.{at_most};
 ghost use Rattle.gimli_base.specs.Address.{min_tombstone, table_address};
 ghost use Rattle.gimli_base.specs.Offset.{answer_of};
 ghost use Rattle.gimli_base.specs.Reading.{is_size};
-ghost use Rattle.gimli_lists.specs.Places.{next_raw, ListPlace, converted, InList, IsBehind, IsSpent, read_from, IsNext};
+ghost use Rattle.gimli_lists.specs.Places.{next_raw, raw_list_ahead, ListPlace, converted, InList, IsBehind, IsSpent, read_from, IsNext};
+ghost use Rattle.gimli_lists.specs.RawList.{IsFirstOf};
 ghost use Rattle.gimli_lists.specs.RangeEntry.{entry_of, range_grammar};
 ghost use Rattle.gimli_lists.specs.RangeReads.{range_grammar-takes};
 ghost use Rattle.gimli_lists.specs.Ranges.{range_of, ranges_ahead};
@@ -61,6 +62,7 @@ impl<R: Reader> RngListIter<R> {
     /// Refusals: those of `RawRngListIter::next`; nothing is left then.
     pub fn next_raw(&mut self) -> Result<Option<RawRngListEntry<R::Offset>>>
         ensures value { (answer_of (option_map (entry_of R.Offset.number)) result, self.new.raw) ≡ next_raw (range_grammar R.Offset.limit) self.old.raw }
+        ensures ahead { IsFirstOf (answer_of (option_map (entry_of R.Offset.number)) result) (raw_list_ahead (range_grammar R.Offset.limit) self.old.raw) (raw_list_ahead (range_grammar R.Offset.limit) self.new.raw) }
         ensures same { self.new ≡ record self.old { raw = self.new.raw } }
         ensures takes { MatchResult result (λ entry. OnSome entry (length self.new.raw.rest.bytes < length self.old.raw.rest.bytes)) (λ _. length self.new.raw.rest.bytes < length self.old.raw.rest.bytes) }
     {

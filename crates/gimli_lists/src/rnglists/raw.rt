@@ -8,10 +8,12 @@ ghost use Rattle.gimli_base.specs.Offset.{answer_of};
 ghost use Rattle.gimli_base.specs.Reading.{read, is_size};
 ghost use Rattle.gimli_lists.specs.RawList.{IsFirstOf, pair_at, old_entry_at, index_at};
 ghost use Rattle.gimli_lists.specs.RangeEntry.{entry_of, nothing_at, new_entry_at, range_grammar};
+ghost use Rattle.gimli_lists.specs.RangeReads.{range_grammar-takes};
 ghost use Rattle.gimli_lists.specs.Places.{RawPlace, next_raw, raw_list_ahead};
 ghost use Rattle.gimli_lists.specs.Resolved.{transposed};
 
 use crate::lists::ListsFormat;
+use crate::raw::{RawEntry, take_entry};
 use gimli_base::{
     DW_RLE_base_address, DW_RLE_base_addressx, DW_RLE_end_of_list, DW_RLE_offset_pair,
     DW_RLE_start_end, DW_RLE_start_length, DW_RLE_startx_endx, DW_RLE_startx_length,
@@ -242,18 +244,25 @@ fn parse_rle<R: Reader>(
     }
 }
 
-// The next entry; where it is refused, the input is left anywhere.
-fn parse_entry<R: Reader>(
-    input: &mut R,
-    encoding: Encoding,
-    format: ListsFormat,
-) -> Result<Option<RawRngListEntry<R::Offset>>>
-    ensures { read (answer_of (option_map (entry_of R.Offset.number)) result) (R.view input.new) ≡ range_grammar R.Offset.limit format encoding (R.view input.old) }
-{
-    match format {
-        ListsFormat::Bare => parse_bare(input, encoding.address_size),
-        ListsFormat::Coded => parse_rle(input, encoding.address_size),
+impl<R: Reader> RawEntry<R> for RawRngListEntry<R::Offset> {
+    ghost Payload = { Unit {0} };
+
+    ghost grammar = { range_grammar R.Offset.limit };
+
+    ghost written = { entry_of R.Offset.number };
+
+    fn parse(
+        input: &mut R,
+        encoding: Encoding,
+        format: ListsFormat,
+    ) -> Result<Option<RawRngListEntry<R::Offset>>> {
+        match format {
+            ListsFormat::Bare => parse_bare(input, encoding.address_size),
+            ListsFormat::Coded => parse_rle(input, encoding.address_size),
+        }
     }
+
+    ghost takes_bytes = { range_grammar-takes R.Offset.limit };
 }
 
 /// The entries of a range list as they are written, one behind the other.
@@ -293,7 +302,6 @@ impl<R: Reader> RawRngListIter<R> {
     ///
     /// Refusals: `UnexpectedEof`, `BadUnsignedLeb128`, `UnsupportedAddressSize`, `UnsupportedOffset` for an index that
     /// does not fit, `UnknownRangeListsEntry`. Nothing is left behind the end, and behind a refusal.
-    #[tactic(auto, unfolding(crate::specs::RawList::next_entry, crate::specs::Places::next_raw))]
     pub fn next(&mut self) -> Result<Option<RawRngListEntry<R::Offset>>>
         ensures value { (answer_of (option_map (entry_of R.Offset.number)) result, self.new) ≡ next_raw (range_grammar R.Offset.limit) self.old }
 
@@ -301,24 +309,7 @@ impl<R: Reader> RawRngListIter<R> {
         ensures ahead { IsFirstOf (answer_of (option_map (entry_of R.Offset.number)) result) (raw_list_ahead (range_grammar R.Offset.limit) self.old) (raw_list_ahead (range_grammar R.Offset.limit) self.new) }
         ensures takes { MatchResult result (λ entry. OnSome entry (length self.new.rest.bytes < length self.old.rest.bytes)) (λ _. length self.new.rest.bytes < length self.old.rest.bytes) }
     {
-        if self.input.is_empty() {
-            return Ok(None);
-        }
-        let mut rest = self.input.copy();
-        match parse_entry(&mut rest, self.encoding, self.format) {
-            Ok(Some(entry)) => {
-                self.input = rest;
-                Ok(Some(entry))
-            }
-            Ok(None) => {
-                self.input.empty();
-                Ok(None)
-            }
-            Err(error) => {
-                self.input.empty();
-                Err(error)
-            }
-        }
+        take_entry(&mut self.input, self.encoding, self.format)
     }
 }
 
