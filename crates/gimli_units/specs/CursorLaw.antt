@@ -12,7 +12,7 @@ use Rattle.gimli_base.specs.Later.{IsLater, IsLater-none, IsLater-trans, cut-cut
 use Rattle.gimli_units.specs.Entry.{Entry, is_null, entry_at}
 use Rattle.gimli_units.specs.RawPlace.{RawPlace, next_offset_of}
 use Rattle.gimli_units.specs.Rows.{Ahead}
-use Rattle.gimli_units.specs.Unit.{UnitView, whole_length, header_size, in_bounds, range_from, entries_in, entries_from, entries_of, some_entry, entry_in, unit_entry_at}
+use Rattle.gimli_units.specs.Unit.{UnitView, whole_length, header_size, in_bounds, range_from, entries_in, entries_from, entries_of, some_entry, entry_in, unit_entry_at, IsUnreadAt}
 use Rattle.gimli_units.specs.CursorMoves.{CursorView, next_of, rows_from, view_from, what_at, IsSameUnit, IsFurther, IsTrueEntry, IsRefused}
 use Rattle.gimli_units.specs.CursorStart.{before_first, raw_start}
 
@@ -67,14 +67,19 @@ module _ (limit : ℕ) (u : UnitView) (t : Table) (fits : length u.entries.bytes
   pub unit_rows : (o : ℕ) (depth : ℤ) → next_offset_of c.raw ≤ o → rows_from limit c.raw o depth ≡ rows_from limit (entries_of u t) o depth
   unit_rows o depth low = rw (unit_view o low, s.encoding, s.abbreviations, s.end) refl
 
+  -- an offset that is not before the cursor, and before the end, is in bounds
+  pub in_unit : (o : ℕ) → next_offset_of c.raw ≤ o → o < whole_length u → in_bounds u o ≡ true
+  in_unit o low high =
+      let first : nat_le (header_size u) o ≡ true = le-leb (header_size u) o (omega (arith, header_low, low)) in
+      let second : nat_lt o (whole_length u) ≡ true = lt-ltb o (whole_length u) high in
+      rw (first, second) refl
+
   unit_has : (o : ℕ) → next_offset_of c.raw ≤ o → o < whole_length u → (r : Result Entry Error) → what_at limit c.raw o ≡ r
       → (q : Reads Entry) × (answer_of (λ (x : Entry × View). x.0) q ≡ r) × (unit_entry_at limit u (found t) o ≡ some_entry o q)
   unfolding unit_entry_at range_from
   unit_has o low high r is =
       let q : Reads Entry = entry_at limit u.encoding (found t) (cut (o - header_size u) u.entries) in
-      let first : nat_le (header_size u) o ≡ true = le-leb (header_size u) o (omega (arith, header_low, low)) in
-      let second : nat_lt o (whole_length u) ≡ true = lt-ltb o (whole_length u) high in
-      (q, (rw (unit_view o low, s.encoding, s.abbreviations) at is), rw (first, second) refl)
+      (q, (rw (unit_view o low, s.encoding, s.abbreviations) at is), rw (in_unit o low high) refl)
 
   -- an entry that was answered is the unit's
   pub entry_law : (new : CursorView) → new.raw.end ≡ c.raw.end → IsTrueEntry limit c new → is_null new.entry ≡ false → unit_entry_at limit u (found t) new.offset ≡ Ok new.entry
@@ -98,11 +103,5 @@ module _ (limit : ℕ) (u : UnitView) (t : Table) (fits : length u.entries.bytes
       cases (Err x) e = absurd (cc)
 
   -- and so is a refusal of bytes
-  pub refusal_law : (new : CursorView) (x : Error) → (x ≡ OutOfMemory → ⊥) → IsRefused limit c x new → unit_entry_at limit u (found t) new.offset ≡ Err x
-  refusal_law new x fine is =
-      let h = unit_has new.offset is.after (omega (arith, is.before, s.end)) (Err x) (is.is fine) in
-      h.2 ∙ cases h.0 h.1
-    where
-      cases : (q : Reads Entry) → answer_of (λ (x : Entry × View). x.0) q ≡ Err x → some_entry new.offset q ≡ Err x
-      cases (Ok p) e = absurd (cc)
-      cases (Err y) e = let one : y ≡ x = cc in rw one refl
+  pub refusal_law : (new : CursorView) (x : Error) → (x ≡ OutOfMemory → ⊥) → IsRefused limit c x new → IsUnreadAt limit u (found t) new.offset x
+  refusal_law new x fine is = (in_unit new.offset is.after (omega (arith, is.before, s.end)), rw (unit_view new.offset is.after, s.encoding, s.abbreviations) at (is.is fine))

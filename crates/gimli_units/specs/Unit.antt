@@ -1,5 +1,5 @@
 -- What the header of a unit holds, and the bounds of its offsets (DWARF 5, 7.5.1).
-use Rattle.std.specs.Prelude.{ℕ, ◌+◌, ◌-◌, nat_le, nat_lt, ◌&&◌, if◌then◌else◌, ◌==◌, Bool, true, false, length, pos, Option, Some, None, unwrap_or, Result, Ok, Err}
+use Rattle.std.specs.Prelude.{◌≡◌, ℕ, ◌+◌, ◌-◌, nat_le, nat_lt, ◌&&◌, if◌then◌else◌, ◌==◌, Bool, true, false, length, pos, Option, Some, None, unwrap_or, Result, Ok, Err}
 use Rattle.gimli_base.specs.declared.common.Encoding.{Encoding}
 use Rattle.gimli_base.specs.declared.common.SectionId.{SectionId}
 use Rattle.gimli_base.specs.declared.error.Error.{Error}
@@ -8,6 +8,7 @@ use Rattle.gimli_units.specs.declared.unit_type.UnitType.{UnitType}
 use Rattle.gimli_units.specs.declared.unit_type.UnitType.TheVariants.{Compilation, TypeUnit, Partial, Skeleton, SplitCompilation, SplitType}
 use Rattle.gimli_base.specs.declared.common.Format.{Format}
 use Rattle.gimli_base.specs.declared.common.SectionId.TheVariants.{DebugInfo, DebugTypes}
+use Rattle.gimli_base.specs.Offset.{answer_of}
 use Rattle.gimli_base.specs.View.{View, cut, front}
 use Rattle.gimli_base.specs.Reading.{Reads, initial_length_size_of, word_size_of}
 use Rattle.gimli_base.specs.Table.{Table}
@@ -111,6 +112,10 @@ entry_in limit encoding declared offset (Err e) = Err e
 -- the entry at an offset of a unit
 unfoldable pub unit_entry_at : ℕ → UnitView → Map → ℕ → Result Entry Error
 unit_entry_at limit u declared offset = entry_in limit u.encoding declared offset (range_from u offset)
+
+-- the bytes at an offset of a unit are refused, as no entry and no null can be read there
+abbrev pub IsUnreadAt : ℕ → UnitView → Map → ℕ → Error → Type 0
+IsUnreadAt limit u declared offset e = (in_bounds u offset ≡ true) × (answer_of (λ (x : Entry × View). x.0) (entry_at limit u.encoding declared (cut (offset - header_size u) u.entries)) ≡ Err e)
 
 -- whether memory is asked for where the entry in these bytes is read
 abbrev pub takes_memory_in : Map → Result View Error → Bool

@@ -1,5 +1,5 @@
 -- The lines of a run, as a text.
-use Rattle.std.proofs.Common.{◌≡◌, ℕ, pos, suc, ◌+◌, ◌<◌, ◌≤◌, ◌++◌, Bool, true, false, List, [], ◌∷◌, length, length-append, map, take, Option, Some, None, Result, Ok, Err, refl, sym, ap, ◌∙◌, arith}
+use Rattle.std.proofs.Common.{◌≡◌, ℕ, pos, suc, ◌+◌, ◌<◌, ◌≤◌, ◌++◌, Bool, true, false, List, [], ◌∷◌, length, length-append, map, take, Option, Some, None, Result, Ok, Err, refl, sym, ap, ◌∙◌, arith, ◌⊎◌, inl, inr}
 use Rattle.std.specs.Prelude.{if◌then◌else◌, IfOk}
 use Rattle.std.specs.List.{concat, list_any}
 use Rattle.std.specs.Result.{is_err}
@@ -14,7 +14,7 @@ use Rattle.gimli_walk.specs.declared.cursor.CursorStep.{CursorStep}
 use Rattle.gimli_walk.specs.declared.cursor.CursorAnswer.{CursorAnswer}
 use Rattle.gimli_walk.specs.Runs.{IsFront}
 use Rattle.gimli_walk.specs.Lines.{Text, memory_line}
-use Rattle.gimli_walk.specs.Cursors.{Answer, seen, step_of, answers, start_of, unit_rows_at, answers_at, answers_text, answer_line, status_of, run_answers, RunsAs, IsStopped}
+use Rattle.gimli_walk.specs.Cursors.{Answer, seen, step_of, answers, start_of, unit_rows_at, answers_at, answers_text, answer_line, status_of, run_answers, RunsAs, IsStopped, IsCut}
 use Rattle.gimli_walk.proofs.CursorTruth.{answers_length}
 use Rattle.gimli_walk.specs.Text.{Wrote, all_lines, some_lines, WroteText, wrote, no_line, WroteRun}
 
@@ -33,6 +33,11 @@ pub take_front : {T : Type 0} → (xs ys : List T) → take (length xs) (xs ++ y
 take_front [] [] = refl
 take_front [] (y ∷ ys) = refl
 take_front (x ∷ xs) ys = ap (λ l. x ∷ l) (take_front xs ys)
+
+-- the answers of a run, by what they stand for, are as many
+pub is_cut : {X Y : Type 0} → (f : X → Y) (items : List X) (stopped : Bool) (steps : ℕ) → IsStopped stopped (length items) steps → IsCut stopped (length (map f items)) steps
+is_cut f items true steps h = inl (rw (length-map items f) h)
+is_cut f items false steps h = length-map items f ∙ h
 
 -- the lines of a run are those of all answers, or some from the front
 pub run_wrote : (old new : Option (List ℕ)) (xs all : List Answer) (stopped : Bool) (steps status : ℕ) → IsFront xs all → (stopped ≡ false → xs ≡ all) → length all ≡ steps

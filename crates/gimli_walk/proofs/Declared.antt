@@ -13,7 +13,7 @@ use Rattle.std.specs.Prelude.{IfOk}
 use Rattle.gimli_walk.specs.Lines.{Text, error_line, memory_line}
 use Rattle.gimli_walk.specs.Text.{Wrote, WroteText, wrote, no_line, declared_text, mode_text, IsHonestMode, IsHonestDeclared, WroteTrueMode, WroteTrueDeclared}
 use Rattle.gimli_walk.specs.declared.tree.TreeStep.{TreeStep}
-use Rattle.gimli_walk.specs.Trees.{AreGrowing}
+use Rattle.gimli_walk.specs.Trees.{AreTrueTolds, AreGrowing}
 use Rattle.gimli_walk.specs.TreeText.{WroteTrueTree, tree_lines}
 use Rattle.gimli_walk.proofs.WrittenLines.{Wrote-only, Wrote-memory}
 
@@ -68,6 +68,10 @@ no_growing : (steps : List TreeStep) → AreGrowing None steps []
 no_growing [] = tt
 no_growing (s ∷ steps) = tt
 
+no_truth : (limit : ℕ) (u : UnitView) (declared : Map) (steps : List TreeStep) → AreTrueTolds limit u declared steps []
+no_truth limit u declared [] = tt
+no_truth limit u declared (s ∷ steps) = tt
+
 -- no answer is told where the declarations are refused, be it for want of memory
 pub undeclared_true : (limit : ℕ) (mode : Mode) (u : UnitView) (m : Result Map Error) (e : Error) (old new : Option (List ℕ)) → ((e ≡ OutOfMemory → ⊥) → Err e ≡ m)
     → Appends old new (error_line (number_of e)) → WroteTrueDeclared limit mode u m old new 1
@@ -79,6 +83,6 @@ undeclared_true limit mode u (Ok declared) e old new refused h = elim (memory_or
   where
     told : (x : Mode) → Appends old new memory_line → WroteTrueMode limit x u declared old new 1
     told Rows k = tt
-    told (Cursor steps) k = record { all = []; stopped = true; are_true = tt; written = (k, refl) }
-    told (Plain steps) k = record { all = []; stopped = true; are_true = tt; written = (k, refl) }
-    told (Tree steps) k = tree_lines [] true tt (no_growing steps.now) (k, refl)
+    told (Cursor steps) k = record { all = []; stopped = true; count = inr refl; are_true = tt; written = (k, refl) }
+    told (Plain steps) k = record { all = []; stopped = true; count = inr refl; are_true = tt; written = (k, refl) }
+    told (Tree steps) k = tree_lines [] true (no_truth limit u declared steps.now) (no_growing steps.now) (inr refl) (k, refl)

@@ -1,6 +1,6 @@
 -- What the answers of a run of a tree are, whatever the references: true, with growing offsets, and references are taken.
 use Rattle.std.proofs.Common.{◌≡◌, ℕ, suc, ◌+◌, ◌-◌, ◌<◌, ◌≤◌, ◌++◌, ℤ, pos, Bool, true, false, List, [], ◌∷◌, length, length-append, Option, Some, None, Result, Ok, Err, refl, sym, ap, ◌∙◌, subst, arith, add-zero}
-use Rattle.std.specs.Prelude.{if◌then◌else◌, nat_le, ◌&&◌, unwrap_or}
+use Rattle.std.specs.Prelude.{if◌then◌else◌, nat_le, ◌&&◌, unwrap_or, IfOk}
 use Rattle.std.proofs.lemmas.List.{append-nil}
 use Rattle.std.proofs.lemmas.Bool.{leb-true}
 use Rattle.gimli_base.specs.declared.error.Error.{Error}
@@ -18,17 +18,17 @@ use Rattle.gimli_units.specs.Kind.{kind_of}
 use Rattle.gimli_units.specs.Honest.{target, within, usable}
 use Rattle.gimli_units.specs.Unit.{UnitView, whole_length, header_size, range_from, entries_in, entries_from, some_entry, unit_entry_at}
 use Rattle.gimli_units.specs.CursorPlace.{Moved, first_of_rows}
-use Rattle.gimli_units.specs.CursorMoves.{CursorView, next_of, rows_from, place_of, last_row, followed_to, view_from, IsSameUnit, IsFurther}
+use Rattle.gimli_units.specs.CursorMoves.{CursorView, next_of, rows_of, rows_from, place_of, last_row, followed_to, view_from, IsSameUnit, IsFurther}
 use Rattle.gimli_units.specs.CursorStart.{before_first}
-use Rattle.gimli_units.specs.CursorLaw.{StandsIn, start_stands, step_stands, unit_rows, entry_law, refusal_law}
+use Rattle.gimli_units.specs.CursorLaw.{StandsIn, start_stands, step_stands, in_unit, unit_rows, entry_law, refusal_law}
 use Rattle.gimli_units.specs.TreeLaw.{unit_reads, unit_bytes}
-use Rattle.gimli_units.specs.TreePlace.{Node, Lists, Told, a_node, list_end, a_fault, has_entered, has_left, no_node, found_in}
+use Rattle.gimli_units.specs.TreePlace.{Node, Lists, Told, a_node, list_end, a_fault, has_entered, has_left, no_node, TreeMoved, to_root, found_in}
 use Rattle.gimli_units.specs.TreeMoves.{TreeView, before_root, tree_from, node_at, HasBegun, HasGoneOn}
 use Rattle.gimli_walk.specs.declared.tree.TreeStep.{TreeStep}
 use Rattle.gimli_walk.specs.declared.tree.TreeStep.TheVariants.{Root, Next, Enter, Leave}
 use Rattle.gimli_walk.specs.Runs.{IsFront}
 use Rattle.gimli_walk.specs.Cursors.{unit_rows_at, IsHonestFrom, RunsAs, IsStopped}
-use Rattle.gimli_walk.specs.Trees.{tree_answers_at, before_steps, tree_view, run_tree_answers, IsTrueTold, AreTrueTolds, last_node, IsPast, IsPastLast, AreGrowing, is_next, is_root, IsTakenFrom, IsTakenBehind, AreTakenBehind}
+use Rattle.gimli_walk.specs.Trees.{tree_answers_at, before_steps, tree_view, run_tree_answers, IsTrueTold, AreTrueTolds, AreRoots, root_at, last_node, IsPast, IsPastLast, AreGrowing, is_next, is_root, IsTakenFrom, IsTakenBehind, AreTakenBehind}
 use Rattle.gimli_walk.specs.TreeTurns.{Standing, at_node, at_none, told_begun, after_begun, HasRooted, WasAsked, told_asked, after_asked, HasAsked, HasNothing, HasTurned, HasTreeRun}
 use Rattle.gimli_walk.proofs.TreeTruth.{unless_fine, tree_front, tree_answers_length}
 
@@ -63,13 +63,13 @@ module _ (limit : ℕ) (u : UnitView) (t : Table) (fits : length u.entries.bytes
     pub follows : s.tree.cursor.follows ≡ true
 
   -- what a turn keeps
-  record Kept (s : Standing) (told : Told) (new : Standing) : Type 0 where
+  record Kept (s : Standing) (step : TreeStep) (told : Told) (new : Standing) : Type 0 where
     is_in : IsIn new
-    is_true : IsTrueTold limit u (found t) told
+    is_true : IsTrueTold limit u (found t) step told
     offset : (o : ℕ) → o < next_offset_of s.tree.cursor.raw → o < next_offset_of new.tree.cursor.raw
 
-  same_kept : (s new : Standing) (told told' : Told) → told ≡ told' → new.tree ≡ s.tree → IsIn s → IsTrueTold limit u (found t) told' → Kept s told new
-  same_kept s new told told' is same inside true_one = record {
+  same_kept : (s new : Standing) (step : TreeStep) (told told' : Told) → told ≡ told' → new.tree ≡ s.tree → IsIn s → IsTrueTold limit u (found t) step told' → Kept s step told new
+  same_kept s new step told told' is same inside true_one = record {
     is_in = rw same (record { start = inside.start; here = inside.here; follows = inside.follows });
     is_true = rw is true_one;
     offset = λ o h. rw same h;
@@ -83,20 +83,23 @@ module _ (limit : ℕ) (u : UnitView) (t : Table) (fits : length u.entries.bytes
   }
 
   root_true : (s new : Standing) (outcome : Result (Unit {0}) Error) → HasBegun limit s.tree outcome new.tree → (outcome ≡ Err OutOfMemory → ⊥) → IsIn s
-      → IsTrueTold limit u (found t) (told_begun outcome new.tree)
+      → IsTrueTold limit u (found t) Root (told_begun outcome new.tree)
   root_true s new (Ok k) b fine inside =
       let y = b.yes refl in
       entry_law limit u t fits (before_first true s.tree.start) inside.start new.tree.cursor b.unit.end y.0 y.1
   root_true s new (Err e) b fine inside =
       let p = s.tree.start in
-      let no = b.refused e refl in (
+      let no = b.refused e refl in
+      let end = inside.start.end in
+      let before = no.before in (
         next_offset_of p,
-        unit_reads limit u t fits (before_first true p) inside.start (next_offset_of p) (omega arith) (let h = no.before in let end = inside.start.end in omega (arith, h, end))
+        in_unit limit u t fits (before_first true p) inside.start (next_offset_of p) (omega arith) (omega (arith, before, end)),
+        unit_reads limit u t fits (before_first true p) inside.start (next_offset_of p) (omega arith) (omega (arith, before, end))
             ∙ ap (λ v. some_entry (next_offset_of p) (next_of limit p v)) (here_is p) ∙ no.is (λ m. fine (ap Err m)),
       )
 
   next_kept : (s new : Standing) (d : ℤ) (outcome : Result Bool Error) → HasGoneOn limit d s.tree outcome new.tree → (outcome ≡ Err OutOfMemory → ⊥) → IsIn s
-      → IsIn new × IsTrueTold limit u (found t) (told_asked outcome new.tree)
+      → IsIn new × IsTrueTold limit u (found t) Next (told_asked outcome new.tree)
   next_kept s new d outcome g fine inside = (
     record {
       start = rw g.start inside.start;
@@ -106,14 +109,14 @@ module _ (limit : ℕ) (u : UnitView) (t : Table) (fits : length u.entries.bytes
     cases outcome g fine,
   )
     where
-      cases : (r : Result Bool Error) → HasGoneOn limit d s.tree r new.tree → (r ≡ Err OutOfMemory → ⊥) → IsTrueTold limit u (found t) (told_asked r new.tree)
+      cases : (r : Result Bool Error) → HasGoneOn limit d s.tree r new.tree → (r ≡ Err OutOfMemory → ⊥) → IsTrueTold limit u (found t) Next (told_asked r new.tree)
       cases (Ok true) g fine = let y = g.sought.yes refl in entry_law limit u t fits s.tree.cursor inside.here new.tree.cursor g.sought.unit.end y.0 y.1
       cases (Ok false) g fine = tt
       cases (Err e) g fine = (new.tree.cursor.offset, refusal_law limit u t fits s.tree.cursor inside.here new.tree.cursor e (λ m. fine (ap Err m)) (g.sought.refused e refl))
 
-  asked_kept : (s new : Standing) (told : Told) (list : Option ℤ) (outer : Lists) → IsIn s → HasAsked limit list outer s.tree told new → Kept s told new
+  asked_kept : (s new : Standing) (told : Told) (list : Option ℤ) (outer : Lists) → IsIn s → HasAsked limit list outer s.tree told new → Kept s Next told new
   asked_kept s new told None outer inside r =
-      same_kept s new told list_end (r.is ∙ ap (λ x. told_asked x new.tree) r.asked.0) r.asked.1 inside tt
+      same_kept s new Next told list_end (r.is ∙ ap (λ x. told_asked x new.tree) r.asked.0) r.asked.1 inside tt
   asked_kept s new told (Some d) outer inside r =
       let k = next_kept s new d r.outcome r.asked r.fine inside in
       record {
@@ -124,28 +127,60 @@ module _ (limit : ℕ) (u : UnitView) (t : Table) (fits : length u.entries.bytes
 
   -- a step but Root keeps all this
   kept : (b : Bool) (lists : Lists) (s : Standing) (step : TreeStep) (told : Told) (new : Standing) → is_root step ≡ false → IsIn s
-      → HasTurned limit step (record { tree = s.tree; is_on = b; lists = lists }) told new → Kept s told new
+      → HasTurned limit step (record { tree = s.tree; is_on = b; lists = lists }) told new → Kept s step told new
   kept b lists s Root told new other inside turned = absurd (cc)
-  kept b [] s Next told new other inside turned = same_kept s new told no_node turned.0 (ap (λ (x : Standing). x.tree) turned.1) inside tt
+  kept b [] s Next told new other inside turned = same_kept s new Next told no_node turned.0 (ap (λ (x : Standing). x.tree) turned.1) inside tt
   kept b (list ∷ outer) s Next told new other inside turned = asked_kept s new told list outer inside turned
-  kept true lists s Enter told new other inside turned = same_kept s new told has_entered turned.0 (ap (λ (x : Standing). x.tree) turned.1) inside tt
-  kept false lists s Enter told new other inside turned = same_kept s new told no_node turned.0 (ap (λ (x : Standing). x.tree) turned.1) inside tt
-  kept b [] s Leave told new other inside turned = same_kept s new told no_node turned.0 (ap (λ (x : Standing). x.tree) turned.1) inside tt
-  kept b (list ∷ outer) s Leave told new other inside turned = same_kept s new told has_left turned.0 (ap (λ (x : Standing). x.tree) turned.1) inside tt
+  kept true lists s Enter told new other inside turned = same_kept s new Enter told has_entered turned.0 (ap (λ (x : Standing). x.tree) turned.1) inside tt
+  kept false lists s Enter told new other inside turned = same_kept s new Enter told no_node turned.0 (ap (λ (x : Standing). x.tree) turned.1) inside tt
+  kept b [] s Leave told new other inside turned = same_kept s new Leave told no_node turned.0 (ap (λ (x : Standing). x.tree) turned.1) inside tt
+  kept b (list ∷ outer) s Leave told new other inside turned = same_kept s new Leave told has_left turned.0 (ap (λ (x : Standing). x.tree) turned.1) inside tt
 
-  turn_in : (s : Standing) (step : TreeStep) (told : Told) (new : Standing) → IsIn s → HasTurned limit step s told new → IsIn new × IsTrueTold limit u (found t) told
+  turn_in : (s : Standing) (step : TreeStep) (told : Told) (new : Standing) → IsIn s → HasTurned limit step s told new → IsIn new × IsTrueTold limit u (found t) step told
   turn_in s Root told new inside r = (root_in s new r.outcome r.begun inside, rw r.is (root_true s new r.outcome r.begun r.fine inside))
   turn_in s Next told new inside turned = let k = kept s.is_on s.lists s Next told new refl inside turned in (k.is_in, k.is_true)
   turn_in s Enter told new inside turned = let k = kept s.is_on s.lists s Enter told new refl inside turned in (k.is_in, k.is_true)
   turn_in s Leave told new inside turned = let k = kept s.is_on s.lists s Leave told new refl inside turned in (k.is_in, k.is_true)
 
   -- all answers are true
-  pub tree_true : (steps : List TreeStep) (s : Standing) (all : List Told) → HasTreeRun limit s steps all → IsIn s → AreTrueTolds limit u (found t) all
-  tree_true steps s [] run inside = tt
+  pub tree_true : (steps : List TreeStep) (s : Standing) (all : List Told) → HasTreeRun limit s steps all → IsIn s → AreTrueTolds limit u (found t) steps all
+  tree_true [] s [] run inside = tt
   tree_true [] s (a ∷ all) run inside = absurd run
+  tree_true (step ∷ steps) s [] run inside = tt
   tree_true (step ∷ steps) s (a ∷ all) (new, turned, more) inside =
       let k = turn_in s step a new inside turned in
       (k.1, tree_true steps new all more k.0)
+
+  -- each root is the tree's
+  turn_same : (is_on : Bool) (lists : Lists) (s : Standing) (step : TreeStep) (told : Told) (new : Standing) → HasTurned limit step (record { tree = s.tree; is_on = is_on; lists = lists }) told new
+      → new.tree.start ≡ s.tree.start
+  turn_same is_on lists s Root told new r = r.begun.start
+  turn_same is_on [] s Next told new r = ap (λ (x : Standing). x.tree.start) r.1
+  turn_same is_on (None ∷ outer) s Next told new r = ap (λ (x : TreeView). x.start) r.asked.1
+  turn_same is_on (Some d ∷ outer) s Next told new r = r.asked.start
+  turn_same true lists s Enter told new r = ap (λ (x : Standing). x.tree.start) r.1
+  turn_same false lists s Enter told new r = ap (λ (x : Standing). x.tree.start) r.1
+  turn_same is_on [] s Leave told new r = ap (λ (x : Standing). x.tree.start) r.1
+  turn_same is_on (list ∷ outer) s Leave told new r = ap (λ (x : Standing). x.tree.start) r.1
+
+  rooted_is : (outcome : Result (Unit {0}) Error) (old new : TreeView) → HasBegun limit old outcome new → (outcome ≡ Err OutOfMemory → ⊥)
+      → told_begun outcome new ≡ (to_root old.start.end (rows_of limit old.start)).told
+  rooted_is (Ok k) old new b fine = ap (λ (m : TreeMoved). m.told) (unless_fine (Ok k) b.goes fine)
+  rooted_is (Err e) old new b fine = ap (λ (m : TreeMoved). m.told) (unless_fine (Err e) b.goes fine)
+
+  is_rooted : (p : RawPlace) (s : Standing) (step : TreeStep) (told : Told) (new : Standing) → s.tree.start ≡ p → HasTurned limit step s told new → is_root step ≡ true
+      → told ≡ (to_root p.end (rows_of limit p)).told
+  is_rooted p s Root told new same r root = r.is ∙ rooted_is r.outcome s.tree new.tree r.begun r.fine ∙ ap (λ (x : RawPlace). (to_root x.end (rows_of limit x)).told) same
+  is_rooted p s Next told new same r root = absurd (cc)
+  is_rooted p s Enter told new same r root = absurd (cc)
+  is_rooted p s Leave told new same r root = absurd (cc)
+
+  pub tree_roots : (p : RawPlace) (steps : List TreeStep) (s : Standing) (all : List Told) → s.tree.start ≡ p → HasTreeRun limit s steps all → AreRoots (to_root p.end (rows_of limit p)).told steps all
+  tree_roots p [] s [] same run = tt
+  tree_roots p [] s (a ∷ all) same run = tt
+  tree_roots p (step ∷ steps) s [] same run = tt
+  tree_roots p (step ∷ steps) s (a ∷ all) same (new, turned, more) =
+      (is_rooted p s step a new same turned, tree_roots p steps new all (turn_same s.is_on s.lists s step a new turned ∙ same) more)
 
   -- the last node stands before what is read next
   abbrev IsBehindLast : Option ℕ → Standing → Type 0
@@ -343,8 +378,15 @@ module _ (limit : ℕ) (u : UnitView) (t : Table) (fits : length u.entries.bytes
       let stands = stands_first u t start i.0 fits i.1 in
       rw i.2 (record { start = stands; here = stands; follows = refl })
 
-  pub run_tree_true : AreTrueTolds limit u (found t) all
+  pub run_tree_true : AreTrueTolds limit u (found t) steps all
   run_tree_true = tree_true limit u t fits steps (at_none tree []) all run first_in
+
+  pub run_tree_roots : IfOk (tree_view u start) (λ v. AreRoots (root_at limit u (found t) v) steps all)
+  run_tree_roots =
+      let i = tree_is u t start tree begins in
+      let s = tree_start u t start i.0 i.1 in
+      let at : tree.start ≡ record { rest = s.0; encoding = u.encoding; abbreviations = t; end = whole_length u; depth = pos 0 } = ap (λ (x : TreeView). x.start) i.2 ∙ s.2 in
+      rw s.1 (tree_roots limit u t fits _ steps (at_none tree []) all at run)
 
   pub run_tree_growing : AreGrowing None steps all
   run_tree_growing = tree_growing limit u t fits steps (at_none tree []) all None run tt

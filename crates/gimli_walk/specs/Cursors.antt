@@ -1,5 +1,5 @@
 -- The answers of a list of steps of a cursor, and their text (DWARF 5, 2.3).
-use Rattle.std.specs.Prelude.{◌≡◌, ℕ, ◌-◌, ◌<◌, ℤ, pos, Bool, true, false, ◌||◌, if◌then◌else◌, ◌++◌, List, [], ◌∷◌, map, length, codes, Option, Some, None, IfSome, Result, Ok, Err}
+use Rattle.std.specs.Prelude.{◌≡◌, ℕ, ◌-◌, ◌<◌, ℤ, pos, Bool, true, false, ◌||◌, if◌then◌else◌, ◌++◌, List, [], ◌∷◌, map, length, codes, Option, Some, None, IfSome, Result, Ok, Err, ◌⊎◌}
 use Rattle.std.specs.Fmt.{decimal}
 use Rattle.std.specs.List.{list_any}
 use Rattle.std.specs.Result.{is_err}
@@ -12,7 +12,7 @@ use Rattle.gimli_base.specs.View.{View, cut}
 use Rattle.gimli_base.specs.Abbreviations.{Map}
 use Rattle.gimli_units.specs.Entry.{Entry, entry_of, entry_at}
 use Rattle.gimli_units.specs.Rows.{Row, Ahead, ahead_at}
-use Rattle.gimli_units.specs.Unit.{UnitView, whole_length, header_size, range_from, unit_entry_at}
+use Rattle.gimli_units.specs.Unit.{UnitView, whole_length, header_size, range_from, unit_entry_at, IsUnreadAt}
 use Rattle.gimli_units.specs.Honest.{AreHonest, usable}
 use Rattle.gimli_units.specs.CursorPlace.{Place, Moved, next_row, next_in_depth_first_order, next_of_depth, first_of_rows, next_offset, next_depth}
 use Rattle.gimli_walk.specs.declared.cursor.CursorAnswer.{CursorAnswer}
@@ -117,11 +117,16 @@ abbrev pub IsStopped : Bool → ℕ → ℕ → Type 0
 IsStopped true count steps = count < steps
 IsStopped false count steps = count ≡ steps
 
+-- the lines of a run that was stopped before its last answer, or before any, or of one that was not
+abbrev pub IsCut : Bool → ℕ → ℕ → Type 0
+IsCut true count steps = (count < steps) ⊎ (count ≡ 0)
+IsCut false count steps = count ≡ steps
+
 -- An answer is true, whatever the references: its entry is what the unit has at its offset, a null or a refusal likewise.
 pub record IsTrueAnswer (limit : ℕ) (u : UnitView) (declared : Map) (a : Answer) : Type 0 where
   pub entry : (e : Entry) → a.current ≡ Some e → unit_entry_at limit u declared a.offset ≡ Ok e
   pub null : a.outcome ≡ Ok true → a.current ≡ None → unit_entry_at limit u declared a.offset ≡ Err (NoEntryAtGivenOffset a.offset)
-  pub refusal : (x : Error) → a.outcome ≡ Err x → unit_entry_at limit u declared a.offset ≡ Err x
+  pub refusal : (x : Error) → a.outcome ≡ Err x → IsUnreadAt limit u declared a.offset x
 
 abbrev pub AreTrueAnswers : ℕ → UnitView → Map → List Answer → Type 0
 AreTrueAnswers limit u declared [] = Unit {0}

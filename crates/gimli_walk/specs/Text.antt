@@ -18,7 +18,7 @@ use Rattle.gimli_walk.specs.declared.mode.Mode.TheVariants.{Rows, Cursor, Plain,
 use Rattle.gimli_walk.specs.declared.cursor.CursorStep.{CursorStep}
 use Rattle.gimli_walk.specs.Trees.{tree_view, run_tree_answers, run_text_of}
 use Rattle.gimli_walk.specs.TreeText.{WroteTrueTree}
-use Rattle.gimli_walk.specs.Cursors.{Answer, answers_at, answers_text, answer_line, status_of, any_sibling, IsHonestAt, IsHonestFrom, AreTrueAnswers}
+use Rattle.gimli_walk.specs.Cursors.{Answer, answers_at, answers_text, answer_line, status_of, any_sibling, IsHonestAt, IsHonestFrom, IsCut, AreTrueAnswers}
 
 abbrev pub line_of : Row → List ℕ
 line_of r = row_line r.offset r.depth r.entry.tag.0 r.entry.has_children
@@ -123,17 +123,18 @@ WroteRun old new all true status = Appends old new (concat (map answer_line all)
 WroteRun old new all false status = Appends old new (concat (map answer_line all)) × (status ≡ status_of all)
 
 -- the lines of true answers, whatever the references: all of them, or, where memory was refused, the first, and then the line that says so
-pub record WroteTrue (limit : ℕ) (u : UnitView) (declared : Map) (old new : Option (List ℕ)) (status : ℕ) : Type 0 where
+pub record WroteTrue (limit : ℕ) (u : UnitView) (declared : Map) (steps : ℕ) (old new : Option (List ℕ)) (status : ℕ) : Type 0 where
   pub all : List Answer
   pub stopped : Bool
+  pub count : IsCut stopped (length all) steps
   pub are_true : AreTrueAnswers limit u declared all
   pub written : WroteRun old new all stopped status
 
 -- a mode that steps a cursor, or a tree, writes such lines
 abbrev pub WroteTrueMode : ℕ → Mode → UnitView → Map → Option (List ℕ) → Option (List ℕ) → ℕ → Type 0
 WroteTrueMode limit Rows u declared old new status = Unit {0}
-WroteTrueMode limit (Cursor steps) u declared old new status = WroteTrue limit u declared old new status
-WroteTrueMode limit (Plain steps) u declared old new status = WroteTrue limit u declared old new status
+WroteTrueMode limit (Cursor steps) u declared old new status = WroteTrue limit u declared (length steps.now) old new status
+WroteTrueMode limit (Plain steps) u declared old new status = WroteTrue limit u declared (length steps.now) old new status
 WroteTrueMode limit (Tree steps) u declared old new status = WroteTrueTree limit u declared steps.now old new status
 
 abbrev pub WroteTrueDeclared : ℕ → Mode → UnitView → Result Map Error → Option (List ℕ) → Option (List ℕ) → ℕ → Type 0

@@ -8,7 +8,7 @@ use Rattle.gimli_base.specs.View.{View, cut}
 use Rattle.gimli_base.specs.Abbreviations.{Map}
 use Rattle.gimli_units.specs.Entry.{Entry, entry_of, entry_at}
 use Rattle.gimli_units.specs.Rows.{Ahead, offset_of_view}
-use Rattle.gimli_units.specs.Unit.{UnitView, whole_length, header_size, range_from, unit_entry_at}
+use Rattle.gimli_units.specs.Unit.{UnitView, whole_length, header_size, in_bounds, range_from, unit_entry_at, IsUnreadAt}
 use Rattle.gimli_units.specs.Honest.{usable}
 use Rattle.gimli_units.specs.CursorPlace.{first_of_rows}
 use Rattle.gimli_units.specs.TreePlace.{Node, TreePlace, Told, a_node, list_end, has_entered, has_left, no_node, a_fault, TreeMoved, to_root, to_next, to_enter, to_leave, found_in}
@@ -60,16 +60,28 @@ tree_view u start = range_from u (unwrap_or start (header_size u))
 abbrev pub run_tree_answers : ℕ → UnitView → Map → Option ℕ → List TreeStep → Result (List Told) Error
 run_tree_answers limit u declared start steps = answer_of (tree_answers_at limit u declared steps) (tree_view u start)
 
--- An answer is true, whatever the references: a node's entry is what the unit has at its offset, and so is a refusal, at some offset of the
--- unit.
-abbrev pub IsTrueTold : ℕ → UnitView → Map → Told → Type 0
-IsTrueTold limit u declared (a_node n) = unit_entry_at limit u declared n.offset ≡ Ok n.entry
-IsTrueTold limit u declared (a_fault e) = (offset : ℕ) × (unit_entry_at limit u declared offset ≡ Err e)
-IsTrueTold limit u declared told = Unit {0}
+-- An answer is one that its step can give, and true whatever the references: a node's entry is what the unit has at its offset; what is
+-- refused stands in the bounds of the unit; a null is refused as a root alone.
+abbrev pub IsTrueTold : ℕ → UnitView → Map → TreeStep → Told → Type 0
+IsTrueTold limit u declared Root (a_node n) = unit_entry_at limit u declared n.offset ≡ Ok n.entry
+IsTrueTold limit u declared Root (a_fault e) = (offset : ℕ) × (in_bounds u offset ≡ true) × (unit_entry_at limit u declared offset ≡ Err e)
+IsTrueTold limit u declared Root told = ⊥
+IsTrueTold limit u declared Next (a_node n) = unit_entry_at limit u declared n.offset ≡ Ok n.entry
+IsTrueTold limit u declared Next (a_fault e) = (offset : ℕ) × IsUnreadAt limit u declared offset e
+IsTrueTold limit u declared Next list_end = Unit {0}
+IsTrueTold limit u declared Next no_node = Unit {0}
+IsTrueTold limit u declared Next told = ⊥
+IsTrueTold limit u declared Enter has_entered = Unit {0}
+IsTrueTold limit u declared Enter no_node = Unit {0}
+IsTrueTold limit u declared Enter told = ⊥
+IsTrueTold limit u declared Leave has_left = Unit {0}
+IsTrueTold limit u declared Leave no_node = Unit {0}
+IsTrueTold limit u declared Leave told = ⊥
 
-abbrev pub AreTrueTolds : ℕ → UnitView → Map → List Told → Type 0
-AreTrueTolds limit u declared [] = Unit {0}
-AreTrueTolds limit u declared (a ∷ rest) = IsTrueTold limit u declared a × AreTrueTolds limit u declared rest
+abbrev pub AreTrueTolds : ℕ → UnitView → Map → List TreeStep → List Told → Type 0
+AreTrueTolds limit u declared steps [] = Unit {0}
+AreTrueTolds limit u declared [] (a ∷ rest) = ⊥
+AreTrueTolds limit u declared (s ∷ steps) (a ∷ rest) = IsTrueTold limit u declared s a × AreTrueTolds limit u declared steps rest
 
 abbrev pub is_root : TreeStep → Bool
 is_root Root = true
@@ -82,6 +94,16 @@ is_next Root = false
 is_next Next = true
 is_next Enter = false
 is_next Leave = false
+
+-- Each Root answers the root.
+abbrev pub AreRoots : Told → List TreeStep → List Told → Type 0
+AreRoots root steps [] = Unit {0}
+AreRoots root [] (a ∷ rest) = Unit {0}
+AreRoots root (s ∷ steps) (a ∷ rest) = (is_root s ≡ true → a ≡ root) × AreRoots root steps rest
+
+-- the root of a tree, which begins at a view
+abbrev pub root_at : ℕ → UnitView → Map → View → Told
+root_at limit u declared v = (to_root (whole_length u) (unit_rows_at limit u declared (pos 0) v)).told
 
 -- the offset of the last node since the last root
 abbrev pub last_node : Option ℕ → TreeStep → Told → Option ℕ
