@@ -1,9 +1,9 @@
 -- What the answers of a run are: the definition's where the rows are honest, and true in any case.
-use Rattle.std.proofs.Common.{◌≡◌, ℕ, suc, ◌+◌, ◌-◌, ◌<◌, ◌≤◌, ◌++◌, ℤ, pos, Bool, true, false, List, [], ◌∷◌, length, length-append, map, drop, Option, Some, None, Result, Ok, Err, refl, sym, ap, ◌∙◌, subst, arith}
+use Rattle.std.proofs.Common.{◌≡◌, ℕ, suc, ◌<◌, ◌≤◌, ◌++◌, ℤ, pos, Bool, true, false, List, [], ◌∷◌, length, length-append, Option, Some, None, Result, Ok, Err, refl, sym, ap, ◌∙◌, subst, arith}
 use Rattle.std.specs.Prelude.{◌||◌, ◌&&◌, nat_le, if◌then◌else◌}
 use Rattle.std.proofs.lemmas.Bool.{leb-true}
 use Rattle.gimli_base.specs.declared.error.Error.{Error}
-use Rattle.gimli_base.specs.declared.error.Error.TheVariants.{OutOfMemory, NoEntryAtGivenOffset}
+use Rattle.gimli_base.specs.declared.error.Error.TheVariants.{OutOfMemory}
 use Rattle.gimli_base.specs.Reading.{UnlessMemory}
 use Rattle.gimli_base.specs.Table.{Table, found}
 use Rattle.std.proofs.lemmas.List.{append-nil}
@@ -16,15 +16,15 @@ use Rattle.gimli_units.specs.Unit.{UnitView, whole_length, range_from, entries_i
 use Rattle.gimli_units.specs.CursorStart.{before_first, raw_start, cursor_start}
 use Rattle.gimli_units.specs.Kind.{kind_of}
 use Rattle.gimli_units.specs.Honest.{target, within, usable}
-use Rattle.gimli_units.specs.CursorPlace.{Place, Moved, some_of, next_offset, next_depth, first_of_rows}
-use Rattle.gimli_units.specs.CursorMoves.{CursorView, rows_of, rows_from, place_of, last_row, followed_to, Goes, IsHonestFor, IsTrueEntry}
+use Rattle.gimli_units.specs.CursorPlace.{Place, Moved, some_of, next_offset, first_of_rows}
+use Rattle.gimli_units.specs.CursorMoves.{CursorView, rows_of, rows_from, place_of, last_row, followed_to, Goes}
 use Rattle.gimli_units.specs.CursorLaw.{StandsIn, start_stands, step_stands, unit_rows, entry_law, null_law, refusal_law}
 use Rattle.gimli_units.specs.PlaceLaw.{IsHonestCursor, honest_start, offset_is, depth_is, honest_for, honest_next, honest_dfs, honest_sibling}
 use Rattle.gimli_walk.specs.declared.cursor.CursorStep.{CursorStep}
 use Rattle.gimli_walk.specs.declared.cursor.CursorStep.TheVariants.{NextEntry, NextDfs, NextSibling}
 use Rattle.gimli_walk.specs.Runs.{IsFront}
 use Rattle.gimli_walk.specs.Cursors.{Answer, step_of, told, answers, start_of, unit_rows_at, start_view, answers_at, run_answers, IsHonestFrom, RunsAs, IsStopped, is_sibling, any_sibling, usable_of, IsTrueAnswer, AreTrueAnswers, IsTaken, AreTakenFrom, AreTaken}
-use Rattle.gimli_walk.specs.CursorTurns.{HasStepped, answer_at, HasAnswered, HasRun}
+use Rattle.gimli_walk.specs.CursorTurns.{answer_at, HasAnswered, HasRun}
 
 unless_fine : {A P : Type 0} → (r : Result A Error) → UnlessMemory r P → (r ≡ Err OutOfMemory → ⊥) → P
 unless_fine (Ok a) p fine = p

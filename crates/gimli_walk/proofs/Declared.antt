@@ -1,5 +1,5 @@
 -- The text of a unit whose declarations are refused.
-use Rattle.std.proofs.Common.{◌≡◌, ℕ, ◌<◌, true, List, [], ◌∷◌, sym, ap, Option, None, Result, Ok, Err, refl, arith, length, ◌⊎◌, inl, inr, length-append}
+use Rattle.std.proofs.Common.{◌≡◌, ℕ, true, List, [], ◌∷◌, sym, ap, Option, None, Result, Ok, Err, refl, arith, length, ◌⊎◌, inl, inr}
 use Rattle.std.specs.Io.KnownBytes.{Appends}
 use Rattle.gimli_base.specs.declared.error.Error.{Error}
 use Rattle.gimli_base.specs.declared.error.Error.TheVariants.{UnexpectedEof, BadUnsignedLeb128, BadSignedLeb128, UnknownReservedLength, UnknownVersion, UnknownUnitType, UnsupportedAddressSize, UnsupportedSegmentSize, UnsupportedOffset, UnsupportedOffsetSize, OffsetOutOfBounds, NoEntryAtGivenOffset, InvalidAbbreviationCode, UnknownForm, InvalidImplicitConst, UnknownRangeListsEntry, UnknownLocListsEntry, AddressOverflow, AbbreviationTagZero, InvalidAbbreviationChildren, AttributeNameZero, AttributeFormZero, DuplicateAbbreviationCode, OutOfMemory}
@@ -14,7 +14,7 @@ use Rattle.gimli_walk.specs.Lines.{Text, error_line, memory_line}
 use Rattle.gimli_walk.specs.Text.{Wrote, WroteText, wrote, no_line, declared_text, mode_text, IsHonestMode, IsHonestDeclared, WroteTrueMode, WroteTrueDeclared}
 use Rattle.gimli_walk.specs.declared.tree.TreeStep.{TreeStep}
 use Rattle.gimli_walk.specs.Trees.{AreTrueTolds, AreGrowing}
-use Rattle.gimli_walk.specs.TreeText.{WroteTrueTree, tree_lines}
+use Rattle.gimli_walk.specs.TreeText.{tree_lines}
 use Rattle.gimli_walk.proofs.WrittenLines.{Wrote-only, Wrote-memory}
 
 -- a refusal is that of memory, or another

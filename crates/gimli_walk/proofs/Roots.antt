@@ -1,12 +1,11 @@
 -- The rows of a unit from its first entry on.
-use Rattle.std.proofs.Common.{◌≡◌, ℕ, ◌-◌, ◌<◌, ◌≤◌, pos, true, false, List, Option, None, Result, Ok, Err, refl, ap, ◌∙◌, arith, length, ◌⊎◌, inl, inr, add-zero}
+use Rattle.std.proofs.Common.{◌≡◌, ℕ, ◌-◌, ◌<◌, ◌≤◌, pos, true, false, List, Option, None, Ok, Err, refl, ap, ◌∙◌, arith, length, ◌⊎◌, inl, inr, add-zero}
 use Rattle.std.specs.Prelude.{nat_le, nat_lt}
 use Rattle.std.specs.Io.KnownBytes.{Appends}
 use Rattle.std.proofs.lemmas.Bool.{le-leb, lt-ltb, le-ltb, cases_lt}
 use Rattle.gimli_base.specs.declared.error.Error.{Error}
 use Rattle.gimli_base.specs.declared.error.Error.TheVariants.{OffsetOutOfBounds}
 use Rattle.gimli_base.specs.View.{View, cut}
-use Rattle.gimli_base.specs.Abbreviations.{Map}
 use Rattle.gimli_base.specs.Table.{Table, found}
 use Rattle.gimli_units.specs.Entry.{entry_at}
 use Rattle.gimli_units.specs.RawPlace.{RawPlace}
@@ -16,7 +15,7 @@ use Rattle.gimli_units.specs.Unit.{UnitView, whole_length, header_size, range_fr
 use Rattle.gimli_headers.specs.UnitReads.{some_size}
 use Rattle.gimli_walk.specs.Lines.{end_line}
 use Rattle.gimli_walk.specs.Text.{Wrote, rows_text, unit_text}
-use Rattle.gimli_walk.proofs.WrittenLines.{Wrote-only, Wrote-same}
+use Rattle.gimli_walk.proofs.WrittenLines.{Wrote-only}
 
 cut_none : (v : View) → cut 0 v ≡ v
 cut_none v = rw add-zero refl

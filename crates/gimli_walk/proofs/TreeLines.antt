@@ -1,26 +1,24 @@
 -- The lines of a run of a tree, as a text.
 use Rattle.std.proofs.Common.{◌≡◌, ℕ, ◌<◌, ◌++◌, Bool, true, false, List, [], ◌∷◌, length, map, take, Option, Some, None, Result, Ok, Err, refl, sym, ap, ◌∙◌}
 use Rattle.std.specs.Prelude.{if◌then◌else◌, IfOk}
-use Rattle.std.specs.List.{concat, list_any}
+use Rattle.std.specs.List.{list_any}
 use Rattle.std.specs.Io.KnownBytes.{Appends}
-use Rattle.std.proofs.lemmas.List.{length-map, map-append}
+use Rattle.std.proofs.lemmas.List.{length-map}
 use Rattle.gimli_base.specs.declared.error.Error.{Error}
 use Rattle.gimli_base.specs.Refusal.{number_of}
 use Rattle.gimli_base.specs.View.{View}
 use Rattle.gimli_base.specs.Abbreviations.{Map}
 use Rattle.gimli_units.specs.Rows.{Ahead}
 use Rattle.gimli_units.specs.Unit.{UnitView, whole_length}
-use Rattle.gimli_units.specs.TreePlace.{Told, a_fault}
+use Rattle.gimli_units.specs.TreePlace.{Told}
 use Rattle.gimli_walk.specs.declared.tree.TreeStep.{TreeStep}
 use Rattle.gimli_walk.specs.declared.tree.TreeAnswer.{TreeAnswer}
 use Rattle.gimli_walk.specs.declared.tree.TreeAnswer.TheVariants.{Node, End, Entered, Left, NoNode, Fault}
-use Rattle.gimli_walk.specs.Runs.{IsFront}
-use Rattle.gimli_walk.specs.Lines.{Text, error_line, memory_line}
+use Rattle.gimli_walk.specs.Lines.{error_line, WroteRun}
 use Rattle.gimli_walk.specs.Cursors.{unit_rows_at, RunsAs, IsStopped}
 use Rattle.gimli_walk.specs.Trees.{told_by, tolds_by, told_line, tolds_text, is_fault, is_fault_answer, tree_view, tree_answers_at, before_steps, run_tree_answers, run_text_of}
-use Rattle.gimli_walk.specs.Text.{Wrote, all_lines, some_lines}
-use Rattle.gimli_walk.specs.TreeText.{WroteTreeRun}
-use Rattle.gimli_walk.proofs.AnswerLines.{if_ok, take_front}
+use Rattle.gimli_walk.specs.Text.{Wrote}
+use Rattle.gimli_walk.proofs.AnswerLines.{if_ok, run_wrote}
 use Rattle.gimli_walk.proofs.TreeTruth.{tree_answers_length}
 use Rattle.gimli_walk.proofs.WrittenLines.{Wrote-only}
 
@@ -46,32 +44,22 @@ pub fault_status : {R A O : Type 0} → (f : R → View) (g : O → ℕ) (items 
     → (if b then 1 else 0) ≡ (tolds_text (tolds_by {A = A} f g items)).status
 fault_status {A = A} f g items b is = rw (← any_same {A = A} f g items, ← is) refl
 
--- the lines of a run are those of all answers, or some from the front
-run_wrote : (old new : Option (List ℕ)) (xs all : List Told) (stopped : Bool) (steps status : ℕ) → IsFront xs all → (stopped ≡ false → xs ≡ all) → length all ≡ steps
-    → IsStopped stopped (length xs) steps → WroteTreeRun old new xs stopped status → Wrote old new (tolds_text all) status
-run_wrote old new xs all false steps status front whole count stop h = rw (← whole refl) (all_lines h.0 h.1)
-run_wrote old new xs all true steps status (rest, is) whole count stop h =
-    let lines : take (length xs) (map told_line all) ≡ map told_line xs =
-    ap (λ (l : List Told). take (length xs) (map told_line l)) is ∙ ap (take (length xs)) (map-append told_line xs rest)
-    ∙ ap (λ n. take n (map told_line xs ++ map told_line rest)) (sym (length-map xs told_line)) ∙ take_front (map told_line xs) (map told_line rest) in
-    some_lines (length xs) (rw (length-map all told_line, count) stop) (rw lines h.0) h.1
-
 module _ (limit : ℕ) (u : UnitView) (declared : Map) (steps : List TreeStep) (old new : Option (List ℕ)) where
   run_text : (xs : List Told) (stopped : Bool) (status : ℕ) → RunsAs (Ok (xs, stopped)) (run_tree_answers limit u declared None steps)
-      → IsStopped stopped (length xs) (length steps) → WroteTreeRun old new xs stopped status → Wrote old new (run_text_of (run_tree_answers limit u declared None steps)) status
+      → IsStopped stopped (length xs) (length steps) → WroteRun old new (tolds_text xs) stopped status → Wrote old new (run_text_of (run_tree_answers limit u declared None steps)) status
   run_text xs stopped status runs stop h = cases (tree_view u None) refl
     where
       cases : (r : Result View Error) → tree_view u None ≡ r → Wrote old new (run_text_of (run_tree_answers limit u declared None steps)) status
       cases (Ok v) is =
           let rows : Ahead = unit_rows_at limit u declared (Rattle.std.proofs.Common.pos 0) v in
           let r = rw is at runs in
-          rw is (run_wrote old new xs (tree_answers_at limit u declared steps v) stopped (length steps) status r.0 r.1 (tree_answers_length limit (whole_length u) rows steps (before_steps rows)) stop h)
+          rw is (run_wrote told_line (λ all. if list_any is_fault all then 1 else 0) old new xs (tree_answers_at limit u declared steps v) stopped (length steps) status r.0 r.1 (tree_answers_length limit (whole_length u) rows steps (before_steps rows)) stop h)
       cases (Err e) is = absurd (rw is at runs)
 
   -- the same, by the code's answers
   pub tree_run_lines : {R A O E : Type 0} → (f : R → View) (g : O → ℕ) (items : List (TreeAnswer R A O)) (stopped : Bool) (r : Result ℕ E)
       → RunsAs (Ok (tolds_by {A = A} f g items, stopped)) (run_tree_answers limit u declared None steps) → IsStopped stopped (length items) (length steps)
-      → IfOk r (λ status. WroteTreeRun old new (tolds_by {A = A} f g items) stopped status)
+      → IfOk r (λ status. WroteRun old new (tolds_text (tolds_by {A = A} f g items)) stopped status)
       → IfOk r (λ status. Wrote old new (run_text_of (run_tree_answers limit u declared None steps)) status)
   tree_run_lines {A = A} f g items stopped r runs stop h =
       if_ok r (λ status w. run_text (tolds_by {A = A} f g items) stopped status runs (rw (length-map items (told_by {A = A} f g)) stop) w) h

@@ -1,18 +1,18 @@
 -- The parts of a run of a tree, and how they are joined.
-use Rattle.std.proofs.Common.{◌≡◌, ℕ, ◌+◌, ◌-◌, ◌<◌, ◌≤◌, ◌++◌, ℤ, Bool, true, false, List, [], ◌∷◌, length, length-append, drop, Option, Some, None, Result, Ok, Err, refl, sym, ap, ◌∙◌, arith, append_assoc, ◌⊎◌, inl, inr}
+use Rattle.std.proofs.Common.{◌≡◌, ℕ, ◌+◌, ◌<◌, ◌≤◌, ◌++◌, ℤ, Bool, true, false, List, [], ◌∷◌, length, length-append, drop, Option, Some, None, Result, Ok, Err, refl, sym, ap, ◌∙◌, arith, append_assoc, ◌⊎◌, inl, inr}
 use Rattle.std.specs.Prelude.{IfOk}
 use Rattle.std.proofs.lemmas.List.{append-nil}
 use Rattle.gimli_base.specs.declared.error.Error.{Error}
 use Rattle.gimli_base.specs.declared.error.Error.TheVariants.{OutOfMemory}
 use Rattle.gimli_units.specs.Entry.{is_null}
-use Rattle.gimli_units.specs.TreePlace.{Lists, Told, has_entered, has_left, no_node, list_end, children_of}
-use Rattle.gimli_units.specs.TreeMoves.{TreeView, node_at, list_of, HasBegun}
+use Rattle.gimli_units.specs.TreePlace.{Lists, Told, has_entered, no_node, children_of}
+use Rattle.gimli_units.specs.TreeMoves.{TreeView, node_at, HasBegun}
 use Rattle.gimli_walk.specs.declared.tree.TreeStep.{TreeStep}
 use Rattle.gimli_walk.specs.declared.tree.TreeStep.TheVariants.{Root, Next, Enter, Leave}
 use Rattle.gimli_walk.specs.declared.tree.Found.{Found}
 use Rattle.gimli_walk.specs.declared.tree.Found.TheVariants.{Node, End, Fault}
 use Rattle.gimli_walk.specs.TreeFound.{found_by, HasFound, HasFoundRoot}
-use Rattle.gimli_walk.specs.TreeTurns.{Standing, at_node, at_none, told_begun, after_begun, HasRooted, WasAsked, told_asked, after_asked, HasAsked, HasTurned, HasTreeRun, HasWalked, enters, asks_lists}
+use Rattle.gimli_walk.specs.TreeTurns.{Standing, at_node, at_none, told_begun, after_begun, WasAsked, told_asked, after_asked, HasTurned, HasTreeRun, HasWalked, enters, asks_lists}
 
 module _ (limit : ℕ) (steps : List TreeStep) where
   -- nothing was done yet

@@ -1,5 +1,5 @@
 -- What the answers of a run of a tree are, whatever the references: true, with growing offsets, and references are taken.
-use Rattle.std.proofs.Common.{◌≡◌, ℕ, suc, ◌+◌, ◌-◌, ◌<◌, ◌≤◌, ◌++◌, ℤ, pos, Bool, true, false, List, [], ◌∷◌, length, length-append, Option, Some, None, Result, Ok, Err, refl, sym, ap, ◌∙◌, subst, arith, add-zero}
+use Rattle.std.proofs.Common.{◌≡◌, ℕ, ◌-◌, ◌<◌, ◌≤◌, ◌++◌, ℤ, pos, Bool, true, false, List, [], ◌∷◌, length, length-append, Option, Some, None, Result, Ok, Err, refl, sym, ap, ◌∙◌, arith, add-zero}
 use Rattle.std.specs.Prelude.{if◌then◌else◌, nat_le, ◌&&◌, unwrap_or, IfOk}
 use Rattle.std.proofs.lemmas.List.{append-nil}
 use Rattle.std.proofs.lemmas.Bool.{leb-true}
@@ -13,11 +13,11 @@ use Rattle.gimli_base.specs.Table.{Table, found}
 use Rattle.gimli_base.specs.View.{View, cut}
 use Rattle.gimli_units.specs.Entry.{Entry, is_null, entry_at}
 use Rattle.gimli_units.specs.RawPlace.{RawPlace, next_offset_of}
-use Rattle.gimli_units.specs.Rows.{Ahead, offset_of_view}
+use Rattle.gimli_units.specs.Rows.{Ahead}
 use Rattle.gimli_units.specs.Kind.{kind_of}
 use Rattle.gimli_units.specs.Honest.{target, within, usable}
-use Rattle.gimli_units.specs.Unit.{UnitView, whole_length, header_size, range_from, entries_in, entries_from, some_entry, unit_entry_at}
-use Rattle.gimli_units.specs.CursorPlace.{Moved, first_of_rows}
+use Rattle.gimli_units.specs.Unit.{UnitView, whole_length, header_size, range_from, entries_in, entries_from, some_entry}
+use Rattle.gimli_units.specs.CursorPlace.{first_of_rows}
 use Rattle.gimli_units.specs.CursorMoves.{CursorView, next_of, rows_of, rows_from, place_of, last_row, followed_to, view_from, IsSameUnit, IsFurther}
 use Rattle.gimli_units.specs.CursorStart.{before_first}
 use Rattle.gimli_units.specs.CursorLaw.{StandsIn, start_stands, step_stands, in_unit, unit_rows, entry_law, refusal_law}
@@ -29,7 +29,7 @@ use Rattle.gimli_walk.specs.declared.tree.TreeStep.TheVariants.{Root, Next, Ente
 use Rattle.gimli_walk.specs.Runs.{IsFront}
 use Rattle.gimli_walk.specs.Cursors.{unit_rows_at, IsHonestFrom, RunsAs, IsStopped}
 use Rattle.gimli_walk.specs.Trees.{tree_answers_at, before_steps, tree_view, run_tree_answers, IsTrueTold, AreTrueTolds, AreRoots, root_at, last_node, IsPast, IsPastLast, AreGrowing, is_next, is_root, IsTakenFrom, IsTakenBehind, AreTakenBehind}
-use Rattle.gimli_walk.specs.TreeTurns.{Standing, at_node, at_none, told_begun, after_begun, HasRooted, WasAsked, told_asked, after_asked, HasAsked, HasNothing, HasTurned, HasTreeRun}
+use Rattle.gimli_walk.specs.TreeTurns.{Standing, at_none, told_begun, told_asked, after_asked, HasAsked, HasTurned, HasTreeRun}
 use Rattle.gimli_walk.proofs.TreeTruth.{unless_fine, tree_front, tree_answers_length}
 
 -- what is read next stands at the next offset

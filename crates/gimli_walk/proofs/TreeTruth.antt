@@ -1,28 +1,21 @@
 -- What the answers of a run of a tree are: the definition's where the rows are honest, and true in any case.
-use Rattle.std.proofs.Common.{◌≡◌, ℕ, suc, ◌+◌, ◌-◌, ◌<◌, ◌≤◌, ◌++◌, ℤ, pos, Bool, true, false, List, [], ◌∷◌, length, length-append, map, Option, Some, None, Result, Ok, Err, refl, sym, ap, ◌∙◌, subst, arith, length-drop}
-use Rattle.std.proofs.lemmas.List.{append-nil}
+use Rattle.std.proofs.Common.{◌≡◌, ℕ, suc, ◌++◌, ℤ, pos, Bool, true, false, List, [], ◌∷◌, length, Option, Some, None, Result, Ok, Err, refl, sym, ap, ◌∙◌}
 use Rattle.gimli_base.specs.declared.error.Error.{Error}
 use Rattle.gimli_base.specs.declared.error.Error.TheVariants.{OutOfMemory}
 use Rattle.gimli_base.specs.Reading.{UnlessMemory}
-use Rattle.gimli_base.specs.Table.{Table, found}
-use Rattle.gimli_base.specs.View.{View, cut}
-use Rattle.gimli_units.specs.Entry.{Entry, is_null}
-use Rattle.gimli_units.specs.RawPlace.{RawPlace, next_offset_of}
+use Rattle.gimli_units.specs.RawPlace.{RawPlace}
 use Rattle.gimli_units.specs.Rows.{Ahead}
 use Rattle.gimli_units.specs.Honest.{AreHonest}
-use Rattle.gimli_units.specs.Unit.{UnitView, whole_length, some_entry, unit_entry_at}
-use Rattle.gimli_units.specs.CursorMoves.{CursorView, next_of, rows_of, view_from, IsHonestFor}
-use Rattle.gimli_units.specs.CursorStart.{before_first}
-use Rattle.gimli_units.specs.CursorLaw.{StandsIn, step_stands, entry_law, refusal_law}
+use Rattle.gimli_units.specs.CursorMoves.{rows_of}
 use Rattle.gimli_units.specs.PlaceLaw.{IsHonestCursor}
 use Rattle.gimli_units.specs.TreeLaw.{honest_at, honest_sought, honest_first}
-use Rattle.gimli_units.specs.TreePlace.{Lists, TreePlace, Told, a_node, list_end, has_entered, has_left, no_node, a_fault, children_of, TreeMoved, to_root, to_next, to_enter, to_leave}
-use Rattle.gimli_units.specs.TreeMoves.{TreeView, node_at, on_node, in_lists, begun, gone_on, HasBegun, HasGoneOn}
+use Rattle.gimli_units.specs.TreePlace.{Lists, TreePlace, Told, list_end, has_entered, has_left, no_node, children_of, TreeMoved, to_next, to_enter, to_leave}
+use Rattle.gimli_units.specs.TreeMoves.{TreeView, node_at, in_lists, begun, gone_on, HasBegun}
 use Rattle.gimli_walk.specs.declared.tree.TreeStep.{TreeStep}
 use Rattle.gimli_walk.specs.declared.tree.TreeStep.TheVariants.{Root, Next, Enter, Leave}
 use Rattle.gimli_walk.specs.Runs.{IsFront}
 use Rattle.gimli_walk.specs.Trees.{tree_step, tree_answers}
-use Rattle.gimli_walk.specs.TreeTurns.{Standing, at_node, at_none, standing_place, told_begun, after_begun, HasRooted, WasAsked, told_asked, after_asked, HasAsked, HasNothing, HasTurned, HasTreeRun}
+use Rattle.gimli_walk.specs.TreeTurns.{Standing, at_node, at_none, standing_place, told_begun, after_begun, HasRooted, told_asked, after_asked, HasAsked, HasTurned, HasTreeRun}
 
 pub unless_fine : {A P : Type 0} → (r : Result A Error) → UnlessMemory r P → (r ≡ Err OutOfMemory → ⊥) → P
 unless_fine (Ok a) p fine = p

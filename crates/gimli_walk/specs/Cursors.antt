@@ -1,5 +1,5 @@
 -- The answers of a list of steps of a cursor, and their text (DWARF 5, 2.3).
-use Rattle.std.specs.Prelude.{◌≡◌, ℕ, ◌-◌, ◌<◌, ℤ, pos, Bool, true, false, ◌||◌, if◌then◌else◌, ◌++◌, List, [], ◌∷◌, map, length, codes, Option, Some, None, IfSome, Result, Ok, Err, ◌⊎◌}
+use Rattle.std.specs.Prelude.{◌≡◌, ℕ, ◌-◌, ◌<◌, ℤ, pos, Bool, true, false, ◌||◌, if◌then◌else◌, ◌++◌, List, [], ◌∷◌, map, codes, Option, Some, None, IfSome, Result, Ok, Err, ◌⊎◌}
 use Rattle.std.specs.Fmt.{decimal}
 use Rattle.std.specs.List.{list_any}
 use Rattle.std.specs.Result.{is_err}
@@ -11,7 +11,7 @@ use Rattle.gimli_base.specs.Refusal.{number_of}
 use Rattle.gimli_base.specs.View.{View, cut}
 use Rattle.gimli_base.specs.Abbreviations.{Map}
 use Rattle.gimli_units.specs.Entry.{Entry, entry_of, entry_at}
-use Rattle.gimli_units.specs.Rows.{Row, Ahead, ahead_at}
+use Rattle.gimli_units.specs.Rows.{Ahead, ahead_at}
 use Rattle.gimli_units.specs.Unit.{UnitView, whole_length, header_size, range_from, unit_entry_at, IsUnreadAt}
 use Rattle.gimli_units.specs.Honest.{AreHonest, usable}
 use Rattle.gimli_units.specs.CursorPlace.{Place, Moved, next_row, next_in_depth_first_order, next_of_depth, first_of_rows, next_offset, next_depth}

@@ -1,5 +1,7 @@
 -- The lines that a walk writes (DWARF 5, 2.3).
-use Rattle.std.specs.Prelude.{ℕ, Bool, true, false, ℤ, List, [], ◌∷◌, ◌++◌, codes}
+use Rattle.std.specs.Prelude.{◌≡◌, ℕ, Bool, true, false, ℤ, List, [], ◌∷◌, ◌++◌, codes, Option}
+use Rattle.std.specs.List.{concat}
+use Rattle.std.specs.Io.KnownBytes.{Appends}
 use Rattle.std.specs.Fmt.{digits, signed_decimal, decimal}
 use Rattle.gimli_base.specs.declared.error.Error.TheVariants.{OutOfMemory}
 use Rattle.gimli_base.specs.Refusal.{number_of}
@@ -43,3 +45,8 @@ memory_line = error_line (number_of OutOfMemory)
 -- a text of one line
 abbrev pub only : List ℕ → ℕ → Text
 only line status = record { lines = line ∷ []; status = status }
+
+-- what a run of these answers writes, whether it was stopped or not: their lines, with their status, or those and the line that says so
+abbrev pub WroteRun : Option (List ℕ) → Option (List ℕ) → Text → Bool → ℕ → Type 0
+WroteRun old new text true status = Appends old new (concat text.lines ++ memory_line) × (status ≡ 1)
+WroteRun old new text false status = Appends old new (concat text.lines) × (status ≡ text.status)

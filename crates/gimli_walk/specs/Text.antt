@@ -1,5 +1,5 @@
 -- The text of a walk over the first unit of `.debug_info`, as a function of the bytes of two sections.
-use Rattle.std.specs.Prelude.{◌≡◌, ℕ, ◌<◌, ◌^◌, ◌==◌, if◌then◌else◌, Bool, true, false, ℤ, pos, List, [], ◌∷◌, ◌++◌, map, take, length, codes, Option, Some, None, Result, Ok, Err}
+use Rattle.std.specs.Prelude.{◌≡◌, ℕ, ◌<◌, ◌^◌, ◌==◌, if◌then◌else◌, Bool, true, false, pos, List, [], ◌∷◌, ◌++◌, map, take, length, Option, Some, None, Result, Ok, Err}
 use Rattle.std.specs.List.{concat}
 use Rattle.std.specs.Io.KnownBytes.{Appends}
 use Rattle.gimli_base.specs.declared.common.SectionId.TheVariants.{DebugInfo}
@@ -12,13 +12,13 @@ use Rattle.gimli_units.specs.Entry.{entry_at}
 use Rattle.gimli_units.specs.Rows.{Row, Ahead, ahead_at}
 use Rattle.gimli_units.specs.Unit.{UnitView, whole_length}
 use Rattle.gimli_headers.specs.Header.{unit_at}
-use Rattle.gimli_walk.specs.Lines.{Text, row_line, end_line, no_unit_line, error_line, error_line_at, memory_line, only}
+use Rattle.gimli_walk.specs.Lines.{Text, row_line, end_line, no_unit_line, error_line, error_line_at, memory_line, only, WroteRun}
 use Rattle.gimli_walk.specs.declared.mode.Mode.{Mode}
 use Rattle.gimli_walk.specs.declared.mode.Mode.TheVariants.{Rows, Cursor, Plain, Tree}
 use Rattle.gimli_walk.specs.declared.cursor.CursorStep.{CursorStep}
 use Rattle.gimli_walk.specs.Trees.{tree_view, run_tree_answers, run_text_of}
 use Rattle.gimli_walk.specs.TreeText.{WroteTrueTree}
-use Rattle.gimli_walk.specs.Cursors.{Answer, answers_at, answers_text, answer_line, status_of, any_sibling, IsHonestAt, IsHonestFrom, IsCut, AreTrueAnswers}
+use Rattle.gimli_walk.specs.Cursors.{Answer, answers_at, answers_text, any_sibling, IsHonestAt, IsHonestFrom, IsCut, AreTrueAnswers}
 
 abbrev pub line_of : Row → List ℕ
 line_of r = row_line r.offset r.depth r.entry.tag.0 r.entry.has_children
@@ -117,18 +117,13 @@ pub data WroteText (old new : Option (List ℕ)) (text : Text) (status : ℕ) : 
   wrote : Wrote old new text status → WroteText old new text status
   no_line : text.lines ≡ [] → Appends old new memory_line → status ≡ 1 → WroteText old new text status
 
--- the lines of a run that was stopped, or not
-abbrev pub WroteRun : Option (List ℕ) → Option (List ℕ) → List Answer → Bool → ℕ → Type 0
-WroteRun old new all true status = Appends old new (concat (map answer_line all) ++ memory_line) × (status ≡ 1)
-WroteRun old new all false status = Appends old new (concat (map answer_line all)) × (status ≡ status_of all)
-
 -- the lines of true answers, whatever the references: all of them, or, where memory was refused, the first, and then the line that says so
 pub record WroteTrue (limit : ℕ) (u : UnitView) (declared : Map) (steps : ℕ) (old new : Option (List ℕ)) (status : ℕ) : Type 0 where
   pub all : List Answer
   pub stopped : Bool
   pub count : IsCut stopped (length all) steps
   pub are_true : AreTrueAnswers limit u declared all
-  pub written : WroteRun old new all stopped status
+  pub written : WroteRun old new (answers_text all) stopped status
 
 -- a mode that steps a cursor, or a tree, writes such lines
 abbrev pub WroteTrueMode : ℕ → Mode → UnitView → Map → Option (List ℕ) → Option (List ℕ) → ℕ → Type 0

@@ -1,6 +1,5 @@
 -- What the text of a tree's walk is, whatever the references.
-use Rattle.std.specs.Prelude.{◌≡◌, ℕ, Bool, true, false, List, ◌++◌, map, length, Option, Some, None, Result, Ok, Err}
-use Rattle.std.specs.List.{concat}
+use Rattle.std.specs.Prelude.{◌≡◌, ℕ, Bool, List, length, Option, None, Err}
 use Rattle.std.specs.Io.KnownBytes.{Appends}
 use Rattle.gimli_base.specs.declared.error.Error.{Error}
 use Rattle.gimli_base.specs.Refusal.{number_of}
@@ -8,17 +7,12 @@ use Rattle.gimli_base.specs.Abbreviations.{Map}
 use Rattle.gimli_units.specs.Unit.{UnitView}
 use Rattle.gimli_units.specs.TreePlace.{Told}
 use Rattle.gimli_walk.specs.declared.tree.TreeStep.{TreeStep}
-use Rattle.gimli_walk.specs.Lines.{Text, error_line, memory_line}
+use Rattle.gimli_walk.specs.Lines.{error_line, WroteRun}
 use Rattle.gimli_walk.specs.Cursors.{IsCut}
-use Rattle.gimli_walk.specs.Trees.{told_line, tolds_text, tree_view, AreTrueTolds, AreGrowing}
-
--- the lines of a run that was stopped, or not
-abbrev pub WroteTreeRun : Option (List ℕ) → Option (List ℕ) → List Told → Bool → ℕ → Type 0
-WroteTreeRun old new all true status = Appends old new (concat (map told_line all) ++ memory_line) × (status ≡ 1)
-WroteTreeRun old new all false status = Appends old new (concat (map told_line all)) × (status ≡ (tolds_text all).status)
+use Rattle.gimli_walk.specs.Trees.{tolds_text, tree_view, AreTrueTolds, AreGrowing}
 
 -- The lines of true answers: all of them, or, where memory was refused, the first, and then the line that says so. Or the tree's start is
 -- refused.
 pub data WroteTrueTree (limit : ℕ) (u : UnitView) (declared : Map) (steps : List TreeStep) (old new : Option (List ℕ)) (status : ℕ) : Type 0 where
-  tree_lines : (all : List Told) (stopped : Bool) → AreTrueTolds limit u declared steps all → AreGrowing None steps all → IsCut stopped (length all) (length steps) → WroteTreeRun old new all stopped status → WroteTrueTree limit u declared steps old new status
+  tree_lines : (all : List Told) (stopped : Bool) → AreTrueTolds limit u declared steps all → AreGrowing None steps all → IsCut stopped (length all) (length steps) → WroteRun old new (tolds_text all) stopped status → WroteTrueTree limit u declared steps old new status
   no_tree : (e : Error) → tree_view u None ≡ Err e → Appends old new (error_line (number_of e)) → status ≡ 1 → WroteTrueTree limit u declared steps old new status

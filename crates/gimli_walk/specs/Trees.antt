@@ -1,5 +1,5 @@
 -- The answers of a list of steps of a tree, and their text (DWARF 5, 2.3).
-use Rattle.std.specs.Prelude.{◌≡◌, ℕ, ◌-◌, ◌<◌, ℤ, pos, Bool, true, false, if◌then◌else◌, ◌++◌, List, [], ◌∷◌, map, length, codes, unwrap_or, Option, Some, None, Result, Ok, Err}
+use Rattle.std.specs.Prelude.{◌≡◌, ℕ, ◌-◌, ◌<◌, ℤ, pos, Bool, true, false, if◌then◌else◌, ◌++◌, List, [], ◌∷◌, map, codes, unwrap_or, Option, Some, None, Result, Ok, Err}
 use Rattle.std.specs.List.{list_any}
 use Rattle.gimli_base.specs.declared.error.Error.{Error}
 use Rattle.gimli_base.specs.Offset.{answer_of}
@@ -11,7 +11,7 @@ use Rattle.gimli_units.specs.Rows.{Ahead, offset_of_view}
 use Rattle.gimli_units.specs.Unit.{UnitView, whole_length, header_size, in_bounds, range_from, unit_entry_at, IsUnreadAt}
 use Rattle.gimli_units.specs.Honest.{usable}
 use Rattle.gimli_units.specs.CursorPlace.{first_of_rows}
-use Rattle.gimli_units.specs.TreePlace.{Node, TreePlace, Told, a_node, list_end, has_entered, has_left, no_node, a_fault, TreeMoved, to_root, to_next, to_enter, to_leave, found_in}
+use Rattle.gimli_units.specs.TreePlace.{TreePlace, Told, a_node, list_end, has_entered, has_left, no_node, a_fault, TreeMoved, to_root, to_next, to_enter, to_leave, found_in}
 use Rattle.gimli_walk.specs.declared.tree.TreeAnswer.{TreeAnswer}
 use Rattle.gimli_walk.specs.declared.tree.TreeAnswer.TheVariants.{Node as NodeAnswer, End, Entered, Left, NoNode, Fault}
 use Rattle.gimli_walk.specs.declared.tree.TreeStep.{TreeStep}

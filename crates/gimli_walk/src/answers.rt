@@ -4,8 +4,8 @@ ghost use Rattle.std.specs.Prelude.{◌≡◌, map, Bool, OnOk, IfOk};
 ghost use Rattle.std.specs.List.{concat, list_any};
 ghost use Rattle.std.specs.Result.{is_err};
 ghost use Rattle.std.specs.Io.KnownBytes.{Appends};
-ghost use Rattle.gimli_walk.specs.Cursors.{seen, outcome_text, answer_line, status_of};
-ghost use Rattle.gimli_walk.specs.Text.{WroteRun};
+ghost use Rattle.gimli_walk.specs.Cursors.{seen, outcome_text, answer_line, answers_text};
+ghost use Rattle.gimli_walk.specs.Lines.{WroteRun};
 
 use crate::lines::{WriteFault, write_error, write_row};
 use crate::{CursorAnswer, Run};
@@ -79,7 +79,7 @@ pub(crate) fn write_run<R: Reader, A: Allocator, W: Write>(
     out: &mut W,
     run: &Run<CursorAnswer<R, A>, A>,
 ) -> Result<u8, WriteFault>
-    ensures { IfOk result (λ status. WroteRun (W.contents out.old) (W.contents out.new) (map (seen R.view R.Offset.number) run.now.answers.items) run.now.stopped status) }
+    ensures { IfOk result (λ status. WroteRun (W.contents out.old) (W.contents out.new) (answers_text (map (seen R.view R.Offset.number) run.now.answers.items)) run.now.stopped status) }
 {
     write_answers(out, &run.answers)?;
     if run.stopped {

@@ -3,8 +3,8 @@
 ghost use Rattle.std.specs.Prelude.{◌≡◌, map, Bool, OnOk, IfOk};
 ghost use Rattle.std.specs.List.{concat, list_any};
 ghost use Rattle.std.specs.Io.KnownBytes.{Appends};
-ghost use Rattle.gimli_walk.specs.Trees.{told_by, tolds_by, node_line, told_line, is_fault_answer};
-ghost use Rattle.gimli_walk.specs.TreeText.{WroteTreeRun};
+ghost use Rattle.gimli_walk.specs.Lines.{WroteRun};
+ghost use Rattle.gimli_walk.specs.Trees.{told_by, tolds_by, node_line, told_line, tolds_text, is_fault_answer};
 
 use crate::lines::{WriteFault, write_end, write_error, write_row};
 use crate::{Run, TreeAnswer};
@@ -87,7 +87,7 @@ pub(crate) fn write_tree_run<R: Reader, A: Allocator, W: Write>(
     out: &mut W,
     run: &Run<TreeAnswer<R, A>, A>,
 ) -> Result<u8, WriteFault>
-    ensures { IfOk result (λ status. WroteTreeRun (W.contents out.old) (W.contents out.new) (tolds_by R.view R.Offset.number run.now.answers.items) run.now.stopped status) }
+    ensures { IfOk result (λ status. WroteRun (W.contents out.old) (W.contents out.new) (tolds_text (tolds_by R.view R.Offset.number run.now.answers.items)) run.now.stopped status) }
 {
     write_tolds(out, &run.answers)?;
     if run.stopped {

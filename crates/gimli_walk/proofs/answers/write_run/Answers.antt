@@ -1,4 +1,4 @@
-use Rattle.std.proofs.Common.{rules, ◌≡◌, refl, sym, ap, ◌∙◌, true, false}
+use Rattle.std.proofs.Common.{sym, ap, ◌∙◌, true, false}
 use Rattle.std.specs.List.{list_any}
 use Rattle.std.specs.Result.{is_err}
 use Rattle.gimli_walk.proofs.AnswerLines.{status_is}

@@ -1,4 +1,4 @@
-use Rattle.std.proofs.Common.{rules, ◌≡◌, refl, sym, ap, ◌∙◌, arith, map, Ok, Err, true, false, length}
+use Rattle.std.proofs.Common.{rules, ◌≡◌, ◌∙◌, Err, true}
 use Rattle.std.proofs.lemmas.List.{length-map}
 use Rattle.std.specs.Option.{option_map}
 use Rattle.gimli_units.specs.UnitKind.{map_type}

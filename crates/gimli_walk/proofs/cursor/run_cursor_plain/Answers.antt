@@ -1,10 +1,10 @@
-use Rattle.std.proofs.Common.{rules, ◌≡◌, refl, sym, ap, ◌∙◌, arith, map, Ok, Err, true, false, length}
+use Rattle.std.proofs.Common.{rules, ◌≡◌, ◌∙◌, Err, false}
 use Rattle.std.proofs.lemmas.List.{length-map}
 use Rattle.std.specs.Option.{option_map}
 use Rattle.gimli_units.specs.UnitKind.{map_type}
 use Rattle.gimli_units.specs.Unit.{UnitView}
 use Rattle.gimli_walk.specs.Cursors.{seen}
-use Rattle.gimli_walk.proofs.CursorTruth.{run_true, run_taken, run_as, run_refused, start_refused, start_in, stopped_is}
+use Rattle.gimli_walk.proofs.CursorTruth.{run_true, run_as, run_refused, start_refused, start_in, stopped_is}
 use Rattle.gimli_walk.proofs.cursor.run_cursor_plain.Goals as goal
 
 pub returns-clause-answers : goal.returns-clause-answers

@@ -1,4 +1,4 @@
-use Rattle.std.proofs.Common.{rules, ◌≡◌, ◌++◌, [], ◌∷◌, refl, sym, ap, ◌∙◌, arith, map, drop, get_or, length, length-append}
+use Rattle.std.proofs.Common.{[], ◌∷◌, ap, ◌∙◌, arith, map, length, length-append}
 use Rattle.std.proofs.lemmas.List.{drop_more, map-append}
 use Rattle.gimli_walk.specs.declared.cursor.CursorStep.TheVariants.{NextEntry}
 use Rattle.std.proofs.lemmas.List.Elements.{All-append, All-cons, All-nil}

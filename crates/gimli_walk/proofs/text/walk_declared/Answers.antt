@@ -1,4 +1,4 @@
-use Rattle.std.proofs.Common.{rules, ◌≡◌, refl, sym, ap, ◌∙◌}
+use Rattle.std.proofs.Common.{refl}
 use Rattle.gimli_base.specs.Table.{found}
 use Rattle.gimli_units.specs.UnitKind.{map_type}
 use Rattle.gimli_units.specs.Unit.{UnitView}
@@ -8,7 +8,7 @@ use Rattle.gimli_walk.specs.TreeText.{tree_lines, no_tree}
 use Rattle.gimli_walk.specs.Cursors.{seen}
 use Rattle.gimli_walk.specs.Trees.{told_by}
 use Rattle.gimli_walk.proofs.AnswerLines.{if_ok, is_cut, run_lines}
-use Rattle.gimli_walk.proofs.TreeLines.{tree_run_lines, no_tree_line}
+use Rattle.gimli_walk.proofs.TreeLines.{tree_run_lines}
 use Rattle.gimli_walk.proofs.text.walk_declared.Goals as goal
 
 pub returns-in-Ok-clause-text : goal.returns-in-Ok-clause-text

@@ -1,7 +1,6 @@
-use Rattle.std.proofs.Common.{rules, ◌≡◌, refl, sym, ap, ◌∙◌}
 use Rattle.gimli_units.specs.UnitKind.{map_type}
 use Rattle.gimli_units.specs.Unit.{UnitView}
-use Rattle.gimli_walk.specs.Text.{IsHonestDeclared, declared_text, mode_text}
+use Rattle.gimli_walk.specs.Text.{mode_text}
 use Rattle.gimli_walk.proofs.Declared.{undeclared, undeclared_true, walked_declared}
 use Rattle.gimli_walk.proofs.text.walk_unit.Goals as goal
 

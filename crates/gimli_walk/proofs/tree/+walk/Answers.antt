@@ -1,10 +1,9 @@
-use Rattle.std.proofs.Common.{rules, ◌≡◌, ◌+◌, ◌-◌, ◌<◌, ◌≤◌, refl, sym, ap, ◌∙◌, arith, Ok, Err, true, false, length, drop, [], ◌∷◌, None, w64, FitsSigned}
+use Rattle.std.proofs.Common.{rules, ◌≡◌, ◌+◌, ◌-◌, ◌<◌, refl, sym, ap, ◌∙◌, arith, Err, length, [], ◌∷◌, None, w64, FitsSigned}
 use Rattle.std.proofs.lemmas.Int.{to_z-of_z}
-use Rattle.gimli_base.specs.declared.error.Error.TheVariants.{OutOfMemory}
 use Rattle.gimli_units.specs.Entry.{Entry}
-use Rattle.gimli_units.specs.TreePlace.{list_end, has_entered, has_left, no_node, a_fault, a_node, children_of}
-use Rattle.gimli_units.specs.TreeMoves.{node_at, list_of}
-use Rattle.gimli_walk.specs.declared.tree.TreeStep.TheVariants.{Root, Next, Enter, Leave}
+use Rattle.gimli_units.specs.TreePlace.{has_left, no_node}
+use Rattle.gimli_units.specs.TreeMoves.{list_of}
+use Rattle.gimli_walk.specs.declared.tree.TreeStep.TheVariants.{Enter, Leave}
 use Rattle.gimli_walk.specs.declared.tree.Found.TheVariants.{Node, End, Fault}
 use Rattle.gimli_walk.proofs.TreeRuns.{walked_none, walked_stop, walked_fail, walked_step, walked_then, walked_root, walked_end, walked_drop, walked_found, found_entry, walked_enter, walked_far}
 use Rattle.gimli_walk.proofs.tree.+walk.Goals as goal

@@ -1,4 +1,4 @@
-use Rattle.std.proofs.Common.{◌≡◌, ◌-◌, ◌≤◌, ◌∷◌, List, length, drop, Ok}
+use Rattle.std.proofs.Common.{◌-◌, ◌∷◌, length, Ok}
 use Rattle.gimli_units.specs.TreePlace.{Lists}
 use Rattle.gimli_units.specs.TreeMoves.{list_of}
 use Rattle.gimli_walk.specs.Trees.{tolds_by}

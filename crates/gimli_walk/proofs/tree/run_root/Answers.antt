@@ -1,5 +1,5 @@
-use Rattle.std.proofs.Common.{rules, ◌≡◌, ◌≤◌, length, refl, sym, ap, ◌∙◌, arith, Ok, Err, true, false, []}
-use Rattle.gimli_walk.proofs.TreeRuns.{walked_none, walked_stop, walked_fail, walked_then, walked_begun, begun_entry, walked_far, further_then}
+use Rattle.std.proofs.Common.{rules, ◌≡◌, ◌≤◌, length, arith, Err, true, false, []}
+use Rattle.gimli_walk.proofs.TreeRuns.{walked_none, walked_stop, walked_fail, walked_then, walked_begun, walked_far, further_then}
 use Rattle.gimli_walk.proofs.tree.run_root.Goals as goal
 
 pub returns-in_err-ask_root-clause-walk : goal.returns-in_err-ask_root-clause-walk

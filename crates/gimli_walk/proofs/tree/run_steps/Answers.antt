@@ -1,7 +1,6 @@
-use Rattle.std.proofs.Common.{rules, ◌≡◌, refl, sym, ap, ◌∙◌, arith, Ok, Err}
+use Rattle.std.proofs.Common.{rules, ◌≡◌, arith, Err}
 use Rattle.gimli_units.specs.TreePlace.{no_node}
-use Rattle.gimli_walk.specs.declared.tree.TreeStep.TheVariants.{Root, Next, Enter, Leave}
-use Rattle.gimli_walk.proofs.TreeRuns.{walked_none, walked_stop, walked_step, walked_then, walked_fail, walked_far, nothing_there}
+use Rattle.gimli_walk.proofs.TreeRuns.{walked_none, walked_step, walked_then, walked_far, nothing_there}
 use Rattle.gimli_walk.proofs.tree.run_steps.Goals as goal
 
 pub steps-init : goal.steps-init

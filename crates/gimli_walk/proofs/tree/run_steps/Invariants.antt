@@ -1,7 +1,6 @@
-use Rattle.std.proofs.Common.{◌≡◌, ◌-◌, ◌≤◌, List, [], length, drop, Ok}
-use Rattle.gimli_units.specs.TreeMoves.{TreeView}
+use Rattle.std.proofs.Common.{◌-◌, [], length, Ok}
 use Rattle.gimli_walk.specs.Trees.{tolds_by}
-use Rattle.gimli_walk.specs.TreeTurns.{at_none, at_node, HasWalked}
+use Rattle.gimli_walk.specs.TreeTurns.{at_none, HasWalked}
 use Rattle.gimli_walk.proofs.tree.run_steps.Given as goal
 
 abbrev pub invariant-steps : goal.invariant-steps

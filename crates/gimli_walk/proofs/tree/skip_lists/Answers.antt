@@ -1,6 +1,5 @@
-use Rattle.std.proofs.Common.{rules, ◌≡◌, refl, sym, ap, ◌∙◌, arith, Ok, Err}
+use Rattle.std.proofs.Common.{rules, ◌≡◌, Err}
 use Rattle.gimli_units.specs.TreePlace.{no_node}
-use Rattle.gimli_walk.specs.declared.tree.TreeStep.TheVariants.{Root, Next, Enter, Leave}
 use Rattle.gimli_walk.proofs.TreeRuns.{walked_none, walked_stop, walked_step, nothing_beside}
 use Rattle.gimli_walk.proofs.tree.skip_lists.Goals as goal
 

@@ -1,4 +1,3 @@
-use Rattle.std.proofs.Common.{rules, ◌≡◌, refl, sym, ap, ◌∙◌, arith}
 use Rattle.gimli_walk.proofs.tree.tell_node.Goals as goal
 
 pub returns-clause-told : goal.returns-clause-told
