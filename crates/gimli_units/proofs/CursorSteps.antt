@@ -1,20 +1,19 @@
 -- One read of a cursor is one step of its place.
-use Rattle.std.proofs.Common.{◌≡◌, ℕ, zero, suc, ◌+◌, ◌-◌, ◌<◌, ◌≤◌, ◌==◌, ℤ, pos, ◌+ℤ◌, ◌-ℤ◌, Bool, true, false, List, [], ◌∷◌, length, Option, Some, None, Result, Ok, Err, refl, sym, ap, ◌∙◌, subst, arith, inl, inr, ◌⊎◌, add-zero}
-use Rattle.std.specs.Prelude.{not, unsigned_abs, if◌then◌else◌}
-use Rattle.std.specs.Ordering.{int_eq}
+use Rattle.std.proofs.Common.{◌≡◌, ℕ, ◌+◌, ◌-◌, ◌≤◌, ℤ, pos, ◌-ℤ◌, Bool, true, false, length, Some, None, Result, Ok, Err, refl, sym, ap, ◌∙◌, arith, add-zero}
+use Rattle.std.specs.Prelude.{unsigned_abs, if◌then◌else◌}
 use Rattle.std.proofs.lemmas.Int.{ints}
 use Rattle.gimli_base.specs.declared.error.Error.{Error}
 use Rattle.gimli_base.specs.declared.error.Error.TheVariants.{OutOfMemory}
 use Rattle.gimli_base.specs.View.{View, cut, ended}
-use Rattle.gimli_base.specs.Reading.{Reads, UnlessMemory}
+use Rattle.gimli_base.specs.Reading.{UnlessMemory}
 use Rattle.gimli_base.specs.Table.{found}
 use Rattle.gimli_units.specs.Entry.{Entry, is_null, null_entry, abbreviation_at, takes_memory}
-use Rattle.gimli_units.specs.EntryReads.{entry_at-later, entry_at-shorter}
+use Rattle.gimli_units.specs.EntryReads.{entry_at-shorter}
 use Rattle.gimli_units.specs.RawPlace.{RawPlace, next_offset_of, below_flag, depth_after}
-use Rattle.gimli_units.specs.Rows.{Row, Ahead, offset_of_view, ahead_at}
+use Rattle.gimli_units.specs.Rows.{offset_of_view}
 use Rattle.gimli_units.specs.RowSteps.{then_row, no_row, ahead_ended, ahead_refused, ahead_more}
-use Rattle.gimli_units.specs.CursorPlace.{Place, Moved, some_of, is_entry, ran_out, arrive, skip_until, next_row, next_in_depth_first_order, seek}
-use Rattle.gimli_units.specs.CursorMoves.{CursorView, next_of, rows_of, place_of, last_row, Goes, IsAheadOf, view_from, takes_memory_at, IsSound}
+use Rattle.gimli_units.specs.CursorPlace.{next_row}
+use Rattle.gimli_units.specs.CursorMoves.{CursorView, next_of, rows_of, last_row, Goes, view_from, takes_memory_at, IsSound}
 use Rattle.gimli_units.proofs.Memory.{entry_at-never}
 use Rattle.gimli_units.specs.CursorRead.{stands_at, after_entry, after_refusal, after_end, HasRead, an_entry, the_end, a_refusal}
 

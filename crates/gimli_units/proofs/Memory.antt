@@ -1,13 +1,12 @@
 -- Reads that take no memory never answer want of memory.
-use Rattle.std.proofs.Common.{◌≡◌, ℕ, zero, suc, ◌-◌, ◌+◌, ◌*◌, ◌==◌, Bool, true, false, List, [], ◌∷◌, Option, Some, None, Result, Ok, Err, refl, sym, ap, ◌∙◌}
+use Rattle.std.proofs.Common.{◌≡◌, ℕ, zero, suc, ◌-◌, ◌+◌, ◌*◌, ◌==◌, Bool, true, false, List, [], ◌∷◌, Option, Some, None, Ok, Err, refl, ap}
 use Rattle.std.specs.Prelude.{nat_lt, nat_le, length, slice_index, if◌then◌else◌}
 use Rattle.gimli_base.specs.declared.common.Encoding.{Encoding}
-use Rattle.gimli_base.specs.declared.error.Error.{Error}
 use Rattle.gimli_base.specs.declared.error.Error.TheVariants.{OutOfMemory, InvalidAbbreviationCode, BadUnsignedLeb128}
 use Rattle.gimli_base.specs.View.{View, cut}
 use Rattle.gimli_base.specs.Reading.{Reads, ◌>>=◌, made, eof, byte_at, uleb_within, uleb_at}
 use Rattle.gimli_base.specs.Abbreviations.{Declaration, Specification, Map}
-use Rattle.gimli_units.specs.Entry.{Entry, Attr, entry_of_declared, attributes_at, abbreviation_at, content_at, entry_at, takes_memory}
+use Rattle.gimli_units.specs.Entry.{attributes_at, abbreviation_at, content_at, entry_at, takes_memory}
 
 -- a read that never answers want of memory
 abbrev Never : {A : Type 0} → Reads A → Type 0

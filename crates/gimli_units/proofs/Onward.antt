@@ -1,24 +1,23 @@
 -- A cursor that has gone on in its unit: what it then reads stands where its start would find it.
-use Rattle.std.proofs.Common.{◌≡◌, ℕ, ◌+◌, ◌-◌, ◌<◌, ◌≤◌, ℤ, Bool, true, false, List, [], ◌∷◌, length, Option, Some, None, Result, Ok, Err, refl, sym, ap, ◌∙◌, subst, arith, length-drop, add-zero}
+use Rattle.std.proofs.Common.{◌≡◌, ℕ, ◌+◌, ◌-◌, ◌<◌, ◌≤◌, ℤ, Bool, true, false, length, Option, Some, None, Result, Ok, Err, refl, sym, ap, ◌∙◌, arith, length-drop, add-zero}
 use Rattle.std.proofs.lemmas.List.{drop_all}
 use Rattle.std.specs.Prelude.{nat_le, int_le, ◌&&◌, if◌then◌else◌}
 use Rattle.std.proofs.lemmas.Bool.{leb-true}
 use Rattle.gimli_base.specs.declared.error.Error.{Error}
-use Rattle.gimli_base.specs.declared.error.Error.TheVariants.{OutOfMemory}
 use Rattle.gimli_base.specs.Both.{both}
 use Rattle.gimli_base.specs.Offset.{answer_of}
 use Rattle.gimli_base.specs.View.{View, cut, ended}
 use Rattle.gimli_base.specs.Reading.{Reads, UnlessMemory}
 use Rattle.gimli_base.specs.Table.{found}
 use Rattle.gimli_base.specs.Later.{IsLater, IsLater-length, IsLater-none, IsLater-trans, IsLater-weaker, cut-cut}
-use Rattle.gimli_units.specs.Entry.{Entry, is_null, null_entry, abbreviation_at, takes_memory}
+use Rattle.gimli_units.specs.Entry.{Entry, null_entry}
 use Rattle.gimli_units.specs.EntryReads.{entry_at-later, entry_at-shorter}
-use Rattle.gimli_units.specs.RawPlace.{RawPlace, next_offset_of, depth_after}
-use Rattle.gimli_units.specs.Kind.{Kind, kind_of}
+use Rattle.gimli_units.specs.RawPlace.{RawPlace, next_offset_of}
+use Rattle.gimli_units.specs.Kind.{kind_of}
 use Rattle.gimli_units.specs.Honest.{target, within, usable}
-use Rattle.gimli_units.specs.CursorMoves.{CursorView, next_of, rows_of, last_row, followed_to, view_from, what_at, takes_memory_at, IsSameUnit, IsTrueEntry, IsRefused, IsFurther, AreFewReads, IsReadOnce, reads_ahead, IsSound}
-use Rattle.gimli_units.specs.CursorRead.{stands_at, after_entry, after_refusal, after_end, stands_if, HasRead, an_entry, the_end, a_refusal, following}
-use Rattle.gimli_units.proofs.CursorSteps.{rows_entry, rows_end, rows_refusal, rows_over, sound_read}
+use Rattle.gimli_units.specs.CursorMoves.{CursorView, next_of, last_row, followed_to, view_from, what_at, takes_memory_at, IsSameUnit, IsTrueEntry, IsRefused, IsFurther, AreFewReads, IsReadOnce, IsSound}
+use Rattle.gimli_units.specs.CursorRead.{stands_at, stands_if, HasRead, an_entry, the_end, a_refusal, following}
+use Rattle.gimli_units.proofs.CursorSteps.{rows_entry, rows_refusal, rows_over, sound_read}
 
 -- a cursor that began at `start` stands at `here`
 pub record Onward (start here : CursorView) : Type 0 where

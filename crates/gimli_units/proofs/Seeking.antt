@@ -1,27 +1,26 @@
 -- Turns of the search for a depth: each entry that is passed, or left for where its reference leads, leaves what is sought.
-use Rattle.std.proofs.Common.{◌≡◌, ℕ, zero, suc, ◌+◌, ◌-◌, ◌<◌, ◌≤◌, ℤ, pos, ◌+ℤ◌, ◌-ℤ◌, Bool, true, false, List, [], ◌∷◌, length, Option, Some, None, Result, Ok, Err, refl, sym, ap, ◌∙◌, subst, arith, inl, inr, ◌⊎◌, ◌==◌, length-drop}
+use Rattle.std.proofs.Common.{◌≡◌, ℕ, ◌+◌, ◌-◌, ◌<◌, ℤ, pos, ◌+ℤ◌, ◌-ℤ◌, Bool, true, false, length, Option, Some, None, Result, Ok, Err, refl, sym, ap, ◌∙◌, arith, inl, inr, ◌==◌, length-drop}
 use Rattle.std.specs.Prelude.{not, int_le, ◌≤ℤ◌, if◌then◌else◌}
 use Rattle.std.specs.Ordering.{int_eq}
 use Rattle.std.proofs.lemmas.Int.{ints}
 use Rattle.std.proofs.lemmas.Bool.{not-true, not-false, ne_eqb}
 use Rattle.gimli_base.specs.Later.{IsLater-length}
 use Rattle.gimli_base.specs.declared.error.Error.{Error}
-use Rattle.gimli_base.specs.View.{View, cut}
-use Rattle.gimli_base.specs.Reading.{Reads, UnlessMemory}
+use Rattle.gimli_base.specs.View.{View}
+use Rattle.gimli_base.specs.Reading.{UnlessMemory}
 use Rattle.gimli_base.specs.Table.{found}
-use Rattle.gimli_units.specs.Entry.{Entry, is_null, null_entry, entry_at}
+use Rattle.gimli_units.specs.Entry.{Entry, is_null, null_entry}
 use Rattle.gimli_units.specs.EntryReads.{entry_at-later}
-use Rattle.gimli_units.specs.RawPlace.{RawPlace, next_offset_of, below_flag, depth_after}
-use Rattle.gimli_units.specs.Rows.{Row, Ahead}
-use Rattle.gimli_units.specs.Kind.{Kind, null, leaf, parent, kind_of, sibling_of}
-use Rattle.gimli_units.specs.Honest.{past, target, within, usable, IsHonest, AreHonestUntil}
-use Rattle.gimli_units.specs.CursorPlace.{Place, Moved, some_of, is_entry, ran_out, arrive, skip_until, seek, first_of_rows, has_depth, IsPlaceUntil}
-use Rattle.gimli_units.specs.CursorMoves.{CursorView, next_of, rows_of, rows_from, place_of, last_row, followed_to, view_from, IsHonestFor, IsAheadOf, IsPlaceAhead, IsReadOnce, reads_ahead, one_if_left, IsSound, IsTrueEntry, IsRefused}
-use Rattle.gimli_units.specs.CursorRead.{stands_at, stands_if, after_entry, after_refusal, after_end, HasRead, an_entry, the_end, a_refusal, target_for, following, Stands, HasSought}
+use Rattle.gimli_units.specs.RawPlace.{next_offset_of, below_flag, depth_after}
+use Rattle.gimli_units.specs.Kind.{null, leaf, parent, sibling_of}
+use Rattle.gimli_units.specs.Honest.{target, within, usable, AreHonestUntil}
+use Rattle.gimli_units.specs.CursorPlace.{seek, first_of_rows, has_depth}
+use Rattle.gimli_units.specs.CursorMoves.{CursorView, next_of, rows_of, rows_from, place_of, last_row, followed_to, view_from, IsHonestFor, IsPlaceAhead, IsReadOnce, reads_ahead, one_if_left, IsSound, IsTrueEntry, IsRefused}
+use Rattle.gimli_units.specs.CursorRead.{stands_at, stands_if, after_entry, after_refusal, HasRead, an_entry, the_end, a_refusal, following, HasSought}
 use Rattle.gimli_units.proofs.CursorSteps.{rows_entry, rows_end, rows_refusal, rows_over}
 use Rattle.gimli_units.proofs.Flagless.{entry_at-flagless}
-use Rattle.gimli_units.proofs.Splits.{false_is_true, differs, equal, at_least, jump}
-use Rattle.gimli_units.proofs.Onward.{Onward, onward_start, onward_follow, onward_read, read_once, true_entry, true_refusal, no_entry, followed_bounds, unless_then, view_here, same_next}
+use Rattle.gimli_units.proofs.Splits.{differs, equal, at_least, jump}
+use Rattle.gimli_units.proofs.Onward.{Onward, onward_start, onward_follow, onward_read, read_once, true_entry, true_refusal, followed_bounds, unless_then, view_here, same_next}
 use Rattle.gimli_units.proofs.Walking.{place_on, refused_place, read_shorter}
 
 -- where a reference is followed, the entry has children: the depth behind it is one more

@@ -1,19 +1,19 @@
 -- Behind the closer of a row: a jump there leaves what is sought.
-use Rattle.std.proofs.Common.{◌≡◌, ℕ, ◌+◌, ◌-◌, ◌<◌, ◌≤◌, ℤ, pos, ◌+ℤ◌, ◌-ℤ◌, Bool, true, false, List, [], ◌∷◌, length, Option, Some, None, Result, Ok, Err, refl, sym, ap, ◌∙◌, subst, arith, length-drop, inl, inr, ◌⊎◌}
-use Rattle.std.specs.Prelude.{not, ◌&&◌, if◌then◌else◌, int_le, ◌≤ℤ◌}
+use Rattle.std.proofs.Common.{◌≡◌, ℕ, ◌-◌, ◌<◌, ◌≤◌, ℤ, pos, ◌+ℤ◌, ◌-ℤ◌, Bool, true, false, List, [], ◌∷◌, length, Option, Some, Ok, refl, sym, ap, ◌∙◌, arith, length-drop, inr}
+use Rattle.std.specs.Prelude.{◌&&◌, if◌then◌else◌, int_le, ◌≤ℤ◌}
 use Rattle.std.specs.Ordering.{int_eq}
 use Rattle.std.proofs.lemmas.Int.{ints}
 use Rattle.std.proofs.lemmas.Bool.Decides.{Decides-int_eq}
 use Rattle.gimli_base.specs.declared.error.Error.{Error}
 use Rattle.gimli_base.specs.View.{View, cut}
 use Rattle.gimli_base.specs.Reading.{Reads}
-use Rattle.gimli_base.specs.Later.{IsLater, IsLater-length, IsLater-none, IsLater-trans, IsLater-weaker}
+use Rattle.gimli_base.specs.Later.{IsLater, IsLater-length, IsLater-trans, IsLater-weaker}
 use Rattle.gimli_units.specs.Entry.{Entry, is_null}
 use Rattle.gimli_units.specs.RawPlace.{below_flag, depth_after}
 use Rattle.gimli_units.specs.Rows.{Row, Ahead, offset_of_view, ahead_at}
-use Rattle.gimli_units.specs.RowChain.{IsRow, AreRows, exist_rows, unique_rows}
-use Rattle.gimli_units.specs.Honest.{closes, past, IsHonest, AreHonestUntil}
-use Rattle.gimli_units.specs.CursorPlace.{Place, Moved, is_entry, ran_out, arrive, skip_until, has_depth, seek, IsPlaceUntil}
+use Rattle.gimli_units.specs.RowChain.{AreRows, exist_rows, unique_rows}
+use Rattle.gimli_units.specs.Honest.{closes, past, AreHonestUntil}
+use Rattle.gimli_units.specs.CursorPlace.{skip_until, has_depth, seek, IsPlaceUntil}
 
 pub false_is_true : false ≡ true → ⊥
 false_is_true e = cc

@@ -1,25 +1,24 @@
 -- One read is the step of a tree to its root, and a search for a depth is one to the next node of a list.
-use Rattle.std.proofs.Common.{◌≡◌, ℕ, ◌+◌, ◌-◌, ◌<◌, ◌≤◌, ◌^◌, ℤ, pos, Bool, true, false, List, [], ◌∷◌, length, Option, Some, None, Result, Ok, Err, refl, sym, ap, ◌∙◌, arith, length-drop, ltb-true}
-use Rattle.std.specs.Prelude.{not, unsigned_abs, ◌≤ℤ◌, if◌then◌else◌, nat_le, nat_lt, unwrap_or}
+use Rattle.std.proofs.Common.{◌≡◌, ℕ, ◌-◌, ◌<◌, ◌≤◌, ◌^◌, ℤ, pos, Bool, true, false, List, [], ◌∷◌, length, Option, Some, None, Result, Ok, Err, refl, sym, ap, ◌∙◌, arith, length-drop, ltb-true}
+use Rattle.std.specs.Prelude.{not, ◌≤ℤ◌, if◌then◌else◌, nat_le, nat_lt, unwrap_or}
 use Rattle.std.proofs.lemmas.Bool.{leb-true}
 use Rattle.std.proofs.lemmas.Int.{ints}
 use Rattle.gimli_base.specs.declared.error.Error.{Error}
 use Rattle.gimli_base.specs.declared.error.Error.TheVariants.{OutOfMemory, NoEntryAtGivenOffset, OffsetOutOfBounds}
 use Rattle.gimli_base.specs.Both.{both}
 use Rattle.gimli_base.specs.View.{View, cut}
-use Rattle.gimli_base.specs.Reading.{Reads, UnlessMemory}
 use Rattle.gimli_base.specs.Table.{Table}
 use Rattle.gimli_base.specs.Later.{IsLater-none, IsLater-trans}
 use Rattle.gimli_units.specs.Entry.{Entry, is_null}
 use Rattle.gimli_units.specs.RawPlace.{RawPlace, next_offset_of, below_flag, depth_after}
 use Rattle.gimli_units.specs.Rows.{Row, Ahead}
 use Rattle.gimli_units.specs.Unit.{UnitView, whole_length, header_size, in_bounds, range_from, entries_in, entries_from, some_entry}
-use Rattle.gimli_units.specs.CursorPlace.{Place, Moved, is_entry, has_depth, arrive, skip_until, seek, first_of_rows}
-use Rattle.gimli_units.specs.CursorMoves.{CursorView, next_of, rows_of, place_of, IsHonestFor, IsTrueEntry, IsRefused, IsSound, takes_memory_at}
+use Rattle.gimli_units.specs.CursorPlace.{Moved, is_entry, has_depth, arrive, skip_until, seek, first_of_rows}
+use Rattle.gimli_units.specs.CursorMoves.{CursorView, next_of, rows_of, place_of, IsTrueEntry, IsSound}
 use Rattle.gimli_units.specs.CursorRead.{after_entry, after_refusal, HasRead, an_entry, the_end, a_refusal, HasSought, Stands}
 use Rattle.gimli_units.specs.CursorStart.{before_first}
-use Rattle.gimli_units.specs.TreePlace.{Node, Lists, TreePlace, a_node, list_end, a_fault, TreeMoved, rooted, to_root, found_in, to_next}
-use Rattle.gimli_units.specs.TreeMoves.{TreeView, before_root, IsTree, node_at, list_of, on_node, in_lists, begun, gone_on, IsNoRoot, HasBegun, HasGoneOn}
+use Rattle.gimli_units.specs.TreePlace.{Lists, list_end, a_fault, rooted, to_root, found_in, to_next}
+use Rattle.gimli_units.specs.TreeMoves.{TreeView, before_root, IsTree, list_of, in_lists, begun, gone_on, HasBegun, HasGoneOn}
 use Rattle.gimli_units.proofs.CursorSteps.{rows_entry, rows_refusal, rows_over}
 use Rattle.gimli_units.proofs.Onward.{Onward, onward_start, onward_read, true_entry, unless_then}
 

@@ -1,19 +1,17 @@
 -- Turns of the walk in depth-first order: each null that is passed leaves what is sought.
-use Rattle.std.proofs.Common.{◌≡◌, ℕ, zero, suc, ◌+◌, ◌-◌, ◌<◌, ◌≤◌, ℤ, Bool, true, false, List, [], ◌∷◌, length, Option, Some, None, Result, Ok, Err, refl, sym, ap, ◌∙◌, subst, arith, inl, inr, ◌⊎◌}
-use Rattle.std.specs.Prelude.{not}
+use Rattle.std.proofs.Common.{◌≡◌, ℕ, ◌<◌, ℤ, Bool, true, false, length, Result, Ok, Err, refl, sym, ◌∙◌, arith, inl, inr}
 use Rattle.std.proofs.lemmas.Bool.Decides.{eqb_tells}
 use Rattle.gimli_base.specs.declared.error.Error.{Error}
-use Rattle.gimli_base.specs.declared.error.Error.TheVariants.{OutOfMemory}
 use Rattle.gimli_base.specs.View.{View}
 use Rattle.gimli_base.specs.Reading.{Reads, UnlessMemory}
 use Rattle.gimli_units.specs.Entry.{Entry, is_null, null_entry}
 use Rattle.gimli_base.specs.Table.{found}
 use Rattle.gimli_units.specs.EntryReads.{entry_at-shorter}
-use Rattle.gimli_units.specs.RawPlace.{RawPlace, next_offset_of, depth_after}
-use Rattle.gimli_units.specs.Rows.{Row, Ahead}
-use Rattle.gimli_units.specs.CursorPlace.{Place, Moved, some_of, is_entry, ran_out, arrive, skip_until, last_offset, last_depth, next_row, next_in_depth_first_order, next_of_depth, seek, IsPlaceUntil}
-use Rattle.gimli_units.specs.CursorMoves.{CursorView, next_of, rows_of, place_of, last_row, Goes, IsAheadOf, IsPlaceAhead, IsReadOnce, reads_ahead, IsSound, IsTrueEntry, IsRefused}
-use Rattle.gimli_units.specs.CursorRead.{stands_at, after_entry, after_refusal, after_end, HasRead, an_entry, the_end, a_refusal}
+use Rattle.gimli_units.specs.RawPlace.{RawPlace, next_offset_of}
+use Rattle.gimli_units.specs.Rows.{Row}
+use Rattle.gimli_units.specs.CursorPlace.{is_entry, next_in_depth_first_order, next_of_depth, seek}
+use Rattle.gimli_units.specs.CursorMoves.{CursorView, next_of, rows_of, place_of, last_row, Goes, IsPlaceAhead, IsReadOnce, IsSound}
+use Rattle.gimli_units.specs.CursorRead.{after_entry, after_refusal, after_end, HasRead, an_entry, the_end, a_refusal}
 use Rattle.gimli_units.proofs.CursorSteps.{rows_entry, rows_end, rows_refusal, rows_over}
 use Rattle.gimli_units.proofs.Onward.{Onward, onward_start, onward_read, read_once}
 

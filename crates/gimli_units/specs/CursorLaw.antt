@@ -1,6 +1,6 @@
 -- What a cursor of a unit answers is what the unit has at that offset.
-use Rattle.std.specs.Prelude.{◌≡◌, ℕ, ◌+◌, ◌-◌, ◌<◌, ◌≤◌, ℤ, pos, Bool, true, false, nat_le, nat_lt, ◌&&◌, if◌then◌else◌, length, Option, Some, None, Result, Ok, Err}
-use Rattle.std.proofs.Common.{refl, sym, ap, ◌∙◌, arith, length-drop, le-leb, lt-ltb, ltb-true}
+use Rattle.std.specs.Prelude.{◌≡◌, ℕ, ◌+◌, ◌-◌, ◌<◌, ◌≤◌, ℤ, pos, Bool, true, false, nat_le, nat_lt, if◌then◌else◌, length, Option, Some, None, Result, Ok, Err}
+use Rattle.std.proofs.Common.{refl, ap, ◌∙◌, arith, length-drop, le-leb, lt-ltb, ltb-true}
 use Rattle.gimli_base.specs.declared.error.Error.{Error}
 use Rattle.gimli_base.specs.declared.error.Error.TheVariants.{NoEntryAtGivenOffset, OffsetOutOfBounds, OutOfMemory}
 use Rattle.gimli_base.specs.Both.{both}
@@ -11,9 +11,8 @@ use Rattle.gimli_base.specs.Table.{Table, found}
 use Rattle.gimli_base.specs.Later.{IsLater, IsLater-none, IsLater-trans, cut-cut}
 use Rattle.gimli_units.specs.Entry.{Entry, is_null, entry_at}
 use Rattle.gimli_units.specs.RawPlace.{RawPlace, next_offset_of}
-use Rattle.gimli_units.specs.Rows.{Ahead}
-use Rattle.gimli_units.specs.Unit.{UnitView, whole_length, header_size, in_bounds, range_from, entries_in, entries_from, entries_of, some_entry, entry_in, unit_entry_at, IsUnreadAt}
-use Rattle.gimli_units.specs.CursorMoves.{CursorView, next_of, rows_from, view_from, what_at, IsSameUnit, IsFurther, IsTrueEntry, IsRefused}
+use Rattle.gimli_units.specs.Unit.{UnitView, whole_length, header_size, in_bounds, range_from, entries_in, entries_from, entries_of, some_entry, unit_entry_at, IsUnreadAt}
+use Rattle.gimli_units.specs.CursorMoves.{CursorView, rows_from, view_from, what_at, IsSameUnit, IsFurther, IsTrueEntry, IsRefused}
 use Rattle.gimli_units.specs.CursorStart.{before_first, raw_start}
 
 -- a cursor that reads the entries of a unit

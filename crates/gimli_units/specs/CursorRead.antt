@@ -1,5 +1,5 @@
 -- What one read makes of a cursor, and what a search for a depth does, of which the steps are made (DWARF 5, 2.3 and 7.5.2).
-use Rattle.std.specs.Prelude.{◌≡◌, ℕ, ◌+◌, ◌-◌, ◌<◌, ◌≤◌, ℤ, pos, ◌-ℤ◌, ◌≤ℤ◌, Bool, true, false, int_le, if◌then◌else◌, length, Option, Some, None, Result, Ok, Err}
+use Rattle.std.specs.Prelude.{◌≡◌, ℕ, ◌+◌, ◌<◌, ◌≤◌, ℤ, pos, ◌-ℤ◌, ◌≤ℤ◌, Bool, true, false, int_le, if◌then◌else◌, length, Option, Some, None, Result, Ok, Err}
 use Rattle.gimli_base.specs.declared.error.Error.{Error}
 use Rattle.gimli_base.specs.declared.error.Error.TheVariants.{OutOfMemory}
 use Rattle.gimli_base.specs.View.{View, ended}
@@ -9,7 +9,7 @@ use Rattle.gimli_units.specs.RawPlace.{RawPlace, next_offset_of, depth_after}
 use Rattle.gimli_units.specs.Kind.{kind_of}
 use Rattle.gimli_units.specs.Honest.{target}
 use Rattle.gimli_units.specs.CursorPlace.{Moved, has_depth, seek, first_of_rows}
-use Rattle.gimli_units.specs.CursorMoves.{CursorView, next_of, rows_of, rows_from, place_of, followed_to, view_from, what_at, takes_memory_at, IsHonestFor, IsSameUnit, IsTrueEntry, IsRefused, IsNotFound, IsAheadOf, IsFurther, AreFewReads, IsReadOnce, one_if_left, IsSound}
+use Rattle.gimli_units.specs.CursorMoves.{CursorView, next_of, rows_of, rows_from, place_of, followed_to, view_from, takes_memory_at, IsHonestFor, IsSameUnit, IsTrueEntry, IsRefused, IsNotFound, IsAheadOf, IsFurther, AreFewReads, IsReadOnce, one_if_left}
 
 -- a reader of the same unit that stands elsewhere
 abbrev pub stands_at : RawPlace → View → ℤ → RawPlace

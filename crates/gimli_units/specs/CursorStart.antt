@@ -1,5 +1,5 @@
 -- Where a cursor stands before its first step (DWARF 5, 2.3).
-use Rattle.std.specs.Prelude.{ℕ, pos, Bool, Option, Some, None, Result, Ok, Err}
+use Rattle.std.specs.Prelude.{ℕ, pos, Bool, Option, Some, None, Result, Ok}
 use Rattle.gimli_base.specs.declared.error.Error.{Error}
 use Rattle.gimli_base.specs.Offset.{answer_of}
 use Rattle.gimli_base.specs.Table.{Table}

@@ -5,7 +5,7 @@ use Rattle.gimli_base.specs.declared.common.Encoding.{Encoding}
 use Rattle.gimli_base.specs.declared.common.Format.{Format}
 use Rattle.gimli_base.specs.declared.error.Error.TheVariants.{UnknownForm, InvalidAbbreviationCode}
 use Rattle.gimli_base.specs.View.{View}
-use Rattle.gimli_base.specs.Reading.{Reads, ◌>>=◌, byte_at, uint_at, uint_offset_at, offset_at, sized_offset_at, is_size, address_at, split_at, text_at, uleb_at, uleb16_at, sleb_at, word_size_of}
+use Rattle.gimli_base.specs.Reading.{Reads, ◌>>=◌, byte_at, uint_at, uint_offset_at, offset_at, sized_offset_at, address_at, split_at, text_at, uleb_at, uleb16_at, sleb_at, word_size_of}
 use Rattle.gimli_base.specs.Later.{LeavesLater, IsLater-none, IsLater-length, then_leaves_later, made_leaves_later, if_leaves_later, ok_leaves_later, err_leaves_later, weaker_leaves_later, byte_at-later, uint_at-later, as_offset-later, offset_at-later, address_at-later, split_at-later, uleb_at-later, uleb16_at-later, sleb_at-later, sized_offset_at-later, text_at-later}
 use Rattle.gimli_base.specs.Abbreviations.{Specification, Declaration, Map}
 use Rattle.gimli_units.specs.Value.{Value}

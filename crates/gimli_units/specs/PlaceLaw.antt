@@ -1,20 +1,17 @@
 -- What the steps of a place keep: honest rows stay honest, from wherever a step leads (DWARF 5, 2.3).
-use Rattle.std.specs.Prelude.{◌≡◌, ℕ, ◌<◌, ℤ, Bool, true, false, not, if◌then◌else◌, length, int_le, List, [], ◌∷◌, Option, Some, None, Result, Ok, Err}
-use Rattle.std.specs.Ordering.{int_eq}
+use Rattle.std.specs.Prelude.{◌≡◌, ℕ, ℤ, Bool, true, false, if◌then◌else◌, List, [], ◌∷◌, Option, Some, None, Result, Ok}
 use Rattle.std.proofs.Common.{refl, sym, ap, ◌∙◌}
 use Rattle.gimli_base.specs.declared.error.Error.{Error}
-use Rattle.gimli_base.specs.declared.error.Error.TheVariants.{OutOfMemory}
 use Rattle.gimli_base.specs.View.{View}
-use Rattle.gimli_base.specs.Reading.{Reads, UnlessMemory}
+use Rattle.gimli_base.specs.Reading.{Reads}
 use Rattle.gimli_base.specs.Table.{found}
 use Rattle.gimli_units.specs.Entry.{Entry, is_null}
 use Rattle.gimli_units.specs.EntryReads.{entry_at-shorter}
 use Rattle.gimli_units.specs.RawPlace.{RawPlace, next_offset_of, depth_after}
 use Rattle.gimli_units.specs.Rows.{Row, Ahead, offset_of_view}
-use Rattle.gimli_units.specs.RowChain.{IsRow, AreRows, AreAhead, exist_rows}
-use Rattle.gimli_units.specs.Kind.{Kind, null, leaf, parent, kind_of, sibling_of}
-use Rattle.gimli_units.specs.Honest.{target, within, usable, IsHonest, AreHonest, AreHonestUntil}
-use Rattle.gimli_units.specs.CursorPlace.{Place, Moved, some_of, is_entry, has_depth, ran_out, arrive, skip_until, last_offset, last_depth, next_row, next_in_depth_first_order, seek, next_of_depth, next_offset, next_depth}
+use Rattle.gimli_units.specs.RowChain.{AreRows, AreAhead, exist_rows}
+use Rattle.gimli_units.specs.Honest.{usable, IsHonest, AreHonest, AreHonestUntil}
+use Rattle.gimli_units.specs.CursorPlace.{Moved, some_of, is_entry, has_depth, arrive, skip_until, last_offset, last_depth, next_row, next_in_depth_first_order, seek, next_of_depth, next_offset, next_depth}
 use Rattle.gimli_units.specs.CursorMoves.{CursorView, next_of, rows_of, place_of, last_row, Goes, IsHonestFor}
 
 -- each row is followed by the one that stands behind it

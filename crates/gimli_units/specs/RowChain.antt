@@ -1,6 +1,6 @@
 -- The rows ahead of a place, told row by row, with the view that each leaves (DWARF 5, 2.3).
-use Rattle.std.specs.Prelude.{◌≡◌, ℕ, zero, suc, ◌-◌, ◌<◌, ◌≤◌, ℤ, List, [], ◌∷◌, length, Option, Some, None, Ok, Err}
-use Rattle.std.proofs.Common.{refl, sym, ap, ◌∙◌, arith, inl, inr}
+use Rattle.std.specs.Prelude.{◌≡◌, ℕ, zero, suc, ◌<◌, ◌≤◌, ℤ, List, [], ◌∷◌, length, Option, Some, None, Ok, Err}
+use Rattle.std.proofs.Common.{refl, ap, ◌∙◌, arith, inl, inr}
 use Rattle.std.proofs.lemmas.Bool.Decides.{eqb_tells}
 use Rattle.gimli_base.specs.declared.error.Error.{Error}
 use Rattle.gimli_base.specs.View.{View}
@@ -8,7 +8,7 @@ use Rattle.gimli_base.specs.Reading.{Reads}
 use Rattle.gimli_units.specs.Entry.{Entry}
 use Rattle.gimli_units.specs.RawPlace.{depth_after}
 use Rattle.gimli_units.specs.Rows.{Row, Ahead, offset_of_view, ahead_at}
-use Rattle.gimli_units.specs.RowSteps.{then_row, no_row, ahead_ended, ahead_refused, ahead_more}
+use Rattle.gimli_units.specs.RowSteps.{then_row, ahead_ended, ahead_refused, ahead_more}
 
 module _ (next : View → Reads Entry) (end : ℕ) where
   -- a row that is read at a view of this depth, and the view that it leaves

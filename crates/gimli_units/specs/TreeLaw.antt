@@ -1,15 +1,15 @@
 -- What the steps of a tree keep: honest rows stay honest, and what is read is the unit's (DWARF 5, 2.3).
-use Rattle.std.specs.Prelude.{◌≡◌, ℕ, ◌-◌, ◌<◌, ◌≤◌, ℤ, pos, Bool, true, false, nat_le, nat_lt, length, Option, Some, None, Result, Ok, Err, unwrap_or}
-use Rattle.std.proofs.Common.{refl, sym, ap, ◌∙◌, arith, le-leb, lt-ltb}
+use Rattle.std.specs.Prelude.{◌≡◌, ℕ, ◌-◌, ◌<◌, ◌≤◌, ℤ, Bool, true, nat_le, nat_lt, length, Result, Ok}
+use Rattle.std.proofs.Common.{refl, arith, le-leb, lt-ltb}
 use Rattle.gimli_base.specs.declared.error.Error.{Error}
 use Rattle.gimli_base.specs.Table.{Table, found}
-use Rattle.gimli_base.specs.View.{View, cut}
-use Rattle.gimli_units.specs.Entry.{Entry, is_null, entry_at}
+use Rattle.gimli_base.specs.View.{cut}
+use Rattle.gimli_units.specs.Entry.{entry_at}
 use Rattle.gimli_units.specs.RawPlace.{RawPlace, next_offset_of}
-use Rattle.gimli_units.specs.Rows.{Row, Ahead}
+use Rattle.gimli_units.specs.Rows.{Ahead}
 use Rattle.gimli_units.specs.Honest.{AreHonest}
 use Rattle.gimli_units.specs.Unit.{UnitView, whole_length, header_size, range_from, some_entry, unit_entry_at}
-use Rattle.gimli_units.specs.CursorPlace.{Moved, is_entry, has_depth, skip_until, seek, first_of_rows}
+use Rattle.gimli_units.specs.CursorPlace.{is_entry, has_depth, skip_until, seek, first_of_rows}
 use Rattle.gimli_units.specs.CursorMoves.{CursorView, next_of, rows_of, place_of, view_from, IsHonestFor}
 use Rattle.gimli_units.specs.CursorLaw.{StandsIn, unit_view, header_low, entry_law}
 use Rattle.gimli_units.specs.CursorStart.{before_first}

@@ -1,16 +1,16 @@
 -- Where a tree stands, and what its steps do to it (DWARF 5, 2.3).
-use Rattle.std.specs.Prelude.{◌≡◌, ℕ, ◌+◌, ◌<◌, ◌≤◌, ◌^◌, ℤ, pos, ◌≤ℤ◌, unsigned_abs, Bool, true, false, if◌then◌else◌, List, [], ◌∷◌, length, Option, Some, None, Result, Ok, Err}
+use Rattle.std.specs.Prelude.{◌≡◌, ℕ, ◌+◌, ◌<◌, ◌≤◌, ◌^◌, ℤ, pos, ◌≤ℤ◌, unsigned_abs, Bool, true, false, [], ◌∷◌, length, Option, Some, None, Result, Ok, Err}
 use Rattle.gimli_base.specs.declared.error.Error.{Error}
-use Rattle.gimli_base.specs.declared.error.Error.TheVariants.{OutOfMemory, NoEntryAtGivenOffset}
+use Rattle.gimli_base.specs.declared.error.Error.TheVariants.{OutOfMemory}
 use Rattle.gimli_base.specs.Offset.{answer_of}
 use Rattle.gimli_base.specs.Reading.{UnlessMemory}
 use Rattle.gimli_base.specs.Table.{Table}
 use Rattle.gimli_base.specs.Later.{IsLater}
-use Rattle.gimli_units.specs.Entry.{Entry, is_null}
+use Rattle.gimli_units.specs.Entry.{is_null}
 use Rattle.gimli_units.specs.RawPlace.{RawPlace, next_offset_of}
 use Rattle.gimli_units.specs.Unit.{UnitView, entries_from, some_entry}
 use Rattle.gimli_units.specs.CursorMoves.{CursorView, next_of, rows_of, takes_memory_at, place_of, followed_to, IsAheadOf, IsHonestFor, IsTrueEntry, IsSameUnit, IsFurther, IsSound}
-use Rattle.gimli_units.specs.CursorPlace.{Moved, has_depth, first_of_rows}
+use Rattle.gimli_units.specs.CursorPlace.{has_depth, first_of_rows}
 use Rattle.gimli_units.specs.CursorRead.{HasSought}
 use Rattle.gimli_units.specs.CursorStart.{before_first}
 use Rattle.gimli_units.specs.TreePlace.{Node, Lists, TreePlace, Told, a_node, list_end, a_fault, TreeMoved, to_root, to_next}

@@ -1,4 +1,4 @@
-use Rattle.std.proofs.Common.{rules, ◌≡◌, refl, sym, ap, ◌∙◌, arith, pos}
+use Rattle.std.proofs.Common.{arith}
 use Rattle.gimli_units.proofs.cursor.EntriesCursor.new.Goals as goal
 
 pub invariant_of-result : goal.invariant_of-result

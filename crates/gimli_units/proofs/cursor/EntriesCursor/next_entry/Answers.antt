@@ -1,6 +1,5 @@
-use Rattle.std.proofs.Common.{rules, ◌≡◌, refl, sym, ap, ◌∙◌, arith}
 use Rattle.gimli_units.proofs.CursorSteps.{read_goes}
-use Rattle.gimli_units.proofs.Onward.{Onward, onward_start, onward_read, read_once, true_entry}
+use Rattle.gimli_units.proofs.Onward.{onward_start, onward_read, read_once, true_entry}
 use Rattle.gimli_units.proofs.cursor.EntriesCursor.next_entry.Goals as goal
 
 pub returns-clause-moves : goal.returns-clause-moves

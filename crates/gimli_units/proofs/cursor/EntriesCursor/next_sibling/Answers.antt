@@ -1,4 +1,4 @@
-use Rattle.std.proofs.Common.{rules, ◌≡◌, refl, sym, ◌∙◌, Err}
+use Rattle.std.proofs.Common.{rules, ◌≡◌, refl, Err}
 use Rattle.gimli_units.specs.CursorLent.{HasWalkedOver}
 use Rattle.gimli_units.proofs.cursor.EntriesCursor.next_sibling.Goals as goal
 

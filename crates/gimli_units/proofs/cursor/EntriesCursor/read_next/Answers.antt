@@ -1,4 +1,4 @@
-use Rattle.std.proofs.Common.{rules, ◌≡◌, refl, sym, ap, ◌∙◌, arith, false, length}
+use Rattle.std.proofs.Common.{◌≡◌, length}
 use Rattle.gimli_units.proofs.CursorSteps.{did_read, did_refuse, sound_read}
 use Rattle.gimli_units.proofs.cursor.EntriesCursor.read_next.Goals as goal
 

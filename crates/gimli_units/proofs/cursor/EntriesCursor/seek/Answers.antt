@@ -1,8 +1,6 @@
-use Rattle.std.proofs.Common.{rules, ◌≡◌, refl, sym, ap, ◌∙◌, arith, Ok, Err, true, false, length, w64}
-use Rattle.std.specs.Prelude.{Bool, Result, not}
+use Rattle.std.proofs.Common.{rules, ◌≡◌, sym, ap, ◌∙◌, Ok, Err, true, false, w64}
 use Rattle.std.proofs.lemmas.Int.{to_z-of_z}
-use Rattle.gimli_base.specs.declared.error.Error.{Error}
-use Rattle.gimli_units.proofs.Seeking.{Seeking, seeking_start, seeking_on, sought_to, sought_end, sought_out, seeking_shorter}
+use Rattle.gimli_units.proofs.Seeking.{seeking_on, sought_to, sought_end, sought_out, seeking_shorter}
 use Rattle.gimli_units.proofs.cursor.EntriesCursor.seek.Goals as goal
 
 pub seeking-preserved : goal.seeking-preserved

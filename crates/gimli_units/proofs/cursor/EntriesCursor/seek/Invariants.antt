@@ -1,4 +1,4 @@
-use Rattle.std.proofs.Common.{◌≡◌, length}
+use Rattle.std.proofs.Common.{length}
 use Rattle.gimli_units.proofs.Seeking.{Seeking}
 use Rattle.gimli_units.proofs.cursor.EntriesCursor.seek.Given as goal
 

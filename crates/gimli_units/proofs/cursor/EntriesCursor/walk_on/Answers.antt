@@ -1,10 +1,8 @@
-use Rattle.std.proofs.Common.{rules, ◌≡◌, refl, sym, ap, ◌∙◌, arith, Ok, Err, true, false, length}
-use Rattle.std.specs.Prelude.{Bool, Result, not}
+use Rattle.std.proofs.Common.{rules, ◌≡◌, sym, ap, ◌∙◌, Ok, Err, true, false}
 use Rattle.std.proofs.lemmas.Bool.{not-true, not-false}
-use Rattle.gimli_base.specs.declared.error.Error.{Error}
 use Rattle.gimli_units.specs.CursorPlace.{is_entry}
-use Rattle.gimli_units.proofs.Onward.{Onward, onward_read, read_once, true_entry, true_refusal, true_shorter, unless_then}
-use Rattle.gimli_units.proofs.Walking.{Walking, walking_start, walking_on, walked_to, walked_out, refused_place, read_shorter}
+use Rattle.gimli_units.proofs.Onward.{onward_read, read_once, true_entry, true_refusal, true_shorter, unless_then}
+use Rattle.gimli_units.proofs.Walking.{walking_on, walked_to, walked_out, refused_place, read_shorter}
 use Rattle.gimli_units.proofs.cursor.EntriesCursor.walk_on.Goals as goal
 
 pub walk-preserved : goal.walk-preserved

@@ -1,4 +1,4 @@
-use Rattle.std.proofs.Common.{◌≡◌, length}
+use Rattle.std.proofs.Common.{length}
 use Rattle.gimli_units.proofs.Walking.{Walking}
 use Rattle.gimli_units.proofs.cursor.EntriesCursor.walk_on.Given as goal
 

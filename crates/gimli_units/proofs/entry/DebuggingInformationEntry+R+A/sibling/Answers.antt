@@ -1,4 +1,4 @@
-use Rattle.std.proofs.Common.{rules, ◌≡◌, refl, sym, ap, ◌∙◌, arith, not, Some, None}
+use Rattle.std.proofs.Common.{sym, ◌∙◌, Some, None}
 use Rattle.gimli_units.proofs.Jumps.{target_of}
 use Rattle.gimli_units.proofs.entry.DebuggingInformationEntry+R+A.sibling.Goals as goal
 

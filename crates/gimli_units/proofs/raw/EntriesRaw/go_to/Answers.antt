@@ -1,8 +1,6 @@
-use Rattle.std.proofs.Common.{rules, ◌≡◌, ◌-◌, ◌≤◌, refl, sym, ap, ◌∙◌, arith, length, w64, to_z, of_z, Some}
+use Rattle.std.proofs.Common.{◌≡◌, ap, arith, length, w64, Some}
 use Rattle.std.proofs.lemmas.Int.{to_z-of_z}
-use Rattle.std.specs.Option.{option_map}
 use Rattle.gimli_base.specs.Offset.{difference_of}
-use Rattle.gimli_units.specs.RawPlace.{next_offset_of}
 use Rattle.gimli_units.proofs.Jumps.{difference, skipped, stands_there, stands_here}
 use Rattle.gimli_units.proofs.raw.EntriesRaw.go_to.Goals as goal
 

@@ -1,4 +1,4 @@
-use Rattle.std.proofs.Common.{rules, ◌≡◌, refl, sym, ap, ◌∙◌, arith, w64}
+use Rattle.std.proofs.Common.{w64}
 use Rattle.std.proofs.lemmas.Int.{to_z-of_z}
 use Rattle.gimli_units.specs.TreeMoves.{TreeView}
 use Rattle.gimli_units.proofs.TreeSteps.{sought_tree, sought_next}

@@ -1,4 +1,4 @@
-use Rattle.std.proofs.Common.{rules, ◌≡◌, refl, sym, ap, ◌∙◌, arith, Ok, Err}
+use Rattle.std.proofs.Common.{rules, ◌≡◌, sym, ap, ◌∙◌, Err}
 use Rattle.gimli_units.specs.Entry.{is_null}
 use Rattle.gimli_units.specs.TreeMoves.{TreeView}
 use Rattle.gimli_units.proofs.TreeSteps.{read_tree, root_read, null_read, fault_read}

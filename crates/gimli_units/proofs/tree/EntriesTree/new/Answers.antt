@@ -1,4 +1,3 @@
-use Rattle.std.proofs.Common.{rules, ◌≡◌, refl, sym, ap, ◌∙◌, arith}
 use Rattle.gimli_units.proofs.TreeSteps.{new_tree}
 use Rattle.gimli_units.proofs.tree.EntriesTree.new.Goals as goal
 

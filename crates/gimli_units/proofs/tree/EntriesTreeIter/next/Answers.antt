@@ -1,4 +1,4 @@
-use Rattle.std.proofs.Common.{rules, ◌≡◌, refl, sym, ap, ◌∙◌, arith, Ok, Err, w64, FitsSigned}
+use Rattle.std.proofs.Common.{rules, ◌≡◌, Err, w64, FitsSigned}
 use Rattle.std.proofs.lemmas.Int.{to_z-of_z}
 use Rattle.gimli_units.proofs.TreeSteps.{closed_end, there_fault}
 use Rattle.gimli_units.proofs.tree.EntriesTreeIter.next.Goals as goal

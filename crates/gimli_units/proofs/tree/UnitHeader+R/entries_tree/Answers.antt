@@ -1,4 +1,3 @@
-use Rattle.std.proofs.Common.{rules, ◌≡◌, ◌<◌, length, pos, refl, sym, ap, ◌∙◌, arith, Ok}
 use Rattle.std.specs.Option.{option_map}
 use Rattle.gimli_units.specs.UnitKind.{map_type}
 use Rattle.gimli_units.specs.Unit.{UnitView}
