@@ -1,9 +1,13 @@
 //! Loops over entries, as a user of the library writes them.
 
-use crate::samples::{NESTED_STRINGS, TABLE_NESTED_STRINGS, input, table_of, unit_of, whole};
+ghost use Rattle.std.specs.Prelude.{◌≤◌, length};
+
+use crate::samples::{
+    NESTED_STRINGS, TABLE_NESTED_STRINGS, TABLE_WITH_SIBLINGS, input, table_of, unit_of, whole,
+};
 use gimli_base::{Abbreviations, LittleEndian, Reader};
-use gimli_units::UnitHeader;
-use std::alloc::Global;
+use gimli_units::{EntriesTreeNode, UnitHeader};
+use std::alloc::{Allocator, Global};
 use std::test::Fail;
 
 // How many entries of a unit have children.
@@ -42,6 +46,37 @@ fn count_parents_below_the_root<R: Reader>(
     Ok(count)
 }
 
+// How many entries the tree of a node has, the node itself among them.
+#[cycle(count)]
+fn count_entries<R: Reader, A: Allocator>(
+    node: EntriesTreeNode<'_, '_, R, A>,
+) -> gimli_base::Result<u64>
+    ensures further { length node.exit.0.now.cursor.raw.rest.bytes ≤ length node.entry.tree.now.cursor.raw.rest.bytes }
+{
+    let EntriesTreeNode { tree } = node;
+    let mut count = 1u64;
+    if !tree.entry().has_children() {
+        return Ok(count);
+    }
+    let depth = tree.next_depth();
+    'children: while tree.go_to_next(depth)? {
+        let child = EntriesTreeNode { tree: &mut *tree };
+        count = count.wrapping_add(count_entries(child)?);
+    }
+    Ok(count)
+}
+
+// How many entries the tree of a unit has.
+fn count_entries_of<R: Reader>(
+    alloc: Global,
+    unit: &UnitHeader<R>,
+    table: &Abbreviations<Global>,
+) -> gimli_base::Result<u64> {
+    let mut tree = unit.entries_tree(alloc, table, None)?;
+    tree.go_to_root()?;
+    count_entries(EntriesTreeNode { tree: &mut tree })
+}
+
 #[test]
 fn goes_over_all_entries(rt: HostRuntime) -> Result<(), Fail> {
     let alloc = rt.alloc();
@@ -61,5 +96,19 @@ fn goes_over_the_children_of_the_root(rt: HostRuntime) -> Result<(), Fail> {
     assert_eq!(rt; count_parents_below_the_root(alloc, &unit, &table)?, 1);
     let unit = unit_of(&rt, whole(&rt, &NESTED_STRINGS, LittleEndian));
     assert_eq!(rt; count_parents_below_the_root(alloc, &unit, &table)?, 1);
+    Ok(())
+}
+
+// A root with a leaf behind an entry that has a child.
+const BRANCHES: [u8; 8] = [0x01, 0x00, 0x01, 0x11, 0x02, 0x00, 0x02, 0x00];
+
+#[test]
+fn goes_into_each_node(rt: HostRuntime) -> Result<(), Fail> {
+    let alloc = rt.alloc();
+    let table = table_of(alloc, &TABLE_WITH_SIBLINGS)?;
+    let unit = unit_of(&rt, input(&BRANCHES, LittleEndian));
+    assert_eq!(rt; count_entries_of(alloc, &unit, &table)?, 4);
+    let unit = unit_of(&rt, whole(&rt, &BRANCHES, LittleEndian));
+    assert_eq!(rt; count_entries_of(alloc, &unit, &table)?, 4);
     Ok(())
 }
