@@ -56,6 +56,17 @@ fn in_unit<R: Reader>(unit: &UnitHeader<R>, number: u8) -> [Option<u64>; 3] {
     ]
 }
 
+// Tries an offset, with the offset in the unit that it is in the unit's section.
+fn tries_offset<R: Reader>(rt: &impl Abort, unit: &UnitHeader<R>, number: u8, found: Option<u64>) {
+    let section = unit.section();
+    let wanted = match section {
+        SectionId::DebugInfo => [found, None, found],
+        SectionId::DebugTypes => [None, found, found],
+        _ => [None, None, found],
+    };
+    assert_eq!(rt; in_unit(unit, number), wanted, "{section:?} {number}");
+}
+
 // Tries offsets before the unit, in its header, in its entries, and behind it.
 fn finds_offsets_of_the_unit<R: Reader>(rt: &impl Abort, entries: &R) {
     let rows = [
@@ -75,12 +86,7 @@ fn finds_offsets_of_the_unit<R: Reader>(rt: &impl Abort, entries: &R) {
     for section in SECTIONS {
         let unit = unit_in(rt, section, entries.copy());
         for (number, found) in rows {
-            let wanted = match section {
-                SectionId::DebugInfo => [found, None, found],
-                SectionId::DebugTypes => [None, found, found],
-                _ => [None, None, found],
-            };
-            assert_eq!(rt; in_unit(&unit, number), wanted, "{section:?} {number}");
+            tries_offset(rt, &unit, number, found);
         }
     }
 }
@@ -91,45 +97,51 @@ fn finds_offsets_of_the_unit_in_each_section(rt: HostRuntime) {
     finds_offsets_of_the_unit(&rt, &EndianSlice::new_at(&ENTRIES, BigEndian, 0x2b));
 }
 
-// Tries an offset of a section: it is one of the unit's section where the unit lies in that, out of bounds too.
-fn tries_section_offset<R: Reader>(rt: &impl Abort, unit: &UnitHeader<R>, number: u8) {
+// An offset, where the unit lies in a section.
+fn within<R: Reader>(unit: &UnitHeader<R>, section: SectionId, number: u8) -> Option<R::Offset> {
+    if unit.section() == section {
+        Some(R::Offset::from_u8(number))
+    } else {
+        None
+    }
+}
+
+// Tries an offset of `.debug_info`, and the same of the unit's section.
+fn tries_info<R: Reader>(rt: &impl Abort, unit: &UnitHeader<R>, number: u8) {
     let offset = R::Offset::from_u8(number);
-    let section = unit.section();
-    let in_info = match section {
-        SectionId::DebugInfo => Some(offset),
-        _ => None,
-    };
-    let in_types = match section {
-        SectionId::DebugTypes => Some(offset),
-        _ => None,
-    };
-    let info = DebugInfoOffset(offset);
-    let types = DebugTypesOffset(offset);
-    let own = UnitSectionOffset(offset);
+    let found = within(unit, SectionId::DebugInfo, number);
     assert_eq!(rt;
-        info.to_unit_section_offset(unit),
-        in_info.map(UnitSectionOffset)
+        DebugInfoOffset(offset).to_unit_section_offset(unit),
+        found.map(UnitSectionOffset)
     );
     assert_eq!(rt;
-        types.to_unit_section_offset(unit),
-        in_types.map(UnitSectionOffset)
-    );
-    assert_eq!(rt;
-        own.to_debug_info_offset(unit),
-        in_info.map(DebugInfoOffset)
-    );
-    assert_eq!(rt;
-        own.to_debug_types_offset(unit),
-        in_types.map(DebugTypesOffset)
+        UnitSectionOffset(offset).to_debug_info_offset(unit),
+        found.map(DebugInfoOffset)
     );
 }
 
-// Tries offsets of each section, inside and outside of the unit.
+// Tries an offset of `.debug_types`, and the same of the unit's section.
+fn tries_types<R: Reader>(rt: &impl Abort, unit: &UnitHeader<R>, number: u8) {
+    let offset = R::Offset::from_u8(number);
+    let found = within(unit, SectionId::DebugTypes, number);
+    assert_eq!(rt;
+        DebugTypesOffset(offset).to_unit_section_offset(unit),
+        found.map(UnitSectionOffset)
+    );
+    assert_eq!(rt;
+        UnitSectionOffset(offset).to_debug_types_offset(unit),
+        found.map(DebugTypesOffset)
+    );
+}
+
+// Tries offsets of each section, inside and outside of the unit: each is one of the unit's section where the unit lies in
+// that, out of bounds too.
 fn keeps_offsets_of_a_section<R: Reader>(rt: &impl Abort, entries: &R) {
     for section in SECTIONS {
         let unit = unit_in(rt, section, entries.copy());
         for number in [0x00, 0x1f, 0x20, 0x2b, 0x33, 0x34, 0xff] {
-            tries_section_offset(rt, &unit, number);
+            tries_info(rt, &unit, number);
+            tries_types(rt, &unit, number);
         }
     }
 }
@@ -160,6 +172,18 @@ fn in_sections<R: Reader>(
     )
 }
 
+// Tries an offset of the unit, with what it is in the unit's section.
+fn tries_offset_of_unit<R: Reader>(rt: &impl Abort, unit: &UnitHeader<R>, number: u8, found: u64) {
+    let section = unit.section();
+    let wanted = match section {
+        SectionId::DebugInfo => (found, Some(found), None),
+        SectionId::DebugTypes => (found, None, Some(found)),
+        _ => (found, None, None),
+    };
+    let found = in_sections(rt, unit, number);
+    assert_eq!(rt; found, wanted, "{section:?} {number}");
+}
+
 // Tries offsets of the unit, in bounds and out of them.
 fn finds_offsets_of_sections<R: Reader>(rt: &impl Abort, entries: &R) {
     let rows = [
@@ -173,13 +197,7 @@ fn finds_offsets_of_sections<R: Reader>(rt: &impl Abort, entries: &R) {
     for section in SECTIONS {
         let unit = unit_in(rt, section, entries.copy());
         for (number, found) in rows {
-            let wanted = match section {
-                SectionId::DebugInfo => (found, Some(found), None),
-                SectionId::DebugTypes => (found, None, Some(found)),
-                _ => (found, None, None),
-            };
-            let found = in_sections(rt, &unit, number);
-            assert_eq!(rt; found, wanted, "{section:?} {number}");
+            tries_offset_of_unit(rt, &unit, number, found);
         }
     }
 }
@@ -224,17 +242,22 @@ fn comes_back<R: Reader>(rt: &impl Abort, unit: &UnitHeader<R>, number: u8) -> [
     ]
 }
 
+// Tries the way back of an offset.
+fn tries_way_back<R: Reader>(rt: &impl Abort, unit: &UnitHeader<R>, number: u8, wanted: [bool; 3]) {
+    assert_eq!(rt; comes_back(rt, unit, number), wanted);
+}
+
 // Tries the way back of offsets in bounds and out of them.
 fn finds_the_way_back<R: Reader>(rt: &impl Abort, entries: &R) {
     let info = unit_in(rt, SectionId::DebugInfo, entries.copy());
     let types = unit_in(rt, SectionId::DebugTypes, entries.copy());
     for number in [0x0b, 0x0c, 0x12, 0x13] {
-        assert_eq!(rt; comes_back(rt, &info, number), [true, true, false]);
-        assert_eq!(rt; comes_back(rt, &types, number), [true, false, true]);
+        tries_way_back(rt, &info, number, [true, true, false]);
+        tries_way_back(rt, &types, number, [true, false, true]);
     }
     for number in [0x00, 0x0a, 0x14, 0xff] {
-        assert_eq!(rt; comes_back(rt, &info, number), [false, false, false]);
-        assert_eq!(rt; comes_back(rt, &types, number), [false, false, false]);
+        tries_way_back(rt, &info, number, [false, false, false]);
+        tries_way_back(rt, &types, number, [false, false, false]);
     }
 }
 
@@ -242,6 +265,18 @@ fn finds_the_way_back<R: Reader>(rt: &impl Abort, entries: &R) {
 fn finds_the_way_back_in_each_order(rt: HostRuntime) {
     finds_the_way_back(&rt, &EndianSlice::new(&ENTRIES, LittleEndian));
     finds_the_way_back(&rt, &EndianSlice::new_at(&ENTRIES, BigEndian, 0x2b));
+}
+
+// Tries what the last offset of each kind is in a unit.
+fn tries_last(
+    rt: &impl Abort,
+    unit: &UnitHeader<EndianSlice<'_, LittleEndian>>,
+    wanted: Option<UnitOffset<usize>>,
+) {
+    let last = UnitSectionOffset(usize::MAX);
+    assert_eq!(rt; last.to_unit_offset(unit), wanted);
+    let types = DebugTypesOffset(usize::MAX);
+    assert_eq!(rt; types.to_unit_offset(unit), wanted);
 }
 
 #[test]
@@ -258,9 +293,8 @@ fn reaches_the_last_offset(rt: HostRuntime) {
         EndianSlice::new(&ENTRIES, LittleEndian),
     );
     let last = UnitSectionOffset(usize::MAX);
-    assert_eq!(rt; last.to_unit_offset(&unit), Some(UnitOffset(0x13)));
     let types = DebugTypesOffset(usize::MAX);
-    assert_eq!(rt; types.to_unit_offset(&unit), Some(UnitOffset(0x13)));
+    tries_last(&rt, &unit, Some(UnitOffset(0x13)));
     assert_eq!(rt; UnitOffset(0x13).to_unit_section_offset(&unit), last);
     assert_eq!(rt; UnitOffset(0x13).to_debug_types_offset(&unit), Some(types));
     assert_eq!(rt; UnitOffset(0x13).to_debug_info_offset(&unit), None);
@@ -270,7 +304,6 @@ fn reaches_the_last_offset(rt: HostRuntime) {
         SectionId::DebugTypes,
         EndianSlice::new(&ENTRIES, LittleEndian),
     );
-    assert_eq!(rt; last.to_unit_offset(&unit), None);
-    assert_eq!(rt; types.to_unit_offset(&unit), None);
+    tries_last(&rt, &unit, None);
     assert!(rt; !UnitOffset(usize::MAX).is_in_bounds(&unit));
 }

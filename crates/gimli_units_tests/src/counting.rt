@@ -2,10 +2,10 @@
 
 ghost use Rattle.std.proofs.Common.{rules};
 
-use crate::readers::specification;
+use crate::readers::{pass, raw_over, read, specification};
 use crate::samples::{table_of, version_4};
 use gimli_base::{EndianSlice, LittleEndian, Reader, ReaderOffsetId, Result};
-use gimli_units::{AttributeValue, EntriesRaw, UnitOffset};
+use gimli_units::AttributeValue;
 use std::alloc::Global;
 use std::process::Abort;
 use std::test::Fail;
@@ -93,9 +93,9 @@ fn skips_of(
         inner: EndianSlice::new(bytes, LittleEndian),
         skips: 0,
     };
-    let mut raw = EntriesRaw::new(input, version_4(), &table, UnitOffset(0));
-    raw.skip_attributes(&given)?;
-    let block = raw.read_attribute(specification(0x2000, 0x0a, 0))?;
+    let mut raw = raw_over(rt, input, version_4(), &table);
+    pass(&mut raw, &given)?;
+    let block = read(&mut raw, specification(0x2000, 0x0a, 0))?;
     assert!(rt; raw.is_empty());
     match block.raw_value() {
         AttributeValue::Block(reader) => Ok(reader.skips),

@@ -2,15 +2,20 @@ use crate::samples::{
     NESTED_STRINGS, SIBLINGS, TABLE_NESTED_STRINGS, TABLE_WITH_SIBLINGS, input, table_of, unit_of,
     whole,
 };
+use crate::shown::show_raw;
 use crate::walked::{
-    Step, Stood, Walk, Way, begin, no, null, refused, shown, take, tries_either_way, tries_walk,
-    yes,
+    Step, Stood, Walk, Way, begin, clone_of, no, null, refused, shown, stands, take,
+    tries_either_way, tries_step, yes,
 };
-use gimli_base::{DwAt, Error, LittleEndian, Reader, ReaderOffset};
-use gimli_units::UnitOffset;
+use gimli_base::{Abbreviations, DwAt, Error, LittleEndian, Reader, ReaderOffset};
+use gimli_units::{Attribute, DebuggingInformationEntry, EntriesCursor, UnitHeader, UnitOffset};
 use std::alloc::Global;
 use std::process::Abort;
 use std::test::Fail;
+
+type Cursor<'abbrev, R> = EntriesCursor<'abbrev, R, Global>;
+
+type Entry<R> = DebuggingInformationEntry<R, Global>;
 
 // A walk over the nested strings from the first.
 fn nested<'a>(steps: &'a [(Step, Stood)]) -> Walk<'a> {
@@ -180,30 +185,59 @@ fn starts_at_the_last_byte(rt: HostRuntime) -> Result<(), Fail> {
 }
 
 // Tries to start before the first entry, at the end and past it.
-fn tries_starts<R: Reader>(rt: &impl Abort, alloc: Global, entries: R) -> Result<(), Fail> {
-    let table = table_of(alloc, &TABLE_WITH_SIBLINGS)?;
-    let unit = unit_of(rt, entries);
+fn refuses_starts<R: Reader>(
+    rt: &impl Abort,
+    alloc: Global,
+    unit: &UnitHeader<R>,
+    table: &Abbreviations<Global>,
+) {
     for start in [0, 0x0a, 0x10, 0x11, 0xff] {
         let refusal = Some(Error::OffsetOutOfBounds(u64::from(start)));
         for way in [Way::Follows, Way::Plain] {
-            let error = begin(alloc, &unit, &table, way, Some(start)).err();
+            let error = begin(alloc, unit, table, way, Some(start)).err();
             assert_eq!(rt; error, refusal, "at {start}");
         }
     }
+}
+
+// Tries to start at the largest offset of 32 bits.
+fn refuses_a_far_start<R: Reader>(
+    rt: &impl Abort,
+    alloc: Global,
+    unit: &UnitHeader<R>,
+    table: &Abbreviations<Global>,
+) {
     let largest = R::Offset::from_u32(u32::MAX);
     let refusal = Some(Error::OffsetOutOfBounds(0xffff_ffff));
-    let cursor = unit.entries_at_offset(alloc, &table, UnitOffset(largest));
+    let cursor = unit.entries_at_offset(alloc, table, UnitOffset(largest));
     assert_eq!(rt; cursor.err(), refusal);
-    let cursor = unit.entries_plain_at_offset(alloc, &table, UnitOffset(largest));
+    let cursor = unit.entries_plain_at_offset(alloc, table, UnitOffset(largest));
     assert_eq!(rt; cursor.err(), refusal);
+}
+
+// Tries to start within the entries.
+fn takes_starts<R: Reader>(
+    rt: &impl Abort,
+    alloc: Global,
+    unit: &UnitHeader<R>,
+    table: &Abbreviations<Global>,
+) -> Result<(), Fail> {
     for start in [0x0b, 0x0c, 0x0f] {
         for way in [Way::Follows, Way::Plain] {
-            let cursor = begin(alloc, &unit, &table, way, Some(start))?;
+            let cursor = begin(alloc, unit, table, way, Some(start))?;
             let next = (u64::from(start), 0);
             assert_eq!(rt; shown(&cursor, Ok(false)), no((0, 0), next, 0));
         }
     }
     Ok(())
+}
+
+fn tries_starts<R: Reader>(rt: &impl Abort, alloc: Global, entries: R) -> Result<(), Fail> {
+    let table = table_of(alloc, &TABLE_WITH_SIBLINGS)?;
+    let unit = unit_of(rt, entries);
+    refuses_starts(rt, alloc, &unit, &table);
+    refuses_a_far_start(rt, alloc, &unit, &table);
+    takes_starts(rt, alloc, &unit, &table)
 }
 
 #[test]
@@ -212,8 +246,42 @@ fn starts_within_the_entries_alone(rt: HostRuntime) -> Result<(), Fail> {
     tries_starts(&rt, rt.alloc(), whole(&rt, &SIBLINGS, LittleEndian))
 }
 
-// Tries a clone of a cursor on an entry, on a null, and behind a refusal: it shows what the cursor shows, and goes its
-// own way.
+// Tries that a clone shows what the cursor shows.
+fn shows_the_same<R: Reader>(rt: &impl Abort, clone: &Cursor<'_, R>, cursor: &Cursor<'_, R>) {
+    stands(rt, clone, shown(cursor, Ok(true)));
+    assert_eq!(rt; clone.follows(), cursor.follows());
+    if let Some(entry) = clone.current() {
+        assert!(rt; entry.has_attr(DwAt(0x03)));
+    }
+}
+
+// Tries that a clone goes its own way, and another clone the same.
+fn goes_its_own_way<R: Reader>(
+    rt: &impl Abort,
+    alloc: Global,
+    clone: &mut Cursor<'_, R>,
+    cursor: &Cursor<'_, R>,
+) -> Result<(), Fail> {
+    let before = shown(cursor, Ok(true));
+    let step = take(clone, Step::Dfs);
+    stands(rt, cursor, before);
+    let mut again = clone_of(alloc, cursor)?;
+    tries_step(rt, &mut again, Step::Dfs, step);
+    Ok(())
+}
+
+// Tries a clone of a cursor where it stands.
+fn tries_clone<R: Reader>(
+    rt: &impl Abort,
+    alloc: Global,
+    cursor: &Cursor<'_, R>,
+) -> Result<(), Fail> {
+    let mut clone = clone_of(alloc, cursor)?;
+    shows_the_same(rt, &clone, cursor);
+    goes_its_own_way(rt, alloc, &mut clone, cursor)
+}
+
+// Tries a clone of a cursor on an entry, on a null, and behind a refusal.
 fn tries_clones<R: Reader>(
     rt: &impl Abort,
     alloc: Global,
@@ -223,19 +291,8 @@ fn tries_clones<R: Reader>(
     let table = table_of(alloc, &TABLE_NESTED_STRINGS)?;
     let unit = unit_of(rt, entries);
     let mut cursor = begin(alloc, &unit, &table, way, None)?;
-    let name = DwAt(0x03);
     for _ in 0..9u8 {
-        let mut clone = cursor.try_clone(alloc)?;
-        let before = shown(&cursor, Ok(true));
-        assert_eq!(rt; shown(&clone, Ok(true)), before);
-        assert_eq!(rt; clone.follows(), cursor.follows());
-        if let Some(entry) = clone.current() {
-            assert!(rt; entry.has_attr(name));
-        }
-        let step = take(&mut clone, Step::Dfs);
-        assert_eq!(rt; shown(&cursor, Ok(true)), before);
-        let mut again = cursor.try_clone(alloc)?;
-        assert_eq!(rt; take(&mut again, Step::Dfs), step);
+        tries_clone(rt, alloc, &cursor)?;
         take(&mut cursor, Step::Entry);
     }
     Ok(())
@@ -252,28 +309,64 @@ fn a_clone_goes_its_own_way(rt: HostRuntime) -> Result<(), Fail> {
     Ok(())
 }
 
-// Tries that each entry of a walk is the one that the unit holds at its offset, but for its depth.
+// The next entry in depth-first order.
+fn next_of<'me, R: Reader>(
+    cursor: &'me mut Cursor<'_, R>,
+) -> gimli_base::Result<Option<&'me Entry<R>>> {
+    cursor.next_dfs()
+}
+
+// Tries that an attribute is another.
+fn tries_attribute<R: Reader>(rt: &impl Abort, attribute: &Attribute<R>, other: &Attribute<R>) {
+    assert_eq!(rt; attribute.name(), other.name());
+    assert_eq!(rt; show_raw(attribute), show_raw(other));
+}
+
+// Tries that an entry has the parts of another, at the depth 0.
+fn tries_parts<R: Reader>(rt: &impl Abort, there: &Entry<R>, entry: &Entry<R>) {
+    assert_eq!(rt; there.depth(), 0);
+    assert_eq!(rt; there.tag(), entry.tag());
+    assert_eq!(rt; there.has_children(), entry.has_children());
+    assert_eq!(rt; there.attrs().len(), entry.attrs().len());
+}
+
+// Tries that an entry is the one that the unit holds at its offset, but for its depth.
+fn tries_entry<R: Reader>(
+    rt: &impl Abort,
+    alloc: Global,
+    unit: &UnitHeader<R>,
+    table: &Abbreviations<Global>,
+    entry: &Entry<R>,
+) -> Result<(), Fail> {
+    let there = unit.entry(alloc, table, entry.offset())?;
+    tries_parts(rt, &there, entry);
+    for (attribute, other) in there.attrs().iter().zip(entry.attrs()) {
+        tries_attribute(rt, attribute, other);
+    }
+    Ok(())
+}
+
+// Tries the three entries of a walk.
+fn tries_three<R: Reader>(
+    rt: &impl Abort,
+    alloc: Global,
+    unit: &UnitHeader<R>,
+    table: &Abbreviations<Global>,
+    cursor: &mut Cursor<'_, R>,
+) -> Result<(), Fail> {
+    for _ in 0..3u8 {
+        let entry = next_of(cursor)?.expect(rt, "no entry");
+        tries_entry(rt, alloc, unit, table, entry)?;
+    }
+    assert!(rt; next_of(cursor)?.is_none());
+    Ok(())
+}
+
 fn tries_entries<R: Reader>(rt: &impl Abort, alloc: Global, entries: R) -> Result<(), Fail> {
     let table = table_of(alloc, &TABLE_NESTED_STRINGS)?;
     let unit = unit_of(rt, entries);
-    let mut cursor = unit.entries(alloc, &table);
-    for _ in 0..3u8 {
-        let entry = cursor.next_dfs()?.expect(rt, "no entry");
-        let there = unit.entry(alloc, &table, entry.offset())?;
-        assert_eq!(rt; there.depth(), 0);
-        assert_eq!(rt; there.tag(), entry.tag());
-        assert_eq!(rt; there.has_children(), entry.has_children());
-        assert_eq!(rt; there.attrs().len(), entry.attrs().len());
-        for (attribute, other) in there.attrs().iter().zip(entry.attrs()) {
-            assert_eq!(rt; attribute.name(), other.name());
-            assert_eq!(rt;
-                crate::shown::show(&attribute.raw_value()),
-                crate::shown::show(&other.raw_value())
-            );
-        }
-    }
-    assert!(rt; cursor.next_dfs()?.is_none());
-    Ok(())
+    let mut cursor = begin(alloc, &unit, &table, Way::Follows, None)?;
+    tries_three(rt, alloc, &unit, &table, &mut cursor)
 }
 
 #[test]

@@ -1,7 +1,9 @@
-use crate::samples::{NESTED_STRINGS, TABLE_NESTED_STRINGS, input, table_of, unit_of, whole};
-use crate::shown::{Shown, bytes, number, show};
+use crate::samples::{
+    NESTED_STRINGS, TABLE_NESTED_STRINGS, input, raw_of, read_entry, table_of, unit_of, whole,
+};
+use crate::shown::{Shown, bytes, number, show, show_raw};
 use gimli_base::{BigEndian, DwAt, DwForm, DwTag, EndianSlice, LittleEndian, Reader, ReaderOffset};
-use gimli_units::{AttributeValue, DebuggingInformationEntry, UnitOffset};
+use gimli_units::{Attribute, AttributeValue, DebuggingInformationEntry, EntriesRaw, UnitOffset};
 use std::alloc::Global;
 use std::process::Abort;
 use std::test::Fail;
@@ -23,10 +25,10 @@ fn parts<R: Reader>(entry: &Entry<R>) -> (DwTag, bool, usize, u64, isize) {
 fn second<R: Reader>(rt: &impl Abort, alloc: Global, entries: R) -> Result<Entry<R>, Fail> {
     let table = table_of(alloc, &TABLE_NESTED_STRINGS)?;
     let unit = unit_of(rt, entries);
-    let mut raw = unit.entries_raw(&table, None)?;
+    let mut raw = raw_of(&unit, &table)?;
     let mut entry = Entry::null(alloc);
     for _ in 0..2 {
-        raw.read_entry(&mut entry)?;
+        read_entry(&mut raw, &mut entry)?;
     }
     Ok(entry)
 }
@@ -84,9 +86,9 @@ const TABLE_WITH_LINES: [u8; 12] = [
 fn first<R: Reader>(rt: &impl Abort, alloc: Global, entries: R) -> Result<Entry<R>, Fail> {
     let table = table_of(alloc, &TABLE_WITH_LINES)?;
     let unit = unit_of(rt, entries);
-    let mut raw = unit.entries_raw(&table, None)?;
+    let mut raw = raw_of(&unit, &table)?;
     let mut entry = Entry::null(alloc);
-    raw.read_entry(&mut entry)?;
+    read_entry(&mut raw, &mut entry)?;
     Ok(entry)
 }
 
@@ -95,24 +97,41 @@ fn shown<R: Reader>(value: Option<AttributeValue<R>>) -> Option<Shown> {
     value.map(|value| show(&value))
 }
 
-fn tries_names<R: Reader>(rt: &impl Abort, alloc: Global, entries: R) -> Result<(), Fail> {
-    let entry = first(rt, alloc, entries)?;
+// What the value of a name shows, as it was read and as the name makes it.
+fn values_of<R: Reader>(entry: &Entry<R>, name: DwAt) -> (Option<Shown>, Option<Shown>) {
+    (
+        shown(entry.attr_value_raw(name)),
+        shown(entry.attr_value(name)),
+    )
+}
+
+// Tries the first line, and the text.
+fn tries_present<R: Reader>(rt: &impl Abort, entry: &Entry<R>) {
     let line = DwAt(0x3b);
     assert!(rt; entry.has_attr(line));
     assert_eq!(rt;
         entry.attr(line).map(|attr| attr.form()),
         Some(DwForm(0x0b))
     );
-    assert_eq!(rt; shown(entry.attr_value_raw(line)), Some(number("Data1", 7)));
-    assert_eq!(rt; shown(entry.attr_value(line)), Some(number("Udata", 7)));
+    let values = (Some(number("Data1", 7)), Some(number("Udata", 7)));
+    assert_eq!(rt; values_of(entry, line), values);
     let text = bytes("String", 0x66_6f6f, 12, 3);
     assert_eq!(rt; shown(entry.attr_value(DwAt(0x03))), Some(text));
+}
+
+// Tries a name that no attribute has.
+fn tries_absent<R: Reader>(rt: &impl Abort, entry: &Entry<R>, absent: u16) {
+    let name = DwAt(absent);
+    assert!(rt; !entry.has_attr(name), "{absent}");
+    assert!(rt; entry.attr(name).is_none(), "{absent}");
+    assert_eq!(rt; values_of(entry, name), (None, None), "{absent}");
+}
+
+fn tries_names<R: Reader>(rt: &impl Abort, alloc: Global, entries: R) -> Result<(), Fail> {
+    let entry = first(rt, alloc, entries)?;
+    tries_present(rt, &entry);
     for absent in [0x00, 0x02, 0x3a, 0x3c, 0x49] {
-        let name = DwAt(absent);
-        assert!(rt; !entry.has_attr(name), "{absent}");
-        assert!(rt; entry.attr(name).is_none(), "{absent}");
-        assert_eq!(rt; shown(entry.attr_value_raw(name)), None, "{absent}");
-        assert_eq!(rt; shown(entry.attr_value(name)), None, "{absent}");
+        tries_absent(rt, &entry, absent);
     }
     Ok(())
 }
@@ -128,18 +147,32 @@ fn finds_the_first_attribute_of_a_name(rt: HostRuntime) -> Result<(), Fail> {
     tries_names(&rt, rt.alloc(), whole(&rt, &LINES, BigEndian))
 }
 
-fn tries_clone<R: Reader>(rt: &impl Abort, alloc: Global, entries: R) -> Result<(), Fail> {
-    let entry = first(rt, alloc, entries)?;
-    let clone = entry.try_clone(alloc)?;
-    assert_eq!(rt; parts(&clone), parts(&entry));
+// Tries that an attribute of a clone is that of the entry, and shows what its own copy shows.
+fn tries_attribute<R: Reader>(rt: &impl Abort, copy: &Attribute<R>, attr: &Attribute<R>) {
+    assert_eq!(rt; (copy.name(), copy.form()), (attr.name(), attr.form()));
+    let shown = show_raw(attr);
+    assert_eq!(rt; (show_raw(copy), show_raw(&attr.copy())), (shown, shown));
+}
+
+// Tries that a clone has the three attributes of the entry.
+fn tries_attributes<R: Reader>(rt: &impl Abort, clone: &Entry<R>, entry: &Entry<R>) {
     assert_eq!(rt; clone.attrs().len(), 3);
     for (copy, attr) in clone.attrs().iter().zip(entry.attrs()) {
-        assert_eq!(rt; copy.name(), attr.name());
-        assert_eq!(rt; copy.form(), attr.form());
-        assert_eq!(rt; show(&copy.raw_value()), show(&attr.raw_value()));
-        assert_eq!(rt; show(&attr.copy().raw_value()), show(&attr.raw_value()));
+        tries_attribute(rt, copy, attr);
     }
-    let null = Entry::<R>::null(alloc).try_clone(alloc)?;
+}
+
+// An entry like this.
+fn clone_of<R: Reader>(alloc: Global, entry: &Entry<R>) -> Result<Entry<R>, Fail> {
+    Ok(entry.try_clone(alloc)?)
+}
+
+fn tries_clone<R: Reader>(rt: &impl Abort, alloc: Global, entries: R) -> Result<(), Fail> {
+    let entry = first(rt, alloc, entries)?;
+    let clone = clone_of(alloc, &entry)?;
+    assert_eq!(rt; parts(&clone), parts(&entry));
+    tries_attributes(rt, &clone, &entry);
+    let null = clone_of(alloc, &Entry::<R>::null(alloc))?;
     assert!(rt; null.is_null());
     Ok(())
 }
@@ -150,18 +183,22 @@ fn a_clone_has_equal_parts(rt: HostRuntime) -> Result<(), Fail> {
     tries_clone(&rt, rt.alloc(), whole(&rt, &LINES, BigEndian))
 }
 
+// The offset and the depth of what is read next.
+fn next_of<R: Reader>(raw: &EntriesRaw<'_, R, Global>) -> (u64, isize) {
+    (raw.next_offset().0.into_u64(), raw.next_depth())
+}
+
 fn tries_copy<R: Reader>(rt: &impl Abort, alloc: Global, entries: R) -> Result<(), Fail> {
     let table = table_of(alloc, &TABLE_NESTED_STRINGS)?;
     let unit = unit_of(rt, entries);
-    let mut raw = unit.entries_raw(&table, None)?;
+    let mut raw = raw_of(&unit, &table)?;
     let mut entry = Entry::null(alloc);
-    raw.read_entry(&mut entry)?;
+    read_entry(&mut raw, &mut entry)?;
     let mut copy = raw.copy();
-    assert_eq!(rt; copy.next_offset().0.into_u64(), 0x10);
-    assert_eq!(rt; copy.next_depth(), 1);
-    copy.read_entry(&mut entry)?;
-    assert_eq!(rt; copy.next_offset().0.into_u64(), 0x15);
-    assert_eq!(rt; raw.next_offset().0.into_u64(), 0x10);
+    assert_eq!(rt; next_of(&copy), (0x10, 1));
+    read_entry(&mut copy, &mut entry)?;
+    assert_eq!(rt; next_of(&copy).0, 0x15);
+    assert_eq!(rt; next_of(&raw).0, 0x10);
     Ok(())
 }
 

@@ -1,6 +1,6 @@
 use crate::readers::{
-    KNOWN, Remade, end_at, in_each_reader, in_little_endian, is_narrow, passes, shows,
-    specification,
+    Given, KNOWN, Remade, end_at, in_each_reader, in_little_endian, is_narrow, tries_passed,
+    tries_shown,
 };
 use crate::shown::{Shown, bits, bytes, number};
 use gimli_base::{Encoding, Endianity, Error, Format};
@@ -103,20 +103,24 @@ fn tries_fixed<R: Remade>(
     (kind, size, is_offset): (&'static str, u64, bool),
 ) {
     let big = like.endian().is_big_endian();
-    let given = specification(NAME, form, 1);
+    let given = Given {
+        encoding,
+        name: NAME,
+        form,
+        constant: 1,
+        bytes: &COUNTED,
+    };
     let wanted = if is_offset && size == 8 && is_narrow(like) {
         Err(Error::UnsupportedOffset)
     } else {
         Ok((number(kind, word(big, size)), size))
     };
-    let found = shows(rt, alloc, like, encoding, given, &COUNTED);
-    assert_eq!(rt; found, wanted, "{form} at {encoding:?}");
-    let passed = passes(rt, alloc, like, encoding, &[given], &COUNTED);
-    assert_eq!(rt; passed, Ok(size), "{form} at {encoding:?}");
+    tries_shown(rt, alloc, like, given, wanted);
+    tries_passed(rt, alloc, like, given, Ok(size));
     if size == 8 {
-        let two: &[u8] = if big { &BIG_TWO } else { &LITTLE_TWO };
-        let found = shows(rt, alloc, like, encoding, given, two);
-        assert_eq!(rt; found, Ok((number(kind, 2), 8)), "{form} at {encoding:?}");
+        let bytes: &'static [u8] = if big { &BIG_TWO } else { &LITTLE_TWO };
+        let two = Given { bytes, ..given };
+        tries_shown(rt, alloc, like, two, Ok((number(kind, 2), 8)));
     }
 }
 
@@ -177,12 +181,16 @@ fn tries_telling<R: Remade>(
     encoding: Encoding,
     (form, bytes, value): (u16, &'static [u8], Shown),
 ) {
-    let given = specification(NAME, form, 0);
+    let given = Given {
+        encoding,
+        name: NAME,
+        form,
+        constant: 0,
+        bytes,
+    };
     let size = (bytes.len() as u64).saturating_sub(1);
-    let found = shows(rt, alloc, like, encoding, given, bytes);
-    assert_eq!(rt; found, Ok((value, size)), "{form} at {encoding:?}");
-    let passed = passes(rt, alloc, like, encoding, &[given], bytes);
-    assert_eq!(rt; passed, Ok(size), "{form} at {encoding:?}");
+    tries_shown(rt, alloc, like, given, Ok((value, size)));
+    tries_passed(rt, alloc, like, given, Ok(size));
 }
 
 fn tries_all_telling<R: Remade>(rt: &impl Abort, alloc: Global, like: &R) -> Result<(), Fail> {
@@ -205,16 +213,20 @@ fn reads_and_passes_each_form_whose_bytes_tell_its_size(rt: HostRuntime) -> Resu
 fn tries_without_bytes<R: Remade>(rt: &impl Abort, alloc: Global, like: &R) -> Result<(), Fail> {
     let [encoding, _] = encodings();
     for form in KNOWN {
-        let given = specification(NAME, form, -1);
+        let given = Given {
+            encoding,
+            name: NAME,
+            form,
+            constant: -1,
+            bytes: &[],
+        };
         let wanted = match form {
             0x19 => Ok((number("Flag", 1), 0)),
             0x21 => Ok((number("Sdata", bits(-1)), 0)),
             _ => Err(end_at(0)),
         };
-        let found = shows(rt, alloc, like, encoding, given, &[]);
-        assert_eq!(rt; found, wanted, "{form}");
-        let passed = passes(rt, alloc, like, encoding, &[given], &[]);
-        assert_eq!(rt; passed, wanted.map(|(_, taken)| taken), "{form}");
+        tries_shown(rt, alloc, like, given, wanted);
+        tries_passed(rt, alloc, like, given, wanted.map(|(_, taken)| taken));
     }
     Ok(())
 }
@@ -247,11 +259,15 @@ fn tries_address_size<R: Remade>(rt: &impl Abort, alloc: Global, like: &R, encod
         )
     };
     for (form, wanted) in [(0x01, address), (0x10, reference)] {
-        let given = specification(NAME, form, 0);
-        let found = shows(rt, alloc, like, encoding, given, &COUNTED);
-        assert_eq!(rt; found, wanted, "{form} at {encoding:?}");
-        let passed = passes(rt, alloc, like, encoding, &[given], &COUNTED);
-        assert_eq!(rt; passed, Ok(size), "{form} at {encoding:?}");
+        let given = Given {
+            encoding,
+            name: NAME,
+            form,
+            constant: 0,
+            bytes: &COUNTED,
+        };
+        tries_shown(rt, alloc, like, given, wanted);
+        tries_passed(rt, alloc, like, given, Ok(size));
     }
 }
 
@@ -291,10 +307,15 @@ fn tries_data<R: Remade>(
         [] => (0, chained),
     };
     for (form, bytes) in [(form, data), (0x16, chained)] {
-        let given = specification(name, form, 0);
-        let found = shows(rt, alloc, like, encoding, given, bytes);
+        let given = Given {
+            encoding,
+            name,
+            form,
+            constant: 0,
+            bytes,
+        };
         let wanted = Ok((number(kind, 16), bytes.len() as u64));
-        assert_eq!(rt; found, wanted, "{name} at {encoding:?}");
+        tries_shown(rt, alloc, like, given, wanted);
     }
 }
 

@@ -1,5 +1,5 @@
 use crate::samples::{
-    NESTED_STRINGS, SIBLINGS, TABLE_NESTED_STRINGS, TABLE_WITH_SIBLINGS, has_bytes, input,
+    NESTED_STRINGS, SIBLINGS, TABLE_NESTED_STRINGS, TABLE_WITH_SIBLINGS, has_bytes, input, raw_of,
     table_of, unit_of,
 };
 use gimli_base::{
@@ -227,6 +227,16 @@ fn types_with_other_parts_differ(rt: HostRuntime) {
     }
 }
 
+// Tries that the header of other parts or entries is not a unit.
+fn tries_other(
+    rt: &impl Abort,
+    other: Parts,
+    entries: EndianSlice<'_, LittleEndian>,
+    unit: UnitHeader<EndianSlice<'_, LittleEndian>>,
+) {
+    assert_ne!(rt; header_of(rt, other, entries), unit, "{other:?}");
+}
+
 #[test]
 fn units_with_other_parts_differ(rt: HostRuntime) -> std::result::Result<(), Fail> {
     let parts = parts_of_32_bits();
@@ -255,7 +265,7 @@ fn units_with_other_parts_differ(rt: HostRuntime) -> std::result::Result<(), Fai
         Parts { offset: 1, ..parts },
     ];
     for other in others {
-        assert_ne!(rt; header_of(&rt, other, entries), unit, "{other:?}");
+        tries_other(&rt, other, entries, unit);
     }
     Ok(())
 }
@@ -276,11 +286,10 @@ fn units_with_other_encodings_or_entries_differ(rt: HostRuntime) {
             version,
             address_size,
         };
-        let other = header_of(&rt, Parts { encoding, ..parts }, entries);
-        assert_ne!(rt; other, unit, "{encoding:?}");
+        tries_other(&rt, Parts { encoding, ..parts }, entries, unit);
     }
     let other_entries = input(&[0x01, 0x0f, 0x02, 0x00, 0x01], LittleEndian);
-    assert_ne!(rt; header_of(&rt, parts, other_entries), unit);
+    tries_other(&rt, parts, other_entries, unit);
 }
 
 // Whether a range and a reader of entries begin at an offset, and the range has these bytes.
@@ -315,6 +324,19 @@ fn is_refused_at<R: Reader>(
     unit.range_from(offset..).err() == error && unit.entries_raw(table, Some(offset)).err() == error
 }
 
+// Tries offsets inside of the unit over the siblings.
+fn tries_inside<R: Reader>(rt: &impl Abort, unit: &UnitHeader<R>, table: &Abbreviations<Global>) {
+    let inside: [(u8, &[u8]); 4] = [
+        (0x0b, &[0x01, 0x0f, 0x02, 0x00, 0x02]),
+        (0x0c, &[0x0f, 0x02, 0x00, 0x02]),
+        (0x0e, &[0x00, 0x02]),
+        (0x0f, &[0x02]),
+    ];
+    for (number, bytes) in inside {
+        assert!(rt; begins_at(unit, table, number, bytes), "{number}");
+    }
+}
+
 // Tries offsets inside and outside of the unit over the siblings.
 fn keeps_to_its_bounds<R: Reader>(
     rt: &impl Abort,
@@ -323,19 +345,11 @@ fn keeps_to_its_bounds<R: Reader>(
 ) -> std::result::Result<(), Fail> {
     let table = table_of(alloc, &TABLE_WITH_SIBLINGS)?;
     let unit = unit_of(rt, entries);
-    let inside: [(u8, &[u8]); 4] = [
-        (0x0b, &[0x01, 0x0f, 0x02, 0x00, 0x02]),
-        (0x0c, &[0x0f, 0x02, 0x00, 0x02]),
-        (0x0e, &[0x00, 0x02]),
-        (0x0f, &[0x02]),
-    ];
-    for (number, bytes) in inside {
-        assert!(rt; begins_at(&unit, &table, number, bytes), "{number}");
-    }
+    tries_inside(rt, &unit, &table);
     for number in [0x00, 0x01, 0x0a, 0x10, 0x11, 0xff] {
         assert!(rt; is_refused_at(&unit, &table, number), "{number}");
     }
-    let raw = unit.entries_raw(&table, None)?;
+    let raw = raw_of(&unit, &table)?;
     assert_eq!(rt; raw.next_offset(), unit.root_offset());
     Ok(())
 }
@@ -358,11 +372,25 @@ fn a_unit_without_entries_has_no_reader(rt: HostRuntime) -> std::result::Result<
     assert_eq!(rt; unit.root_offset(), UnitOffset(11));
     assert_eq!(rt; unit.length_including_self(), 11);
     let error = Some(Error::OffsetOutOfBounds(11));
-    assert_eq!(rt; unit.entries_raw(&table, None).err(), error);
-    let first = UnitOffset(11);
-    assert_eq!(rt; unit.entries_raw(&table, Some(first)).err(), error);
-    assert_eq!(rt; unit.range_from(first..).err(), error);
+    assert_eq!(rt; raw_of(&unit, &table).err(), error);
+    assert!(rt; is_refused_at(&unit, &table, 11));
     Ok(())
+}
+
+// The abbreviations of a unit over the nested strings, which begin at an offset of a section.
+fn abbreviations_at(
+    rt: &impl Abort,
+    alloc: Global,
+    section: &DebugAbbrev<EndianSlice<'_, LittleEndian>>,
+    abbreviations: u8,
+) -> gimli_base::Result<Abbreviations<Global>> {
+    let parts = Parts {
+        abbreviations,
+        unit_length: 25,
+        ..parts_of_32_bits()
+    };
+    let unit = header_of(rt, parts, input(&NESTED_STRINGS, LittleEndian));
+    unit.abbreviations(alloc, section)
 }
 
 #[test]
@@ -370,15 +398,9 @@ fn reads_its_abbreviations(rt: HostRuntime) -> std::result::Result<(), Fail> {
     let mut bytes = Vec::from_slice(rt.alloc(), &TABLE_NESTED_STRINGS)?;
     bytes.extend_from_slice(&TABLE_WITH_SIBLINGS)?;
     let section = DebugAbbrev::from(EndianSlice::new_at(&bytes, LittleEndian, 100));
-    let entries = input(&NESTED_STRINGS, LittleEndian);
     // where the table begins, and whether it declares the code 2
     for (abbreviations, more) in [(0, false), (8, true)] {
-        let parts = Parts {
-            abbreviations,
-            unit_length: 25,
-            ..parts_of_32_bits()
-        };
-        let table = header_of(&rt, parts, entries).abbreviations(rt.alloc(), &section)?;
+        let table = abbreviations_at(&rt, rt.alloc(), &section, abbreviations)?;
         assert_eq!(rt; table.get(1).map(|d| d.tag()), Some(DwTag(0x2e)));
         assert_eq!(rt; table.get(2).is_some(), more);
     }
@@ -389,12 +411,7 @@ fn reads_its_abbreviations(rt: HostRuntime) -> std::result::Result<(), Fail> {
         (4, Error::AbbreviationTagZero),
     ];
     for (abbreviations, error) in refusals {
-        let parts = Parts {
-            abbreviations,
-            unit_length: 25,
-            ..parts_of_32_bits()
-        };
-        let table = header_of(&rt, parts, entries).abbreviations(rt.alloc(), &section);
+        let table = abbreviations_at(&rt, rt.alloc(), &section, abbreviations);
         assert_eq!(rt; table.err(), Some(error), "at {abbreviations}");
     }
     Ok(())

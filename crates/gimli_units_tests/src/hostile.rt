@@ -1,9 +1,9 @@
 use crate::readers::{
-    KNOWN, Remade, end_at, in_each_reader, is_narrow, passes, passes_from, shows, shows_from,
-    specification,
+    Given, KNOWN, Remade, end_at, in_each_reader, is_narrow, passes_from, shows_from,
+    specification, tries_passed, tries_shown,
 };
 use crate::samples::version_4;
-use crate::shown::number;
+use crate::shown::{Shown, number};
 use gimli_base::{
     AttributeSpecification, DwForm, EndianSlice, Error, LittleEndian, Reader, ReaderOffset,
     WholeSlice,
@@ -14,6 +14,17 @@ use std::test::Fail;
 
 // A name that no rule speaks of.
 const NAME: u16 = 0x2000;
+
+// A form of that name in version 4, and bytes.
+fn given(form: u16, bytes: &'static [u8]) -> Given {
+    Given {
+        encoding: version_4(),
+        name: NAME,
+        form,
+        constant: 0,
+        bytes,
+    }
+}
 
 // Unsigned LEB128 numbers that are too long: one bit too many, an eleventh byte, and many bytes.
 fn long_numbers() -> [&'static [u8]; 4] {
@@ -44,13 +55,11 @@ fn tries_long<R: Remade>(
     (numbers, error): ([&'static [u8]; 4], Error),
 ) {
     for bytes in numbers {
-        let given = specification(NAME, form, 0);
-        let found = shows(rt, alloc, like, version_4(), given, bytes);
-        assert_eq!(rt; found, Err(error), "{form} {bytes:?}");
+        let given = given(form, bytes);
+        tries_shown(rt, alloc, like, given, Err(error));
         let all = bytes.len() as u64;
         let wanted = if is_length { Err(error) } else { Ok(all) };
-        let passed = passes(rt, alloc, like, version_4(), &[given], bytes);
-        assert_eq!(rt; passed, wanted, "{form} {bytes:?}");
+        tries_passed(rt, alloc, like, given, wanted);
     }
 }
 
@@ -77,11 +86,9 @@ fn tries_unended_numbers<R: Remade>(rt: &impl Abort, alloc: Global, like: &R) ->
     for form in [
         0x09, 0x0d, 0x0f, 0x15, 0x18, 0x1a, 0x1b, 0x22, 0x23, 0x1f01, 0x1f02,
     ] {
-        let given = specification(NAME, form, 0);
-        let found = shows(rt, alloc, like, version_4(), given, bytes);
-        assert_eq!(rt; found, Err(end_at(9)), "{form}");
-        let passed = passes(rt, alloc, like, version_4(), &[given], bytes);
-        assert_eq!(rt; passed, Err(end_at(0)), "{form}");
+        let given = given(form, bytes);
+        tries_shown(rt, alloc, like, given, Err(end_at(9)));
+        tries_passed(rt, alloc, like, given, Err(end_at(0)));
     }
     Ok(())
 }
@@ -103,26 +110,17 @@ fn tries_wide_offsets<R: Remade>(rt: &impl Abort, alloc: Global, like: &R) -> Re
         (0x1f02, "DebugStrOffsetsIndex"),
     ];
     for (form, kind) in rows {
-        let given = specification(NAME, form, 0);
-        let largest = Ok((number(kind, 0xffff_ffff), 5));
-        let found = shows(rt, alloc, like, version_4(), given, b"\xff\xff\xff\xff\x0f");
-        assert_eq!(rt; found, largest, "{form}");
-        let wide = if is_narrow(like) {
+        let largest = given(form, b"\xff\xff\xff\xff\x0f");
+        let wanted = Ok((number(kind, 0xffff_ffff), 5));
+        tries_shown(rt, alloc, like, largest, wanted);
+        let wide = given(form, b"\x80\x80\x80\x80\x10");
+        let wanted = if is_narrow(like) {
             Err(Error::UnsupportedOffset)
         } else {
             Ok((number(kind, 0x1_0000_0000), 5))
         };
-        let found = shows(rt, alloc, like, version_4(), given, b"\x80\x80\x80\x80\x10");
-        assert_eq!(rt; found, wide, "{form}");
-        let passed = passes(
-            rt,
-            alloc,
-            like,
-            version_4(),
-            &[given],
-            b"\x80\x80\x80\x80\x10",
-        );
-        assert_eq!(rt; passed, Ok(5), "{form}");
+        tries_shown(rt, alloc, like, wide, wanted);
+        tries_passed(rt, alloc, like, wide, Ok(5));
     }
     Ok(())
 }
@@ -135,7 +133,7 @@ fn numbers_that_fit_no_offset_are_not_read_but_passed(rt: HostRuntime) -> Result
 
 // Tries lengths with fewer bytes behind them, and the places where those would begin.
 fn tries_lengths<R: Remade>(rt: &impl Abort, alloc: Global, like: &R) -> Result<(), Fail> {
-    let rows: [(u16, &[u8], u64); 12] = [
+    let rows: [(u16, &'static [u8], u64); 12] = [
         (0x0a, b"\x02\x61", 1),
         (0x0a, b"\xff", 1),
         (0x03, b"\x02\x02\x61", 2),
@@ -150,11 +148,9 @@ fn tries_lengths<R: Remade>(rt: &impl Abort, alloc: Global, like: &R) -> Result<
         (0x08, b"\x61\x62", 0),
     ];
     for (form, bytes, place) in rows {
-        let given = specification(NAME, form, 0);
-        let found = shows(rt, alloc, like, version_4(), given, bytes);
-        assert_eq!(rt; found, Err(end_at(place)), "{form} {bytes:?}");
-        let passed = passes(rt, alloc, like, version_4(), &[given], bytes);
-        assert_eq!(rt; passed, Err(end_at(0)), "{form} {bytes:?}");
+        let given = given(form, bytes);
+        tries_shown(rt, alloc, like, given, Err(end_at(place)));
+        tries_passed(rt, alloc, like, given, Err(end_at(0)));
     }
     Ok(())
 }
@@ -168,16 +164,14 @@ fn lengths_past_the_end_are_refused(rt: HostRuntime) -> Result<(), Fail> {
 fn tries_largest_lengths<R: Remade>(rt: &impl Abort, alloc: Global, like: &R) -> Result<(), Fail> {
     let bytes = b"\xff\xff\xff\xff\xff\xff\xff\xff\xff\x01";
     for form in [0x09, 0x18] {
-        let given = specification(NAME, form, 0);
+        let given = given(form, bytes);
         let (read, pass) = if is_narrow(like) {
             (Error::UnsupportedOffset, Error::UnsupportedOffset)
         } else {
             (end_at(10), end_at(0))
         };
-        let found = shows(rt, alloc, like, version_4(), given, bytes);
-        assert_eq!(rt; found, Err(read), "{form}");
-        let passed = passes(rt, alloc, like, version_4(), &[given], bytes);
-        assert_eq!(rt; passed, Err(pass), "{form}");
+        tries_shown(rt, alloc, like, given, Err(read));
+        tries_passed(rt, alloc, like, given, Err(pass));
     }
     Ok(())
 }
@@ -188,20 +182,30 @@ fn the_largest_lengths_are_refused(rt: HostRuntime) -> Result<(), Fail> {
     Ok(())
 }
 
+// Tries what is shown of an input, and the number of bytes that are passed.
+fn tries_input<R: Reader>(
+    rt: &impl Abort,
+    alloc: Global,
+    input: &R,
+    given: AttributeSpecification,
+    (shown, passed): (gimli_base::Result<(Shown, u64)>, gimli_base::Result<u64>),
+) {
+    let found = shows_from(rt, alloc, input.copy(), version_4(), given);
+    assert_eq!(rt; found, shown, "{given:?}");
+    let found = passes_from(rt, alloc, input.copy(), version_4(), &[given]);
+    assert_eq!(rt; found, passed, "{given:?}");
+}
+
 // Tries a chain of 1,000 indirect forms that ends at data1, and without its last bytes.
 fn tries_chain<R: Reader>(rt: &impl Abort, alloc: Global, chain: &R) -> Result<(), Fail> {
     let given = specification(NAME, 0x16, 0);
-    let found = shows_from(rt, alloc, chain.copy(), version_4(), given);
-    assert_eq!(rt; found, Ok((number("Data1", 42), 1002)));
-    let passed = passes_from(rt, alloc, chain.copy(), version_4(), &[given]);
-    assert_eq!(rt; passed, Ok(1002));
+    let shown = Ok((number("Data1", 42), 1002));
+    tries_input(rt, alloc, chain, given, (shown, Ok(1002)));
     for length in [1001, 1000, 1] {
         let mut cut = chain.copy();
         cut.truncate(R::Offset::from_u16(length))?;
-        let found = shows_from(rt, alloc, cut.copy(), version_4(), given);
-        assert_eq!(rt; found, Err(end_at(u64::from(length))), "at {length}");
-        let passed = passes_from(rt, alloc, cut, version_4(), &[given]);
-        assert_eq!(rt; passed, Err(end_at(0)), "at {length}");
+        let shown = Err(end_at(u64::from(length)));
+        tries_input(rt, alloc, &cut, given, (shown, Err(end_at(0))));
     }
     Ok(())
 }
@@ -222,10 +226,7 @@ fn follows_long_chains_of_indirect_forms(rt: HostRuntime) -> Result<(), Fail> {
 fn tries_unknown_form<R: Reader>(rt: &impl Abort, alloc: Global, form: u16, code: &R) {
     let refused = Error::UnknownForm(DwForm(form));
     for given in [specification(NAME, form, 0), specification(NAME, 0x16, 0)] {
-        let found = shows_from(rt, alloc, code.copy(), version_4(), given);
-        assert_eq!(rt; found, Err(refused), "{form}");
-        let passed = passes_from(rt, alloc, code.copy(), version_4(), &[given]);
-        assert_eq!(rt; passed, Err(refused), "{form}");
+        tries_input(rt, alloc, code, given, (Err(refused), Err(refused)));
     }
 }
 

@@ -1,6 +1,7 @@
 use crate::samples::{input, table_of, unit_of, whole};
-use crate::walked::{Step, Way, begin, no, take, yes};
-use gimli_base::{LittleEndian, Reader};
+use crate::walked::{Step, Way, begin, no, tries_step, yes};
+use gimli_base::{Abbreviations, LittleEndian, Reader};
+use gimli_units::UnitHeader;
 use std::alloc::{AllocError, Global};
 use std::process::Abort;
 use std::test::Fail;
@@ -31,26 +32,51 @@ fn chain(alloc: Global) -> Result<Vec<u8>, AllocError> {
     Ok(bytes)
 }
 
+// Tries to go down the chain, and up again.
+fn goes_down<R: Reader>(
+    rt: &impl Abort,
+    alloc: Global,
+    unit: &UnitHeader<R>,
+    table: &Abbreviations<Global>,
+    way: Way,
+) -> Result<(), Fail> {
+    let mut cursor = begin(alloc, unit, table, way, None)?;
+    for number in 0..COUNT {
+        let place = (11 + u64::from(number), number as isize);
+        let next = (place.0 + 1, place.1 + 1);
+        let wanted = yes(place, PARENT, next, number as usize + 1);
+        tries_step(rt, &mut cursor, Step::Dfs, wanted);
+    }
+    let end = 11 + 2 * u64::from(COUNT);
+    let wanted = no((end - 1, 1), (end, 0), 2 * COUNT as usize);
+    tries_step(rt, &mut cursor, Step::Dfs, wanted);
+    Ok(())
+}
+
+// Tries to pass a whole list from its first entry on; where the cursor then stands is given.
+fn passes_all<R: Reader>(
+    rt: &impl Abort,
+    alloc: Global,
+    unit: &UnitHeader<R>,
+    table: &Abbreviations<Global>,
+    (way, end, reads): (Way, u64, usize),
+) -> Result<(), Fail> {
+    let mut cursor = begin(alloc, unit, table, way, None)?;
+    let first = yes((11, 0), PARENT, (12, 1), 1);
+    tries_step(rt, &mut cursor, Step::Entry, first);
+    let wanted = no((11, 0), (end, 0), reads);
+    tries_step(rt, &mut cursor, Step::Sibling, wanted);
+    Ok(())
+}
+
 fn tries_chain<R: Reader>(rt: &impl Abort, alloc: Global, entries: R) -> Result<(), Fail> {
     let table = table_of(alloc, &TABLE)?;
     let unit = unit_of(rt, entries);
-    let count = COUNT as usize;
     let end = 11 + 2 * u64::from(COUNT);
     for way in [Way::Follows, Way::Plain] {
-        let mut cursor = begin(alloc, &unit, &table, way, None)?;
-        for number in 0..COUNT {
-            let place = (11 + u64::from(number), number as isize);
-            let next = (place.0 + 1, place.1 + 1);
-            let wanted = yes(place, PARENT, next, number as usize + 1);
-            assert_eq!(rt; take(&mut cursor, Step::Dfs), wanted);
-        }
-        let wanted = no((end - 1, 1), (end, 0), 2 * count);
-        assert_eq!(rt; take(&mut cursor, Step::Dfs), wanted);
-        let mut cursor = begin(alloc, &unit, &table, way, None)?;
-        let first = yes((11, 0), PARENT, (12, 1), 1);
-        assert_eq!(rt; take(&mut cursor, Step::Entry), first);
-        let wanted = no((11, 0), (end, 0), 2 * count);
-        assert_eq!(rt; take(&mut cursor, Step::Sibling), wanted);
+        goes_down(rt, alloc, &unit, &table, way)?;
+        let reads = 2 * COUNT as usize;
+        passes_all(rt, alloc, &unit, &table, (way, end, reads))?;
     }
     Ok(())
 }
@@ -75,33 +101,50 @@ fn siblings(alloc: Global) -> Result<Vec<u8>, AllocError> {
     Ok(bytes)
 }
 
+// How many entries are read up to the sibling of a number: one for each that is followed, and three where all are read.
+fn reads_up_to(way: Way, number: u32) -> usize {
+    match way {
+        Way::Follows => 2 + number as usize,
+        Way::Plain => 2 + 3 * number as usize,
+    }
+}
+
+// Tries to go from sibling to sibling.
+fn goes_along<R: Reader>(
+    rt: &impl Abort,
+    alloc: Global,
+    unit: &UnitHeader<R>,
+    table: &Abbreviations<Global>,
+    way: Way,
+) -> Result<(), Fail> {
+    let mut cursor = begin(alloc, unit, table, way, None)?;
+    let first = yes((11, 0), PARENT, (12, 1), 1);
+    tries_step(rt, &mut cursor, Step::Entry, first);
+    for number in 0..COUNT {
+        let step = if number == 0 {
+            Step::Entry
+        } else {
+            Step::Sibling
+        };
+        let place = (12 + 7 * u64::from(number), 1);
+        let reads = reads_up_to(way, number);
+        let wanted = yes(place, LINKED, (place.0 + 5, 2), reads);
+        tries_step(rt, &mut cursor, step, wanted);
+    }
+    let end = 13 + 7 * u64::from(COUNT);
+    let wanted = no((end - 1, 1), (end, 0), reads_up_to(way, COUNT));
+    tries_step(rt, &mut cursor, Step::Sibling, wanted);
+    Ok(())
+}
+
 fn tries_siblings<R: Reader>(rt: &impl Abort, alloc: Global, entries: R) -> Result<(), Fail> {
     let table = table_of(alloc, &TABLE)?;
     let unit = unit_of(rt, entries);
     let end = 13 + 7 * u64::from(COUNT);
-    let count = COUNT as usize;
-    // the number of reads for each sibling, and for the whole list from the first entry
-    for (way, each) in [(Way::Follows, 1), (Way::Plain, 3)] {
-        let mut cursor = begin(alloc, &unit, &table, way, None)?;
-        let first = yes((11, 0), PARENT, (12, 1), 1);
-        assert_eq!(rt; take(&mut cursor, Step::Entry), first);
-        for number in 0..COUNT {
-            let step = if number == 0 {
-                Step::Entry
-            } else {
-                Step::Sibling
-            };
-            let place = (12 + 7 * u64::from(number), 1);
-            let reads = 2 + each * number as usize;
-            let wanted = yes(place, LINKED, (place.0 + 5, 2), reads);
-            assert_eq!(rt; take(&mut cursor, step), wanted);
-        }
-        let wanted = no((end - 1, 1), (end, 0), 2 + each * count);
-        assert_eq!(rt; take(&mut cursor, Step::Sibling), wanted);
-        let mut cursor = begin(alloc, &unit, &table, way, None)?;
-        assert_eq!(rt; take(&mut cursor, Step::Entry), first);
-        let wanted = no((11, 0), (end, 0), 2 + each * count);
-        assert_eq!(rt; take(&mut cursor, Step::Sibling), wanted);
+    for way in [Way::Follows, Way::Plain] {
+        goes_along(rt, alloc, &unit, &table, way)?;
+        let reads = reads_up_to(way, COUNT);
+        passes_all(rt, alloc, &unit, &table, (way, end, reads))?;
     }
     Ok(())
 }
@@ -124,10 +167,14 @@ fn false_siblings(alloc: Global) -> Result<Vec<u8>, AllocError> {
     Ok(bytes)
 }
 
-fn tries_false_siblings<R: Reader>(rt: &impl Abort, alloc: Global, entries: R) -> Result<(), Fail> {
-    let table = table_of(alloc, &TABLE)?;
-    let unit = unit_of(rt, entries);
-    let mut cursor = unit.entries(alloc, &table);
+// Tries to follow each of the false references.
+fn follows_false_siblings<R: Reader>(
+    rt: &impl Abort,
+    alloc: Global,
+    unit: &UnitHeader<R>,
+    table: &Abbreviations<Global>,
+) -> Result<(), Fail> {
+    let mut cursor = begin(alloc, unit, table, Way::Follows, None)?;
     for number in 0..COUNT {
         let step = if number == 0 {
             Step::Entry
@@ -136,17 +183,25 @@ fn tries_false_siblings<R: Reader>(rt: &impl Abort, alloc: Global, entries: R) -
         };
         let place = (11 + 5 * u64::from(number), 0);
         let wanted = yes(place, LINKED, (place.0 + 5, 1), number as usize + 1);
-        assert_eq!(rt; take(&mut cursor, step), wanted);
+        tries_step(rt, &mut cursor, step, wanted);
     }
     let end = 11 + 5 * u64::from(COUNT);
     let wanted = no((end - 5, 0), (end, 0), COUNT as usize);
-    assert_eq!(rt; take(&mut cursor, Step::Sibling), wanted);
+    tries_step(rt, &mut cursor, Step::Sibling, wanted);
+    Ok(())
+}
+
+fn tries_false_siblings<R: Reader>(rt: &impl Abort, alloc: Global, entries: R) -> Result<(), Fail> {
+    let table = table_of(alloc, &TABLE)?;
+    let unit = unit_of(rt, entries);
+    follows_false_siblings(rt, alloc, &unit, &table)?;
     // by plain walking the first has no sibling
-    let mut cursor = unit.entries_plain(alloc, &table);
+    let mut cursor = begin(alloc, &unit, &table, Way::Plain, None)?;
     let first = yes((11, 0), LINKED, (16, 1), 1);
-    assert_eq!(rt; take(&mut cursor, Step::Entry), first);
+    tries_step(rt, &mut cursor, Step::Entry, first);
+    let end = 11 + 5 * u64::from(COUNT);
     let wanted = no((11, 0), (end, COUNT as isize), COUNT as usize);
-    assert_eq!(rt; take(&mut cursor, Step::Sibling), wanted);
+    tries_step(rt, &mut cursor, Step::Sibling, wanted);
     Ok(())
 }
 

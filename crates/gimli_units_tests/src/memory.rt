@@ -1,10 +1,13 @@
 use crate::samples::{NESTED_STRINGS, TABLE_NESTED_STRINGS, input, unit_of, whole};
-use crate::walked::{Step, Stood, Way, begin, no, null, refused, shown, take, yes};
+use crate::walked::{
+    Step, Stood, Way, begin, clone_of, no, null, refused, shown, stands, take, tries_step, yes,
+};
 use failing::{Failing, Refusal};
 use gimli_base::{
     Abbreviations, DebugAbbrev, DebugAbbrevOffset, Error, LittleEndian, Reader, ReaderOffset,
     ReaderOffsetId,
 };
+use gimli_units::EntriesCursor;
 use std::alloc::Global;
 use std::process::Abort;
 use std::test::Fail;
@@ -35,11 +38,11 @@ fn tries_first_request<R: Reader>(
     let unit = unit_of(rt, entries);
     let mut cursor = begin(&heap, &unit, &table, way, None)?;
     let place = (0x0b, 0);
-    let answer = take(&mut cursor, Step::Dfs);
-    assert_eq!(rt; answer, refused(Error::OutOfMemory, place, (0x1d, 0), 1));
+    let wanted = refused(Error::OutOfMemory, place, (0x1d, 0), 1);
+    tries_step(rt, &mut cursor, Step::Dfs, wanted);
     assert_eq!(rt; heap.requests(), 1);
     for step in [Step::Entry, Step::Dfs, Step::Sibling] {
-        assert_eq!(rt; take(&mut cursor, step), no(place, (0x1d, 0), 1));
+        tries_step(rt, &mut cursor, step, no(place, (0x1d, 0), 1));
     }
     assert_eq!(rt; heap.requests(), 1);
     Ok(())
@@ -59,26 +62,36 @@ fn a_refused_request_ends_the_walk(rt: HostRuntime) -> Result<(), Fail> {
 // A walk, and the place where each request for memory is made.
 type Asking<'a> = (&'a [(Step, Stood)], &'a [(u64, isize)]);
 
-// Takes the steps of a walk where the request of a number is refused: up to the refusal each shows what is wanted. A refused
-// step stands where memory was asked for, and then the walk is over. Answers whether there was a refusal.
-fn tries_refusal<R: Reader>(
+// Tries a refused step, which stands where memory was asked for; then the walk is over.
+fn tries_refused_step<R: Reader>(
     rt: &impl Abort,
-    alloc: Global,
-    (declared, entries): (&[u8], R),
+    cursor: &mut EntriesCursor<'_, R, Heap<'_>>,
+    answer: Stood,
+    (place, end): ((u64, isize), u64),
+    refusal: (u64, Refusal),
+) {
+    let reads = cursor.reads();
+    let wanted = refused(Error::OutOfMemory, place, (end, place.1), reads);
+    assert_eq!(rt; answer, wanted, "at {refusal:?}");
+    let over = no(place, (end, place.1), reads);
+    for step in [Step::Entry, Step::Dfs, Step::Sibling] {
+        assert_eq!(rt; take(cursor, step), over, "at {refusal:?}");
+    }
+}
+
+// Takes the steps of a walk in which a request is refused, as below; the cursor asks the heap, and the unit has an end.
+fn tries_steps<R: Reader>(
+    rt: &impl Abort,
+    cursor: &mut EntriesCursor<'_, R, Heap<'_>>,
+    (heap, end): (Heap<'_>, u64),
     (steps, places): Asking<'_>,
     refusal: (u64, Refusal),
-) -> Result<bool, Fail> {
-    let ample = Failing::new(alloc, Refusal::Never);
-    let table = table_of(&ample, declared)?;
-    let unit = unit_of(rt, entries);
-    let end = unit.length_including_self().into_u64();
-    let heap = Failing::new(alloc, refusal.1);
-    let mut cursor = begin(&heap, &unit, &table, Way::Follows, None)?;
+) -> bool {
     let mut asked = places.iter();
     let mut place = None;
     for (step, wanted) in steps {
         let before = heap.requests();
-        let answer = take(&mut cursor, *step);
+        let answer = take(cursor, *step);
         for _ in before..heap.requests() {
             place = asked.next();
         }
@@ -87,18 +100,31 @@ fn tries_refusal<R: Reader>(
             continue;
         }
         let place = *place.expect(rt, "more requests");
-        let reads = cursor.reads();
-        let wanted = refused(Error::OutOfMemory, place, (end, place.1), reads);
-        assert_eq!(rt; answer, wanted, "at {refusal:?}");
-        let over = no(place, (end, place.1), reads);
-        for step in [Step::Entry, Step::Dfs, Step::Sibling] {
-            assert_eq!(rt; take(&mut cursor, step), over, "at {refusal:?}");
-        }
+        tries_refused_step(rt, cursor, answer, (place, end), refusal);
         assert_eq!(rt; heap.requests(), refusal.0);
-        return Ok(true);
+        return true;
     }
     assert!(rt; asked.next().is_none(), "fewer requests");
-    Ok(false)
+    false
+}
+
+// Takes the steps of a walk where the request of a number is refused: up to the refusal each shows what is wanted. A refused
+// step stands where memory was asked for, and then the walk is over. Answers whether there was a refusal.
+fn tries_refusal<R: Reader>(
+    rt: &impl Abort,
+    alloc: Global,
+    (declared, entries): (&[u8], R),
+    asking: Asking<'_>,
+    refusal: (u64, Refusal),
+) -> Result<bool, Fail> {
+    let ample = Failing::new(alloc, Refusal::Never);
+    let table = table_of(&ample, declared)?;
+    let unit = unit_of(rt, entries);
+    let end = unit.length_including_self().into_u64();
+    let heap = Failing::new(alloc, refusal.1);
+    let mut cursor = begin(&heap, &unit, &table, Way::Follows, None)?;
+    let is_refused = tries_steps(rt, &mut cursor, (&heap, end), asking, refusal);
+    Ok(is_refused)
 }
 
 // The same by each reader, where each request is refused in turn, alone and with all behind it.
@@ -175,7 +201,36 @@ fn a_step_stands_where_memory_was_refused(rt: HostRuntime) -> Result<(), Fail> {
     tries_refusals(&rt, rt.alloc(), sections, (&steps, &[(0x0b, 0), (0x0f, 0)]))
 }
 
-// Takes steps where every request is refused, and clones the cursor before each and behind the last.
+// Takes a step, and before it the same step of a clone.
+fn tries_step_of_both<'a, R: Reader>(
+    rt: &impl Abort,
+    heap: Heap<'a>,
+    cursor: &mut EntriesCursor<'_, R, Heap<'a>>,
+    (step, wanted): (Step, Stood),
+) -> Result<(), Fail> {
+    let mut clone = clone_of(heap, cursor)?;
+    tries_step(rt, &mut clone, step, wanted);
+    tries_step(rt, cursor, step, wanted);
+    Ok(())
+}
+
+// Takes steps, and clones the cursor before each and behind the last; none asks for memory.
+fn tries_steps_of_both<'a, R: Reader>(
+    rt: &impl Abort,
+    heap: Heap<'a>,
+    cursor: &mut EntriesCursor<'_, R, Heap<'a>>,
+    steps: &[(Step, Stood)],
+) -> Result<(), Fail> {
+    for step in steps {
+        tries_step_of_both(rt, heap, cursor, *step)?;
+    }
+    let clone = clone_of(heap, cursor)?;
+    stands(rt, &clone, shown(cursor, Ok(true)));
+    assert_eq!(rt; heap.requests(), 0);
+    Ok(())
+}
+
+// The same for a cursor over a unit, where every request is refused.
 fn tries_without_memory<R: Reader>(
     rt: &impl Abort,
     alloc: Global,
@@ -188,15 +243,7 @@ fn tries_without_memory<R: Reader>(
     let table = table_of(&ample, &TABLE_OF_NINE)?;
     let unit = unit_of(rt, entries);
     let mut cursor = begin(&heap, &unit, &table, way, None)?;
-    for (step, wanted) in steps {
-        let mut clone = cursor.try_clone(&heap)?;
-        assert_eq!(rt; take(&mut clone, *step), *wanted);
-        assert_eq!(rt; take(&mut cursor, *step), *wanted);
-    }
-    let clone = cursor.try_clone(&heap)?;
-    assert_eq!(rt; shown(&clone, Ok(true)), shown(&cursor, Ok(true)));
-    assert_eq!(rt; heap.requests(), 0);
-    Ok(())
+    tries_steps_of_both(rt, &heap, &mut cursor, steps)
 }
 
 // The same by each reader, with references followed and without.
@@ -262,23 +309,34 @@ fn asks_for_no_memory_where_none_is_needed(rt: HostRuntime) -> Result<(), Fail> 
     tries_each_without_memory(&rt, rt.alloc(), &entries, &steps)
 }
 
+// Tries a clone of a cursor, and the next step of both.
+fn tries_clone<'a, R: Reader>(
+    rt: &impl Abort,
+    heap: Heap<'a>,
+    cursor: &mut EntriesCursor<'_, R, Heap<'a>>,
+    (stood, next): (Stood, Stood),
+) -> Result<(), Fail> {
+    let mut clone = clone_of(heap, cursor)?;
+    stands(rt, &clone, stood);
+    tries_step(rt, &mut clone, Step::Entry, next);
+    tries_step(rt, cursor, Step::Entry, next);
+    Ok(())
+}
+
 // Tries to clone a cursor that stands on an entry with attributes, where memory is refused.
 fn tries_refused_clone<R: Reader>(rt: &impl Abort, alloc: Global, entries: R) -> Result<(), Fail> {
     let ample = Failing::new(alloc, Refusal::Never);
     let refusing = Failing::new(alloc, Refusal::From(1));
     let table = table_of(&ample, &TABLE_NESTED_STRINGS)?;
     let unit = unit_of(rt, entries);
-    let mut cursor = unit.entries(&ample, &table);
+    let mut cursor = begin(&ample, &unit, &table, Way::Follows, None)?;
     let wanted = yes((0x0b, 0), TEXT, (0x10, 1), 1);
-    assert_eq!(rt; take(&mut cursor, Step::Entry), wanted);
-    assert_eq!(rt; cursor.try_clone(&refusing).err(), Some(Error::OutOfMemory));
-    assert_eq!(rt; shown(&cursor, Ok(true)), wanted);
-    let mut clone = cursor.try_clone(&ample)?;
-    assert_eq!(rt; shown(&clone, Ok(true)), wanted);
+    tries_step(rt, &mut cursor, Step::Entry, wanted);
+    let error = clone_of(&refusing, &cursor).err();
+    assert_eq!(rt; error, Some(Error::OutOfMemory));
+    stands(rt, &cursor, wanted);
     let second = yes((0x10, 1), TEXT, (0x15, 2), 2);
-    assert_eq!(rt; take(&mut clone, Step::Entry), second);
-    assert_eq!(rt; take(&mut cursor, Step::Entry), second);
-    Ok(())
+    tries_clone(rt, &ample, &mut cursor, (wanted, second))
 }
 
 #[test]

@@ -1,6 +1,6 @@
 use crate::readers::{Remade, in_little_endian, reads, specification};
 use crate::samples::version_4;
-use crate::shown::{Shown, bits, bytes, number, show};
+use crate::shown::{Shown, bits, bytes, number, show_raw, show_value};
 use std::alloc::Global;
 use std::process::Abort;
 use std::test::Fail;
@@ -127,6 +127,22 @@ fn wanted(source: Source, tried: &[(Conversion, &'static str)]) -> Shown {
     source.raw
 }
 
+// Tries a name with a value: what it shows as it was read, and as the name makes it.
+fn tries_source<R: Remade>(
+    rt: &impl Abort,
+    alloc: Global,
+    like: &R,
+    name: u16,
+    source: Source,
+    wanted: Shown,
+) -> Result<(), Fail> {
+    let given = specification(name, source.form, 0);
+    let (attribute, _) = reads(rt, alloc, like, version_4(), given, source.bytes)?;
+    let shown = (show_raw(&attribute), show_value(&attribute));
+    assert_eq!(rt; shown, (source.raw, wanted), "{name} of {source:?}");
+    Ok(())
+}
+
 // Tries a name with each value.
 fn tries_name<R: Remade>(
     rt: &impl Abort,
@@ -136,15 +152,7 @@ fn tries_name<R: Remade>(
     tried: &[(Conversion, &'static str)],
 ) -> Result<(), Fail> {
     for source in sources() {
-        let given = specification(name, source.form, 0);
-        let (attribute, _) = reads(rt, alloc, like, version_4(), given, source.bytes)?;
-        assert_eq!(rt;
-            show(&attribute.raw_value()),
-            source.raw,
-            "{name} of {source:?}"
-        );
-        let shown = show(&attribute.value());
-        assert_eq!(rt; shown, wanted(source, tried), "{name} of {source:?}");
+        tries_source(rt, alloc, like, name, source, wanted(source, tried))?;
     }
     Ok(())
 }

@@ -1,10 +1,10 @@
 use crate::samples::{
-    NESTED_STRINGS, SIBLINGS, TABLE_NESTED_STRINGS, TABLE_WITH_SIBLINGS, has_bytes, input,
-    table_of, unit_of, version_4, whole,
+    NESTED_STRINGS, SIBLINGS, TABLE_NESTED_STRINGS, TABLE_WITH_SIBLINGS, has_bytes, input, raw_of,
+    read_entry, table_of, unit_of, version_4, whole,
 };
 use gimli_base::{
-    AttributeSpecification, BigEndian, DwAt, DwForm, DwTag, EndianSlice, Endianity, Error,
-    LittleEndian, Reader, ReaderOffset, ReaderOffsetId, Result, RunTimeEndian,
+    Abbreviations, AttributeSpecification, BigEndian, DwAt, DwForm, DwTag, EndianSlice, Endianity,
+    Error, LittleEndian, Reader, ReaderOffset, ReaderOffsetId, Result, RunTimeEndian,
 };
 use gimli_units::{Attribute, AttributeValue, DebuggingInformationEntry, EntriesRaw, UnitOffset};
 use std::alloc::Global;
@@ -32,9 +32,36 @@ fn next_of<R: Reader>(raw: &Raw<'_, R>) -> (u64, isize) {
     (raw.next_offset().0.into_u64(), raw.next_depth())
 }
 
+// A reader of entries over an input, whose first byte has an offset.
+fn raw_at<'abbrev, R: Reader>(
+    rt: &impl Abort,
+    input: R,
+    table: &'abbrev Abbreviations<Global>,
+    offset: u8,
+) -> Raw<'abbrev, R> {
+    let offset = R::Offset::from_u8(offset);
+    assert!(rt; offset.checked_add(input.len()).is_some());
+    EntriesRaw::new(input, version_4(), table, UnitOffset(offset))
+}
+
+// Reads a code: the tag and the children flag of its declaration, or none at the code 0.
+fn read_code<R: Reader>(raw: &mut Raw<'_, R>) -> Result<Option<(DwTag, bool)>> {
+    let declared = raw.read_abbreviation()?;
+    Ok(declared.map(|declared| (declared.tag(), declared.has_children())))
+}
+
+// Reads attributes.
+fn read_list<R: Reader>(
+    raw: &mut Raw<'_, R>,
+    specifications: &[AttributeSpecification],
+    attributes: &mut Vec<Attribute<R>>,
+) -> Result<()> {
+    raw.read_attributes(specifications, attributes)
+}
+
 // Reads an entry.
 fn read<R: Reader>(raw: &mut Raw<'_, R>, entry: &mut Entry<R>) -> Shown {
-    let answer = raw.read_entry(entry);
+    let answer = read_entry(raw, entry);
     Shown {
         answer,
         place: (entry.offset().0.into_u64(), entry.depth()),
@@ -68,6 +95,24 @@ fn end_at(place: u64) -> Error {
     Error::UnexpectedEof(ReaderOffsetId(place))
 }
 
+// Reads an entry, which is to show this row.
+fn tries_row<R: Reader>(rt: &impl Abort, raw: &mut Raw<'_, R>, entry: &mut Entry<R>, row: Shown) {
+    assert_eq!(rt; read(raw, entry), row);
+    assert_eq!(rt; entry.is_null(), row.head.0 == 0);
+}
+
+// Reads entries, which are to show these rows.
+fn tries_rows<R: Reader>(
+    rt: &impl Abort,
+    raw: &mut Raw<'_, R>,
+    entry: &mut Entry<R>,
+    rows: &[Shown],
+) {
+    for row in rows {
+        tries_row(rt, raw, entry, *row);
+    }
+}
+
 // Reads entries of the unit with these abbreviations and entries, which are to show these rows.
 fn shows<R: Reader>(
     rt: &impl Abort,
@@ -78,12 +123,9 @@ fn shows<R: Reader>(
 ) -> std::result::Result<(), Fail> {
     let table = table_of(alloc, declared)?;
     let unit = unit_of(rt, entries);
-    let mut raw = unit.entries_raw(&table, None)?;
+    let mut raw = raw_of(&unit, &table)?;
     let mut entry = Entry::null(alloc);
-    for row in rows {
-        assert_eq!(rt; read(&mut raw, &mut entry), *row);
-        assert_eq!(rt; entry.is_null(), row.head.0 == 0);
-    }
+    tries_rows(rt, &mut raw, &mut entry, rows);
     Ok(())
 }
 
@@ -265,14 +307,14 @@ fn is_only_attribute<R: Reader + Copy>(
 fn entries_have_their_texts(rt: HostRuntime) -> std::result::Result<(), Fail> {
     let table = table_of(rt.alloc(), &TABLE_NESTED_STRINGS)?;
     let unit = unit_of(&rt, input(&NESTED_STRINGS, LittleEndian));
-    let mut raw = unit.entries_raw(&table, None)?;
+    let mut raw = raw_of(&unit, &table)?;
     let mut entry = Entry::null(rt.alloc());
     for place in [0x0c, 0x11, 0x16] {
-        assert_eq!(rt; raw.read_entry(&mut entry), Ok(true));
+        assert_eq!(rt; read_entry(&mut raw, &mut entry), Ok(true));
         let text = Value::Text(b"foo", place);
         assert!(rt; is_only_attribute(&entry, 0x03, 0x08, text));
     }
-    assert_eq!(rt; raw.read_entry(&mut entry), Ok(false));
+    assert_eq!(rt; read_entry(&mut raw, &mut entry), Ok(false));
     assert!(rt; entry.attrs().is_empty());
     Ok(())
 }
@@ -281,11 +323,11 @@ fn entries_have_their_texts(rt: HostRuntime) -> std::result::Result<(), Fail> {
 fn entries_have_their_references(rt: HostRuntime) -> std::result::Result<(), Fail> {
     let table = table_of(rt.alloc(), &TABLE_WITH_SIBLINGS)?;
     let unit = unit_of(&rt, input(&SIBLINGS, LittleEndian));
-    let mut raw = unit.entries_raw(&table, None)?;
+    let mut raw = raw_of(&unit, &table)?;
     let mut entry = Entry::null(rt.alloc());
-    assert_eq!(rt; raw.read_entry(&mut entry), Ok(true));
+    assert_eq!(rt; read_entry(&mut raw, &mut entry), Ok(true));
     assert!(rt; is_only_attribute(&entry, 0x01, 0x11, Value::Reference(0x0f)));
-    assert_eq!(rt; raw.read_entry(&mut entry), Ok(true));
+    assert_eq!(rt; read_entry(&mut raw, &mut entry), Ok(true));
     assert!(rt; entry.attrs().is_empty());
     Ok(())
 }
@@ -294,7 +336,7 @@ fn entries_have_their_references(rt: HostRuntime) -> std::result::Result<(), Fai
 fn reads_codes_alone(rt: HostRuntime) -> std::result::Result<(), Fail> {
     let table = table_of(rt.alloc(), &TABLE_WITH_SIBLINGS)?;
     let unit = unit_of(&rt, input(&[0x01, 0x02, 0x00, 0x82, 0x00, 0x07], BigEndian));
-    let mut raw = unit.entries_raw(&table, None)?;
+    let mut raw = raw_of(&unit, &table)?;
     // the tag and the children flag of the declaration, and then where the reader stands
     let rows = [
         (Some((DwTag(0x2e), true)), (0x0c, 1)),
@@ -304,12 +346,10 @@ fn reads_codes_alone(rt: HostRuntime) -> std::result::Result<(), Fail> {
     ];
     for (want, next) in rows {
         assert!(rt; !raw.is_empty());
-        let declared = raw.read_abbreviation()?;
-        let head = declared.map(|d| (d.tag(), d.has_children()));
-        assert_eq!(rt; head, want);
+        assert_eq!(rt; read_code(&mut raw)?, want);
         assert_eq!(rt; next_of(&raw), next);
     }
-    let error = raw.read_abbreviation().err();
+    let error = read_code(&mut raw).err();
     assert_eq!(rt; error, Some(Error::InvalidAbbreviationCode(7)));
     assert_eq!(rt; next_of(&raw), (0x10, 0));
     Ok(())
@@ -334,9 +374,9 @@ fn refuses_codes(rt: HostRuntime) -> std::result::Result<(), Fail> {
     ];
     for (bytes, error) in cases {
         let reader = input(bytes, LittleEndian);
-        let mut raw = EntriesRaw::new(reader, version_4(), &table, UnitOffset(20));
+        let mut raw = raw_at(&rt, reader, &table, 20);
         assert_eq!(rt; raw.is_empty(), bytes.is_empty());
-        assert_eq!(rt; raw.read_abbreviation().err(), Some(error), "{bytes:?}");
+        assert_eq!(rt; read_code(&mut raw).err(), Some(error), "{bytes:?}");
         assert_eq!(rt; next_of(&raw), (20, 0));
     }
     Ok(())
@@ -385,10 +425,7 @@ fn reads_each_form<R: Reader + Copy>(
 ) -> std::result::Result<(), Fail> {
     let table = table_of(alloc, &[0x00])?;
     let place = input.offset_id().0;
-    let whole = R::Offset::from_u8(20).checked_add(input.len());
-    assert!(rt; whole.is_some());
-    let offset = UnitOffset(R::Offset::from_u8(20));
-    let mut raw = EntriesRaw::new(input, version_4(), &table, offset);
+    let mut raw = raw_at(rt, input, &table, 20);
     let rows = [
         (0x03, 0x08, Value::Text(b"f", place), 22),
         (0x0b, 0x0b, Value::Byte(0xff), 23),
@@ -420,6 +457,22 @@ fn reads_attributes_of_each_form(rt: HostRuntime) -> std::result::Result<(), Fai
     Ok(())
 }
 
+// Tries a form and bytes that are refused, by either call.
+fn refuses_attribute(
+    rt: &impl Abort,
+    table: &Abbreviations<Global>,
+    (form, bytes): (u16, &[u8]),
+    inline: bool,
+    error: Error,
+) {
+    let reader = input(bytes, RunTimeEndian::Big);
+    let mut raw = raw_at(rt, reader, table, 20);
+    let answer = read_by(&mut raw, specification(rt, 0x03, form), inline);
+    assert_eq!(rt; answer.err(), Some(error), "{form} {bytes:?}");
+    assert_eq!(rt; next_of(&raw), (20, 0));
+    assert_eq!(rt; raw.is_empty(), bytes.is_empty());
+}
+
 #[test]
 fn refuses_attributes(rt: HostRuntime) -> std::result::Result<(), Fail> {
     let table = table_of(rt.alloc(), &[0x00])?;
@@ -436,12 +489,7 @@ fn refuses_attributes(rt: HostRuntime) -> std::result::Result<(), Fail> {
     ];
     for (form, bytes, error) in cases {
         for inline in [false, true] {
-            let reader = input(bytes, RunTimeEndian::Big);
-            let mut raw = EntriesRaw::new(reader, version_4(), &table, UnitOffset(20));
-            let answer = read_by(&mut raw, specification(&rt, 0x03, form), inline);
-            assert_eq!(rt; answer.err(), Some(error), "{form} {bytes:?}");
-            assert_eq!(rt; next_of(&raw), (20, 0));
-            assert_eq!(rt; raw.is_empty(), bytes.is_empty());
+            refuses_attribute(&rt, &table, (form, bytes), inline, error);
         }
     }
     Ok(())
@@ -466,16 +514,29 @@ fn reads_lists_of_attributes(rt: HostRuntime) -> std::result::Result<(), Fail> {
     let reference = specification(&rt, 0x01, 0x11);
     let byte = specification(&rt, 0x0b, 0x0b);
     let reader = input(&[0x66, 0x00, 0x0b, 0x2a, 0x67], LittleEndian);
-    let mut raw = EntriesRaw::new(reader, version_4(), &table, UnitOffset(11));
+    let mut raw = raw_at(&rt, reader, &table, 11);
     let mut attributes = Vec::new(rt.alloc());
-    raw.read_attributes(&[text, reference, byte], &mut attributes)?;
+    read_list(&mut raw, &[text, reference, byte], &mut attributes)?;
     assert!(rt; are_three(&attributes));
     assert_eq!(rt; next_of(&raw), (15, 0));
     // an empty list takes the place of the other
-    raw.read_attributes(&[], &mut attributes)?;
+    read_list(&mut raw, &[], &mut attributes)?;
     assert!(rt; attributes.is_empty());
     assert_eq!(rt; next_of(&raw), (15, 0));
     Ok(())
+}
+
+// Tries a list that is refused, which takes the place of other attributes.
+fn refuses_list<R: Reader>(
+    rt: &impl Abort,
+    raw: &mut Raw<'_, R>,
+    attributes: &mut Vec<Attribute<R>>,
+    specifications: &[AttributeSpecification],
+    error: Error,
+) {
+    let answer = read_list(raw, specifications, attributes);
+    assert_eq!(rt; answer, Err(error));
+    assert!(rt; attributes.is_empty());
 }
 
 #[test]
@@ -493,22 +554,46 @@ fn refused_lists_leave_the_reader(rt: HostRuntime) -> std::result::Result<(), Fa
     ];
     for (specifications, error) in cases {
         let reader = input(&bytes, BigEndian);
-        let mut raw = EntriesRaw::new(reader, version_4(), &table, UnitOffset(10));
+        let mut raw = raw_at(&rt, reader, &table, 10);
         let mut attributes = Vec::new(rt.alloc());
-        raw.read_attributes(&[byte], &mut attributes)?;
+        read_list(&mut raw, &[byte], &mut attributes)?;
         assert_eq!(rt; attributes.len(), 1);
-        let mut raw = EntriesRaw::new(reader, version_4(), &table, UnitOffset(11));
-        let answer = raw.read_attributes(specifications, &mut attributes);
-        assert_eq!(rt; answer, Err(error));
-        assert!(rt; attributes.is_empty());
+        let mut raw = raw_at(&rt, reader, &table, 11);
+        refuses_list(&rt, &mut raw, &mut attributes, specifications, error);
         assert_eq!(rt; next_of(&raw), (11, 0));
     }
     Ok(())
 }
 
+// Tries that attributes are empty texts one behind the other.
+fn tries_empty_texts<R: Reader + Copy>(rt: &impl Abort, attributes: &[Attribute<R>]) {
+    let mut place = 12;
+    for attribute in attributes {
+        assert!(rt; is_attribute(attribute, 0x03, 0x08, Value::Text(b"", place)));
+        place = place.saturating_add(1);
+    }
+}
+
+// Tries an entry of 10,000 texts, each of them empty.
+fn tries_many_attributes(
+    rt: &impl Abort,
+    alloc: Global,
+    declared: &[u8],
+    entries: &[u8],
+) -> std::result::Result<(), Fail> {
+    let table = table_of(alloc, declared)?;
+    let unit = unit_of(rt, input(entries, LittleEndian));
+    let mut raw = raw_of(&unit, &table)?;
+    let mut entry = Entry::null(alloc);
+    let want = row((11, 0), (0x2e, false, 10_000), (10_012, 0));
+    tries_row(rt, &mut raw, &mut entry, want);
+    tries_empty_texts(rt, entry.attrs());
+    Ok(())
+}
+
 #[test]
 fn reads_many_attributes(rt: HostRuntime) -> std::result::Result<(), Fail> {
-    // one declaration of 10,000 texts, each of them empty
+    // one declaration of 10,000 texts
     let mut declared = Vec::from_slice(rt.alloc(), &[0x01, 0x2e, 0x00])?;
     let mut entries = Vec::from_slice(rt.alloc(), &[0x01])?;
     for _ in 0..10_000 {
@@ -516,24 +601,28 @@ fn reads_many_attributes(rt: HostRuntime) -> std::result::Result<(), Fail> {
         entries.push(0x00)?;
     }
     declared.extend_from_slice(&[0x00, 0x00, 0x00])?;
-    let table = table_of(rt.alloc(), &declared)?;
-    let unit = unit_of(&rt, input(&entries, LittleEndian));
-    let mut raw = unit.entries_raw(&table, None)?;
-    let mut entry = Entry::null(rt.alloc());
-    let shown = read(&mut raw, &mut entry);
-    let want = row((11, 0), (0x2e, false, 10_000), (10_012, 0));
-    assert_eq!(rt; shown, want);
-    let mut place = 12;
-    for attribute in entry.attrs() {
-        assert!(rt; is_attribute(attribute, 0x03, 0x08, Value::Text(b"", place)));
-        place = place.saturating_add(1);
-    }
+    tries_many_attributes(&rt, rt.alloc(), &declared, &entries)
+}
+
+// Tries an entry of one text of 100,000 bytes.
+fn tries_long_text(
+    rt: &impl Abort,
+    alloc: Global,
+    text: &[u8],
+    entries: &[u8],
+) -> std::result::Result<(), Fail> {
+    let table = table_of(alloc, &TABLE_NESTED_STRINGS)?;
+    let unit = unit_of(rt, input(entries, BigEndian));
+    let mut raw = raw_of(&unit, &table)?;
+    let mut entry = Entry::null(alloc);
+    let want = row((11, 0), (0x2e, true, 1), (100_013, 1));
+    tries_row(rt, &mut raw, &mut entry, want);
+    assert!(rt; is_only_attribute(&entry, 0x03, 0x08, Value::Text(text, 12)));
     Ok(())
 }
 
 #[test]
 fn reads_a_long_text(rt: HostRuntime) -> std::result::Result<(), Fail> {
-    let table = table_of(rt.alloc(), &TABLE_NESTED_STRINGS)?;
     let mut text = Vec::new(rt.alloc());
     for _ in 0..100_000 {
         text.push(0x66)?;
@@ -541,15 +630,5 @@ fn reads_a_long_text(rt: HostRuntime) -> std::result::Result<(), Fail> {
     let mut entries = Vec::from_slice(rt.alloc(), &[0x01])?;
     entries.extend_from_slice(&text)?;
     entries.push(0x00)?;
-    let unit = unit_of(&rt, input(&entries, BigEndian));
-    let mut raw = unit.entries_raw(&table, None)?;
-    let mut entry = Entry::null(rt.alloc());
-    let shown = read(&mut raw, &mut entry);
-    let want = row((11, 0), (0x2e, true, 1), (100_013, 1));
-    assert_eq!(rt; shown, want);
-    let attributes = entry.attrs();
-    assert_eq!(rt; attributes.len(), 1);
-    let value = Value::Text(&text, 12);
-    assert!(rt; is_attribute(&attributes[0], 0x03, 0x08, value));
-    Ok(())
+    tries_long_text(&rt, rt.alloc(), &text, &entries)
 }

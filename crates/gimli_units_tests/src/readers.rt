@@ -1,10 +1,10 @@
 //! Readers of each kind, and what they read and pass.
 
 use crate::samples::table_of;
-use crate::shown::{Shown, show};
+use crate::shown::{Shown, show_raw};
 use gimli_base::{
-    AttributeSpecification, DwAt, DwForm, Encoding, EndianSlice, Endianity, Error, Reader,
-    ReaderOffset, ReaderOffsetId, Result, WholeSlice,
+    Abbreviations, AttributeSpecification, DwAt, DwForm, Encoding, EndianSlice, Endianity, Error,
+    Reader, ReaderOffset, ReaderOffsetId, Result, WholeSlice,
 };
 use gimli_units::{Attribute, EntriesRaw, UnitOffset};
 use std::alloc::Global;
@@ -74,6 +74,40 @@ pub(crate) fn specification(name: u16, form: u16, constant: i64) -> AttributeSpe
     AttributeSpecification::new(DwAt(name), DwForm(form), constant)
 }
 
+/// A reader of the attributes in an input, whose first byte has the offset 0. It is a function of its own, as the calls below
+/// are, since a proof carries what is known of each call in the function: so a test that makes many calls is proved sooner.
+pub(crate) fn raw_over<'abbrev, R: Reader>(
+    rt: &impl Abort,
+    input: R,
+    encoding: Encoding,
+    table: &'abbrev Abbreviations<Global>,
+) -> EntriesRaw<'abbrev, R, Global> {
+    let zero = R::Offset::from_u8(0);
+    assert!(rt; zero.checked_add(input.len()).is_some());
+    EntriesRaw::new(input, encoding, table, UnitOffset(zero))
+}
+
+/// Reads an attribute.
+pub(crate) fn read<R: Reader>(
+    raw: &mut EntriesRaw<'_, R, Global>,
+    specification: AttributeSpecification,
+) -> Result<Attribute<R>> {
+    raw.read_attribute(specification)
+}
+
+/// Passes attributes.
+pub(crate) fn pass<R: Reader>(
+    raw: &mut EntriesRaw<'_, R, Global>,
+    specifications: &[AttributeSpecification],
+) -> Result<()> {
+    raw.skip_attributes(specifications)
+}
+
+/// The number of bytes that a reader took.
+pub(crate) fn taken_of<R: Reader>(raw: &EntriesRaw<'_, R, Global>) -> u64 {
+    raw.next_offset().0.into_u64()
+}
+
 /// What is read from an input: the attribute, and the number of bytes that it takes. A refused call has to leave the
 /// reader.
 pub(crate) fn reads_from<R: Reader>(
@@ -84,11 +118,18 @@ pub(crate) fn reads_from<R: Reader>(
     specification: AttributeSpecification,
 ) -> Result<(Attribute<R>, u64)> {
     let table = table_of(alloc, &[0])?;
-    let zero = R::Offset::from_u8(0);
-    assert!(rt; zero.checked_add(input.len()).is_some());
-    let mut raw = EntriesRaw::new(input, encoding, &table, UnitOffset(zero));
-    let answer = raw.read_attribute(specification);
-    let next = raw.next_offset().0.into_u64();
+    let mut raw = raw_over(rt, input, encoding, &table);
+    read_from(rt, &mut raw, specification)
+}
+
+// What is read by a reader that took nothing yet.
+fn read_from<R: Reader>(
+    rt: &impl Abort,
+    raw: &mut EntriesRaw<'_, R, Global>,
+    specification: AttributeSpecification,
+) -> Result<(Attribute<R>, u64)> {
+    let answer = read(raw, specification);
+    let next = taken_of(raw);
     if answer.is_err() {
         assert_eq!(rt; next, 0, "at {specification:?}");
     }
@@ -104,9 +145,18 @@ pub(crate) fn shows_from<R: Reader>(
     specification: AttributeSpecification,
 ) -> Result<(Shown, u64)> {
     let (attribute, taken) = reads_from(rt, alloc, input, encoding, specification)?;
+    tries_declared(rt, &attribute, specification);
+    Ok((show_raw(&attribute), taken))
+}
+
+// Tries that an attribute has the name and the form that are declared.
+fn tries_declared<R: Reader>(
+    rt: &impl Abort,
+    attribute: &Attribute<R>,
+    specification: AttributeSpecification,
+) {
     assert_eq!(rt; attribute.name(), specification.name());
     assert_eq!(rt; attribute.form(), specification.form());
-    Ok((show(&attribute.raw_value()), taken))
 }
 
 /// The number of bytes that are passed of an input. A refused call has to leave the reader; the place of missing bytes
@@ -120,23 +170,39 @@ pub(crate) fn passes_from<R: Reader>(
 ) -> Result<u64> {
     let table = table_of(alloc, &[0])?;
     let start = input.copy();
-    let zero = R::Offset::from_u8(0);
-    assert!(rt; zero.checked_add(input.len()).is_some());
-    let mut raw = EntriesRaw::new(input, encoding, &table, UnitOffset(zero));
-    let answer = raw.skip_attributes(specifications);
-    let next = raw.next_offset().0.into_u64();
-    match answer {
-        Ok(()) => Ok(next),
-        Err(error) => {
-            assert_eq!(rt; next, 0, "left {specifications:?}");
-            if let Error::UnexpectedEof(place) = error {
-                let within = start.lookup_offset_id(place);
-                assert!(rt; within.is_some(), "at {specifications:?}");
-                return Err(end_at(0));
-            }
-            Err(error)
-        }
-    }
+    let mut raw = raw_over(rt, input, encoding, &table);
+    pass_from(rt, &mut raw, &start, specifications)
+}
+
+// The number of bytes that are passed by a reader that took nothing yet.
+fn pass_from<R: Reader>(
+    rt: &impl Abort,
+    raw: &mut EntriesRaw<'_, R, Global>,
+    start: &R,
+    specifications: &[AttributeSpecification],
+) -> Result<u64> {
+    let answer = pass(raw, specifications);
+    let next = taken_of(raw);
+    let Err(error) = answer else {
+        return Ok(next);
+    };
+    assert_eq!(rt; next, 0, "left {specifications:?}");
+    Err(at_zero(rt, start, error, specifications))
+}
+
+// A refusal, where that of missing bytes tells the place 0; their place has to lie in the input or at its end.
+fn at_zero<R: Reader>(
+    rt: &impl Abort,
+    start: &R,
+    error: Error,
+    specifications: &[AttributeSpecification],
+) -> Error {
+    let Error::UnexpectedEof(place) = error else {
+        return error;
+    };
+    let within = start.lookup_offset_id(place);
+    assert!(rt; within.is_some(), "at {specifications:?}");
+    end_at(0)
 }
 
 /// What is read from these bytes: the attribute, and the number of bytes that it takes.
@@ -176,6 +242,43 @@ pub(crate) fn passes<R: Remade>(
 ) -> Result<u64> {
     let input = like.remade(bytes).expect(rt, "too many bytes");
     passes_from(rt, alloc, input, encoding, specifications)
+}
+
+/// What is read or passed: a form that is declared under a name, at an encoding, and bytes; the number stands with
+/// implicit_const alone.
+#[derive(Clone, Copy, Debug)]
+pub(crate) struct Given {
+    pub(crate) encoding: Encoding,
+    pub(crate) name: u16,
+    pub(crate) form: u16,
+    pub(crate) constant: i64,
+    pub(crate) bytes: &'static [u8],
+}
+
+/// Tries what is shown of what is given, and the number of bytes that are taken.
+pub(crate) fn tries_shown<R: Remade>(
+    rt: &impl Abort,
+    alloc: Global,
+    like: &R,
+    given: Given,
+    wanted: Result<(Shown, u64)>,
+) {
+    let declared = specification(given.name, given.form, given.constant);
+    let shown = shows(rt, alloc, like, given.encoding, declared, given.bytes);
+    assert_eq!(rt; shown, wanted, "at {given:?}");
+}
+
+/// Tries the number of bytes that are passed of what is given.
+pub(crate) fn tries_passed<R: Remade>(
+    rt: &impl Abort,
+    alloc: Global,
+    like: &R,
+    given: Given,
+    wanted: Result<u64>,
+) {
+    let declared = [specification(given.name, given.form, given.constant)];
+    let passed = passes(rt, alloc, like, given.encoding, &declared, given.bytes);
+    assert_eq!(rt; passed, wanted, "at {given:?}");
 }
 
 /// The refusal of missing bytes at a place.

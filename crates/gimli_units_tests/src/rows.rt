@@ -1,11 +1,13 @@
 use crate::readers::{
-    Remade, end_at, in_each_reader, in_little_endian, is_narrow, passes, reads, shows,
-    specification,
+    Given, Remade, end_at, in_each_reader, in_little_endian, is_narrow, pass, passes, raw_over,
+    read, reads, specification, taken_of, tries_passed, tries_shown,
 };
 use crate::samples::{table_of, version_4};
-use crate::shown::{Shown, bits, bytes, bytes_of, number, show};
-use gimli_base::{DebugStr, DwForm, Encoding, Error, Format, Reader, ReaderOffset, Result};
-use gimli_units::{EntriesRaw, UnitOffset};
+use crate::shown::{Shown, bits, bytes, bytes_of, number, show_raw, show_value};
+use gimli_base::{
+    DebugStr, DwForm, Encoding, Error, Expression, Format, Reader, ReaderOffset, Result,
+};
+use gimli_units::{Attribute, AttributeValue};
 use std::alloc::Global;
 use std::process::Abort;
 use std::test::Fail;
@@ -97,18 +99,25 @@ fn tries_rows<R: Remade>(
     like: &R,
 ) -> std::result::Result<(), Fail> {
     for row in rows() {
-        let (form, bytes) = (row.form, row.bytes);
-        let encoding = encoding(row.setting.0, row.setting.1);
-        let given = specification(NAME, form, -1);
-        let shown = shows(rt, alloc, like, encoding, given, bytes);
-        assert_eq!(rt; shown, row.shown, "{form} {bytes:?}");
-        let passed = passes(rt, alloc, like, encoding, &[given], bytes);
-        assert_eq!(rt; passed, row.passed, "{form} {bytes:?}");
+        let given = Given {
+            encoding: encoding(row.setting.0, row.setting.1),
+            name: NAME,
+            form: row.form,
+            constant: -1,
+            bytes: row.bytes,
+        };
+        tries_shown(rt, alloc, like, given, row.shown);
+        tries_passed(rt, alloc, like, given, row.passed);
     }
     // the third byte of an indirect form may be 00, and a chain ends at any form
-    let given = specification(NAME, 0x16, 0);
-    let shown = shows(rt, alloc, like, version_4(), given, b"\x96\x80\x00\x0b\x2a");
-    assert_eq!(rt; shown, Ok((number("Data1", 42), 5)));
+    let given = Given {
+        encoding: version_4(),
+        name: NAME,
+        form: 0x16,
+        constant: 0,
+        bytes: b"\x96\x80\x00\x0b\x2a",
+    };
+    tries_shown(rt, alloc, like, given, Ok((number("Data1", 42), 5)));
     Ok(())
 }
 
@@ -191,13 +200,12 @@ fn reads_behind_passed<R: Remade>(
     let input = like
         .remade(b"\x01\x61\x00\x02ab")
         .expect(rt, "too many bytes");
-    let zero = R::Offset::from_u8(0);
-    assert!(rt; zero.checked_add(input.len()).is_some());
-    let mut raw = EntriesRaw::new(input, version_4(), &table, UnitOffset(zero));
-    raw.skip_attributes(&[specification(NAME, 0x0b, 0), specification(NAME, 0x08, 0)])?;
-    assert_eq!(rt; raw.next_offset().0.into_u64(), 3);
-    let attribute = raw.read_attribute(specification(NAME, 0x0a, 0))?;
-    assert_eq!(rt; show(&attribute.raw_value()), bytes("Block", 0x6162, 4, 2));
+    let mut raw = raw_over(rt, input, version_4(), &table);
+    let passed = [specification(NAME, 0x0b, 0), specification(NAME, 0x08, 0)];
+    pass(&mut raw, &passed)?;
+    assert_eq!(rt; taken_of(&raw), 3);
+    let attribute = read(&mut raw, specification(NAME, 0x0a, 0))?;
+    assert_eq!(rt; show_raw(&attribute), bytes("Block", 0x6162, 4, 2));
     assert!(rt; raw.is_empty());
     assert_eq!(rt; raw.next_depth(), 0);
     Ok(())
@@ -226,16 +234,9 @@ fn tries_data<R: Remade>(
         let encoding = encoding(version, 4);
         let bytes = b"\x10\x00\x00\x00";
         let (attribute, _) = reads(rt, alloc, like, encoding, given, bytes)?;
-        assert_eq!(rt;
-            show(&attribute.raw_value()),
-            number(raw, 16),
-            "{name} {version}"
-        );
-        assert_eq!(rt;
-            show(&attribute.value()),
-            number(normal, 16),
-            "{name} {version}"
-        );
+        let shown = (show_raw(&attribute), show_value(&attribute));
+        let wanted = (number(raw, 16), number(normal, 16));
+        assert_eq!(rt; shown, wanted, "{name} {version}");
     }
     Ok(())
 }
@@ -265,16 +266,36 @@ macro_rules! every_conversion {
             u16: $value.u16_value(),
             udata: $value.udata_value(),
             sdata: $value.sdata_value(),
-            offset: match $value.offset_value() {
-                Some(offset) => Some(offset.into_u64()),
-                None => None,
-            },
-            exprloc: match $value.exprloc_value() {
-                Some(found) => Some(bytes_of("Exprloc", &found.0)),
-                None => None,
-            },
+            offset: number_of($value.offset_value()),
+            exprloc: shown_expression($value.exprloc_value()),
         }
     };
+}
+
+// The number of an offset, if there is one.
+fn number_of<Offset: ReaderOffset>(offset: Option<Offset>) -> Option<u64> {
+    match offset {
+        Some(offset) => Some(offset.into_u64()),
+        None => None,
+    }
+}
+
+// What an expression shows, if there is one.
+fn shown_expression<R: Reader>(expression: Option<Expression<R>>) -> Option<Shown> {
+    match expression {
+        Some(found) => Some(bytes_of("Exprloc", &found.0)),
+        None => None,
+    }
+}
+
+// What the conversions of an attribute make of it.
+fn conversions_of<R: Reader>(attribute: &Attribute<R>) -> Conversions {
+    every_conversion!(attribute)
+}
+
+// What the conversions of a value make of it.
+fn conversions_of_value<R: Reader>(value: &AttributeValue<R>) -> Conversions {
+    every_conversion!(value)
 }
 
 // No conversion applies.
@@ -363,19 +384,31 @@ fn converted_others() -> [Converted; 11] {
     ]
 }
 
+// Tries the conversions of an attribute, and those of its value.
+fn tries_conversion<R: Remade>(
+    rt: &impl Abort,
+    alloc: Global,
+    like: &R,
+    (form, bytes, wanted): Converted,
+) -> std::result::Result<(), Fail> {
+    let given = specification(NAME, form, -1);
+    let (attribute, _) = reads(rt, alloc, like, version_4(), given, bytes)?;
+    let of_value = conversions_of_value(&attribute.raw_value());
+    let found = (conversions_of(&attribute), of_value);
+    assert_eq!(rt; found, (wanted, wanted), "{form} {bytes:?}");
+    // a name without a conversion changes nothing
+    let shown = show_value(&attribute);
+    assert_eq!(rt; shown, show_raw(&attribute), "{form} {bytes:?}");
+    Ok(())
+}
+
 fn tries_conversions<R: Remade>(
     rt: &impl Abort,
     alloc: Global,
     like: &R,
 ) -> std::result::Result<(), Fail> {
-    for (form, bytes, wanted) in converted_numbers().into_iter().chain(converted_others()) {
-        let given = specification(NAME, form, -1);
-        let (attribute, _) = reads(rt, alloc, like, version_4(), given, bytes)?;
-        assert_eq!(rt; every_conversion!(attribute), wanted, "{form} {bytes:?}");
-        let value = attribute.raw_value();
-        assert_eq!(rt; every_conversion!(value), wanted, "{form} {bytes:?}");
-        // a name without a conversion changes nothing
-        assert_eq!(rt; show(&attribute.value()), show(&value), "{form} {bytes:?}");
+    for row in converted_numbers().into_iter().chain(converted_others()) {
+        tries_conversion(rt, alloc, like, row)?;
     }
     Ok(())
 }
@@ -394,17 +427,44 @@ fn shown_text<R: Reader>(text: Option<R>) -> Option<Shown> {
     }
 }
 
-// Tries the text that a value stands for, without a supplementary file and with one.
-fn tries_texts<R: Remade>(
-    rt: &impl Abort,
-    alloc: Global,
-    like: &R,
-) -> std::result::Result<(), Fail> {
-    let own = DebugStr::from(like.remade(b"a\0b\0").expect(rt, "too many bytes"));
+// The text of an attribute or of a value, and the text where either of these is the supplementary file.
+macro_rules! every_text {
+    ($value:expr, $own:expr, $files:expr) => {
+        [
+            shown_text($value.string_value($own)),
+            shown_text($value.string_value_sup($own, $files[0])),
+            shown_text($value.string_value_sup($own, $files[1])),
+        ]
+    };
+}
+
+// The texts of an attribute.
+fn texts_of<'a, R: Reader>(
+    attribute: &Attribute<R>,
+    own: &'a DebugStr<R>,
+    files: [Option<&'a DebugStr<R>>; 2],
+) -> [Option<Shown>; 3] {
+    every_text!(attribute, own, files)
+}
+
+// The texts of a value.
+fn texts_of_value<'a, R: Reader>(
+    value: &AttributeValue<R>,
+    own: &'a DebugStr<R>,
+    files: [Option<&'a DebugStr<R>>; 2],
+) -> [Option<Shown>; 3] {
+    every_text!(value, own, files)
+}
+
+// A form, its bytes, and the texts that its value stands for.
+type Texts = (u16, &'static [u8], [Option<Shown>; 3]);
+
+// Forms, and what they find in a section of the texts a and b.
+fn texts() -> [Texts; 11] {
     let a = Some(bytes("String", 0x61, 0, 1));
     let b = Some(bytes("String", 0x62, 2, 1));
     let empty = Some(bytes("String", 0, 1, 0));
-    let rows: [(u16, &[u8], [Option<Shown>; 3]); 11] = [
+    [
         (0x0e, b"\x00\x00\x00\x00", [a, a, a]),
         (0x0e, b"\x01\x00\x00\x00", [empty, empty, empty]),
         (0x0e, b"\x02\x00\x00\x00", [b, b, b]),
@@ -416,25 +476,40 @@ fn tries_texts<R: Remade>(
         (0x08, b"a\0", [a, a, a]),
         (0x1f, b"\x00\x00\x00\x00", [None, None, None]),
         (0x0a, b"\x01a", [None, None, None]),
-    ];
+    ]
+}
+
+// Tries the texts that an attribute and its value stand for.
+fn tries_text<'a, R: Remade>(
+    rt: &impl Abort,
+    alloc: Global,
+    like: &R,
+    (own, sup): (&'a DebugStr<R>, &'a DebugStr<R>),
+    (form, bytes, wanted): Texts,
+) -> std::result::Result<(), Fail> {
+    let given = specification(NAME, form, 0);
+    let (attribute, _) = reads(rt, alloc, like, version_4(), given, bytes)?;
     // without a supplementary file and with one
-    let files = [None, Some(&own)];
-    for (form, bytes, wanted) in rows {
-        let given = specification(NAME, form, 0);
-        let (attribute, _) = reads(rt, alloc, like, version_4(), given, bytes)?;
-        let value = attribute.raw_value();
-        let found = [
-            shown_text(value.string_value(&own)),
-            shown_text(value.string_value_sup(&own, files[0])),
-            shown_text(value.string_value_sup(&own, files[1])),
-        ];
-        let of_attribute = [
-            shown_text(attribute.string_value(&own)),
-            shown_text(attribute.string_value_sup(&own, files[0])),
-            shown_text(attribute.string_value_sup(&own, files[1])),
-        ];
-        assert_eq!(rt; of_attribute, wanted, "{form} {bytes:?}");
-        assert_eq!(rt; found, wanted, "{form} {bytes:?}");
+    let files = [None, Some(sup)];
+    let of_value = texts_of_value(&attribute.raw_value(), own, files);
+    let found = (texts_of(&attribute, own, files), of_value);
+    assert_eq!(rt; found, (wanted, wanted), "{form} {bytes:?}");
+    Ok(())
+}
+
+// A section of texts with these bytes.
+fn section_of<R: Remade>(rt: &impl Abort, like: &R, bytes: &'static [u8]) -> DebugStr<R> {
+    DebugStr::from(like.remade(bytes).expect(rt, "too many bytes"))
+}
+
+fn tries_texts<R: Remade>(
+    rt: &impl Abort,
+    alloc: Global,
+    like: &R,
+) -> std::result::Result<(), Fail> {
+    let own = section_of(rt, like, b"a\0b\0");
+    for row in texts() {
+        tries_text(rt, alloc, like, (&own, &own), row)?;
     }
     Ok(())
 }
@@ -450,17 +525,16 @@ fn tries_two_sections<R: Remade>(
     alloc: Global,
     like: &R,
 ) -> std::result::Result<(), Fail> {
-    let own = DebugStr::from(like.remade(b"a\0").expect(rt, "too many bytes"));
-    let other = DebugStr::from(like.remade(b"b\0").expect(rt, "too many bytes"));
-    for (form, letter) in [(0x0e, 0x61), (0x1d, 0x62)] {
-        let given = specification(NAME, form, 0);
-        let (attribute, _) = reads(rt, alloc, like, version_4(), given, &[0, 0, 0, 0])?;
-        let value = attribute.raw_value();
-        let text = value.string_value_sup(&own, Some(&other));
-        let shown = shown_text(text);
-        assert_eq!(rt; shown, Some(bytes("String", letter, 0, 1)));
-        let text = attribute.string_value_sup(&own, Some(&other));
-        assert_eq!(rt; shown_text(text), shown);
+    let own = section_of(rt, like, b"a\0");
+    let other = section_of(rt, like, b"b\0");
+    let a = Some(bytes("String", 0x61, 0, 1));
+    let b = Some(bytes("String", 0x62, 0, 1));
+    let rows: [Texts; 2] = [
+        (0x0e, b"\0\0\0\0", [a, a, a]),
+        (0x1d, b"\0\0\0\0", [None, None, b]),
+    ];
+    for row in rows {
+        tries_text(rt, alloc, like, (&own, &other), row)?;
     }
     Ok(())
 }

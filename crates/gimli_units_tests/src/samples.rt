@@ -4,7 +4,7 @@ use gimli_base::{
     Abbreviations, DebugAbbrev, DebugAbbrevOffset, Encoding, EndianSlice, Endianity, Format,
     LittleEndian, Reader, ReaderOffset, Result, SectionId, WholeSlice,
 };
-use gimli_units::{UnitHeader, UnitSectionOffset, UnitType};
+use gimli_units::{DebuggingInformationEntry, EntriesRaw, UnitHeader, UnitSectionOffset, UnitType};
 use std::alloc::Global;
 use std::process::Abort;
 
@@ -72,6 +72,22 @@ pub(crate) fn unit_of<R: Reader>(rt: &impl Abort, entries: R) -> UnitHeader<R> {
         UnitSectionOffset(zero),
         entries,
     )
+}
+
+/// A reader of a unit's entries from the first on.
+pub(crate) fn raw_of<'abbrev, R: Reader>(
+    unit: &UnitHeader<R>,
+    table: &'abbrev Abbreviations<Global>,
+) -> Result<EntriesRaw<'abbrev, R, Global>> {
+    unit.entries_raw(table, None)
+}
+
+/// Reads an entry.
+pub(crate) fn read_entry<R: Reader>(
+    raw: &mut EntriesRaw<'_, R, Global>,
+    entry: &mut DebuggingInformationEntry<R, Global>,
+) -> Result<bool> {
+    raw.read_entry(entry)
 }
 
 /// Whether a reader has these bytes left, and no other.

@@ -1,7 +1,7 @@
 //! What attributes and values show, in one form for every reader.
 
 use gimli_base::{Reader, ReaderOffset};
-use gimli_units::AttributeValue;
+use gimli_units::{Attribute, AttributeValue};
 
 /// What a value shows, whatever reader it was read by.
 #[derive(Clone, Copy, Debug, PartialEq, Eq)]
@@ -84,6 +84,16 @@ pub(crate) fn show<R: Reader>(value: &AttributeValue<R>) -> Shown {
         AttributeValue::SecOffset(offset) => short("SecOffset", offset.into_u64()),
         _ => show_reference(value),
     }
+}
+
+/// What the value of an attribute shows, as it was read.
+pub(crate) fn show_raw<R: Reader>(attribute: &Attribute<R>) -> Shown {
+    show(&attribute.raw_value())
+}
+
+/// What the value of an attribute shows, as its name makes it.
+pub(crate) fn show_value<R: Reader>(attribute: &Attribute<R>) -> Shown {
+    show(&attribute.value())
 }
 
 // What a reference, a base or an index shows.

@@ -134,6 +134,33 @@ pub(crate) fn take<R: Reader, A: Allocator>(
     shown(cursor, outcome)
 }
 
+/// Tries a step, which is to show this.
+pub(crate) fn tries_step<R: Reader, A: Allocator>(
+    rt: &impl Abort,
+    cursor: &mut EntriesCursor<'_, R, A>,
+    step: Step,
+    wanted: Stood,
+) {
+    assert_eq!(rt; take(cursor, step), wanted, "{step:?}");
+}
+
+/// Tries where a cursor stands, behind a step that answered something.
+pub(crate) fn stands<R: Reader, A: Allocator>(
+    rt: &impl Abort,
+    cursor: &EntriesCursor<'_, R, A>,
+    wanted: Stood,
+) {
+    assert_eq!(rt; shown(cursor, Ok(true)), wanted);
+}
+
+/// A cursor that stands where another stands.
+pub(crate) fn clone_of<'abbrev, R: Reader, A: Allocator + Copy>(
+    alloc: A,
+    cursor: &EntriesCursor<'abbrev, R, A>,
+) -> Result<EntriesCursor<'abbrev, R, A>> {
+    cursor.try_clone(alloc)
+}
+
 /// A cursor over a unit's entries, from an offset on or from the first.
 pub(crate) fn begin<'abbrev, R: Reader, A: Allocator + Copy>(
     alloc: A,
@@ -164,6 +191,28 @@ pub(crate) struct Walk<'a> {
     pub(crate) steps: &'a [(Step, Stood)],
 }
 
+// Tries a cursor before its first step, which begins at an offset or at 11.
+fn tries_begun<R: Reader, A: Allocator>(
+    rt: &impl Abort,
+    cursor: &EntriesCursor<'_, R, A>,
+    way: Way,
+    start: Option<u8>,
+) {
+    assert_eq!(rt; cursor.follows(), way == Way::Follows);
+    let first = (u64::from(start.unwrap_or(11)), 0);
+    assert_eq!(rt; shown(cursor, Ok(false)), no((0, 0), first, 0));
+}
+
+// Takes a step over these entries.
+fn tries_step_over<R: Reader, A: Allocator>(
+    rt: &impl Abort,
+    cursor: &mut EntriesCursor<'_, R, A>,
+    (way, entries): (Way, &[u8]),
+    (step, wanted): (Step, Stood),
+) {
+    assert_eq!(rt; take(cursor, step), wanted, "{way:?} {entries:?}");
+}
+
 // Takes the steps of a walk over these entries.
 fn tries_steps<R: Reader>(
     rt: &impl Abort,
@@ -175,16 +224,9 @@ fn tries_steps<R: Reader>(
     let table = table_of(alloc, walk.declared)?;
     let unit = unit_of(rt, entries);
     let mut cursor = begin(alloc, &unit, &table, way, walk.start)?;
-    assert_eq!(rt; cursor.follows(), way == Way::Follows);
-    let first = (u64::from(walk.start.unwrap_or(11)), 0);
-    assert_eq!(rt; shown(&cursor, Ok(false)), no((0, 0), first, 0));
-    for (step, wanted) in walk.steps {
-        assert_eq!(rt;
-            take(&mut cursor, *step),
-            *wanted,
-            "{way:?} {:?}",
-            walk.entries
-        );
+    tries_begun(rt, &cursor, way, walk.start);
+    for step in walk.steps {
+        tries_step_over(rt, &mut cursor, (way, walk.entries), *step);
     }
     assert_eq!(rt; cursor.follows(), way == Way::Follows);
     Ok(())

@@ -62,6 +62,17 @@ fn has_reference<R: Reader>(entry: &Entry<R>, number: u64) -> bool {
         && offset.0.into_u64() == number
 }
 
+// Tries the tag, the children flag and the number of attributes of an entry at an offset, and its depth, which is 0.
+fn tries_parts<R: Reader>(
+    rt: &impl Abort,
+    entry: &Entry<R>,
+    (tag, has_children, count): (u16, bool, usize),
+    number: u8,
+) {
+    let wanted = (DwTag(tag), has_children, count, u64::from(number), 0);
+    assert_eq!(rt; parts(entry), wanted);
+}
+
 // Tries each of the nested strings at its offset: none of them is deep there.
 fn tries_nested<R: Reader>(
     rt: &impl Abort,
@@ -72,8 +83,7 @@ fn tries_nested<R: Reader>(
     let unit = unit_of(rt, entries);
     for (number, place) in [(0x0b, 0x0c), (0x10, 0x11), (0x15, 0x16)] {
         let entry = entry_at(alloc, &unit, &table, number)?;
-        let wanted = (DwTag(0x2e), true, 1, u64::from(number), 0);
-        assert_eq!(rt; parts(&entry), wanted);
+        tries_parts(rt, &entry, (0x2e, true, 1), number);
         assert!(rt; has_text(&entry, place), "{number}");
     }
     Ok(())
@@ -94,12 +104,11 @@ fn tries_siblings<R: Reader>(
     let table = table_of(alloc, &TABLE_WITH_SIBLINGS)?;
     let unit = unit_of(rt, entries);
     let entry = entry_at(alloc, &unit, &table, 0x0b)?;
-    assert_eq!(rt; parts(&entry), (DwTag(0x2e), true, 1, 0x0b, 0));
+    tries_parts(rt, &entry, (0x2e, true, 1), 0x0b);
     assert!(rt; has_reference(&entry, 0x0f));
     for number in [0x0d, 0x0f] {
         let entry = entry_at(alloc, &unit, &table, number)?;
-        let wanted = (DwTag(0x34), false, 0, u64::from(number), 0);
-        assert_eq!(rt; parts(&entry), wanted);
+        tries_parts(rt, &entry, (0x34, false, 0), number);
     }
     Ok(())
 }

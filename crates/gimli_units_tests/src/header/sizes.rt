@@ -15,6 +15,12 @@ fn sizes_of(format: Format, version: u16) -> [usize; 6] {
     }
 }
 
+// Tries the size of the header of these parts.
+fn tries_size<R: Reader>(rt: &impl Abort, parts: Parts, size: usize, entries: R) {
+    let unit = header_of(rt, parts, entries);
+    assert_eq!(rt; unit.size_of_header(), size, "{parts:?}");
+}
+
 // Tries the headers of a format and a version over these entries, whatever their number of bytes.
 fn tries_sizes<R: Reader>(rt: &impl Abort, format: Format, version: u16, entries: &R) {
     let encoding = Encoding {
@@ -29,8 +35,7 @@ fn tries_sizes<R: Reader>(rt: &impl Abort, format: Format, version: u16, entries
             unit_length: 100,
             ..parts_of_32_bits()
         };
-        let unit = header_of(rt, parts, entries.copy());
-        assert_eq!(rt; unit.size_of_header(), size, "{parts:?}");
+        tries_size(rt, parts, size, entries.copy());
     }
 }
 
@@ -118,7 +123,25 @@ fn tells_addresses_that_stand_for_none(rt: HostRuntime) {
     tries_addresses(&rt, 8, entries, [before, last, before, last], others);
 }
 
-// Tries the offset of a unit in each section: it is one of `.debug_info` and one of `.debug_types` there alone.
+// Tries the offset of a unit in a section: it is one of `.debug_info` and one of `.debug_types` there alone.
+fn tries_section<R: Reader>(rt: &impl Abort, section: SectionId, entries: R) {
+    let parts = Parts {
+        section,
+        offset: 200,
+        ..parts_of_32_bits()
+    };
+    let unit = header_of(rt, parts, entries);
+    let offset = offset_of::<R>(200);
+    let (info, types) = match section {
+        SectionId::DebugInfo => (Some(DebugInfoOffset(offset)), None),
+        SectionId::DebugTypes => (None, Some(DebugTypesOffset(offset))),
+        _ => (None, None),
+    };
+    assert_eq!(rt; unit.debug_info_offset(), info, "{section:?}");
+    assert_eq!(rt; unit.debug_types_offset(), types, "{section:?}");
+}
+
+// Tries the offset of a unit in each section.
 fn tries_sections<R: Reader>(rt: &impl Abort, entries: &R) {
     let sections = [
         SectionId::DebugAbbrev,
@@ -133,20 +156,7 @@ fn tries_sections<R: Reader>(rt: &impl Abort, entries: &R) {
         SectionId::DebugTypes,
     ];
     for section in sections {
-        let parts = Parts {
-            section,
-            offset: 200,
-            ..parts_of_32_bits()
-        };
-        let unit = header_of(rt, parts, entries.copy());
-        let offset = offset_of::<R>(200);
-        let (info, types) = match section {
-            SectionId::DebugInfo => (Some(DebugInfoOffset(offset)), None),
-            SectionId::DebugTypes => (None, Some(DebugTypesOffset(offset))),
-            _ => (None, None),
-        };
-        assert_eq!(rt; unit.debug_info_offset(), info, "{section:?}");
-        assert_eq!(rt; unit.debug_types_offset(), types, "{section:?}");
+        tries_section(rt, section, entries.copy());
     }
 }
 
