@@ -22,14 +22,16 @@ pub struct EndianSlice<'a, E, K = <E as Endianity>::Kept> {
     bytes: &'a [u8],
     // the byte order, as `E` has it kept
     kept: K,
-    place: u64,
+    // the place behind the last byte, which stays where bytes are passed
+    end: u64,
     order: PhantomData<E>,
     ghost length_fits: { length bytes.now < 2 ^ 63 },
-    ghost end_fits: { place + length bytes.now < 2 ^ 64 },
+    ghost within: { length bytes.now ≤ end },
+    ghost end_fits: { end < 2 ^ 64 },
 }
 
 impl<'a, E, K: Copy> Clone for EndianSlice<'a, E, K> {
-    ghost is_clone = { λ r copy. (copy.bytes.now ≡ r.bytes.now) × (copy.kept ≡ r.kept) × (copy.place ≡ r.place) };
+    ghost is_clone = { λ r copy. (copy.bytes.now ≡ r.bytes.now) × (copy.kept ≡ r.kept) × (copy.end ≡ r.end) };
 
     ghost is_infallible = { λ _. ⊤ };
 
@@ -37,7 +39,7 @@ impl<'a, E, K: Copy> Clone for EndianSlice<'a, E, K> {
         Ok(EndianSlice {
             bytes: self.bytes,
             kept: self.kept,
-            place: self.place,
+            end: self.end,
             order: PhantomData,
         })
     }
@@ -46,13 +48,13 @@ impl<'a, E, K: Copy> Clone for EndianSlice<'a, E, K> {
 impl<'a, E, K: Copy> Copy for EndianSlice<'a, E, K> {}
 
 impl<'a, E: Endianity + Default> Default for EndianSlice<'a, E> {
-    ghost is_default = { λ r. (r.bytes.now ≡ []) × E.is_default (E.order r.kept) × (r.place ≡ 0) };
+    ghost is_default = { λ r. (r.bytes.now ≡ []) × E.is_default (E.order r.kept) × (r.end ≡ 0) };
 
     fn default() -> Self {
         EndianSlice {
             bytes: &[],
             kept: E::default().kept(),
-            place: 0,
+            end: 0,
             order: PhantomData,
         }
     }
@@ -63,7 +65,7 @@ impl<'a, E: Endianity> Debug for EndianSlice<'a, E> {
         f.debug_struct("EndianSlice")
             .field("bytes", &self.bytes)
             .field("endian", &E::from_kept(self.kept))
-            .field("place", &self.place)
+            .field("place", &self.place())
             .finish()
     }
 }
@@ -109,11 +111,11 @@ impl<'a, E: Endianity> EndianSlice<'a, E> {
         requires { place + length bytes.now < 2 ^ 64 }
         ensures { ⟦<EndianSlice<'a, E> as Reader>⟧.view result ≡ record { big = E.big endian; place = place; bytes = bytes.now } }
     {
-        let _length = bytes.len();
+        let length = bytes.len() as u64;
         EndianSlice {
             bytes,
             kept: endian.kept(),
-            place,
+            end: place + length,
             order: PhantomData,
         }
     }
@@ -124,13 +126,21 @@ impl<'a, E: Endianity> EndianSlice<'a, E> {
         requires { place + length bytes.now < 2 ^ 64 }
         ensures { ⟦<EndianSlice<'a, E> as Reader>⟧.view result ≡ record { big = E.big (E.order kept); place = place; bytes = bytes.now } }
     {
-        let _length = bytes.len();
+        let length = bytes.len() as u64;
         EndianSlice {
             bytes,
             kept,
-            place,
+            end: place + length,
             order: PhantomData,
         }
+    }
+
+    // The place of the first byte that is left
+    #[inline]
+    fn place(&self) -> u64
+        ensures { result ≡ (⟦<EndianSlice<'a, E> as Reader>⟧.view self.now).place }
+    {
+        self.end - self.bytes.len() as u64
     }
 
     /// The bytes that are left.
@@ -147,7 +157,7 @@ impl<'a, E: Endianity> Reader for EndianSlice<'a, E> {
 
     type Offset = usize;
 
-    ghost view = { λ r. record { big = E.big (E.order r.kept); place = r.place; bytes = r.bytes.now } };
+    ghost view = { λ r. record { big = E.big (E.order r.kept); place = r.end - length r.bytes.now; bytes = r.bytes.now } };
 
     #[inline]
     fn endian(&self) -> E {
@@ -161,7 +171,7 @@ impl<'a, E: Endianity> Reader for EndianSlice<'a, E> {
 
     #[inline]
     fn offset_id(&self) -> ReaderOffsetId {
-        ReaderOffsetId(self.place)
+        ReaderOffsetId(self.place())
     }
 
     #[inline]
@@ -169,7 +179,7 @@ impl<'a, E: Endianity> Reader for EndianSlice<'a, E> {
         EndianSlice {
             bytes: self.bytes,
             kept: self.kept,
-            place: self.place,
+            end: self.end,
             order: PhantomData,
         }
     }
@@ -178,7 +188,7 @@ impl<'a, E: Endianity> Reader for EndianSlice<'a, E> {
     #[inline]
     fn skip(&mut self, n: usize) -> Result<()> {
         if n <= self.bytes.len() {
-            *self = Self::at(&self.bytes[n..], self.kept, self.place + n as u64);
+            *self = Self::at(&self.bytes[n..], self.kept, self.place() + n as u64);
             Ok(())
         } else {
             Err(Error::UnexpectedEof(self.offset_id()))
@@ -189,8 +199,8 @@ impl<'a, E: Endianity> Reader for EndianSlice<'a, E> {
     #[inline]
     fn split(&mut self, n: usize) -> Result<Self> {
         if n <= self.bytes.len() {
-            let front = Self::at(&self.bytes[..n], self.kept, self.place);
-            *self = Self::at(&self.bytes[n..], self.kept, self.place + n as u64);
+            let front = Self::at(&self.bytes[..n], self.kept, self.place());
+            *self = Self::at(&self.bytes[n..], self.kept, self.place() + n as u64);
             Ok(front)
         } else {
             Err(Error::UnexpectedEof(self.offset_id()))
@@ -204,7 +214,7 @@ impl<'a, E: Endianity> Reader for EndianSlice<'a, E> {
             return Err(Error::UnexpectedEof(self.offset_id()));
         }
         let byte = self.bytes[0];
-        *self = Self::at(&self.bytes[1..], self.kept, self.place + 1);
+        *self = Self::at(&self.bytes[1..], self.kept, self.place() + 1);
         Ok(byte)
     }
 
@@ -214,7 +224,7 @@ impl<'a, E: Endianity> Reader for EndianSlice<'a, E> {
         let n = into.len();
         if n <= self.bytes.len() {
             into.copy_from_slice(&self.bytes[..n]);
-            *self = Self::at(&self.bytes[n..], self.kept, self.place + n as u64);
+            *self = Self::at(&self.bytes[n..], self.kept, self.place() + n as u64);
             Ok(())
         } else {
             Err(Error::UnexpectedEof(self.offset_id()))
@@ -233,7 +243,7 @@ impl<'a, E: Endianity> Reader for EndianSlice<'a, E> {
 
     ghost length_fits_offset = { λ r. Prim.omega (arith, r.length_fits) };
 
-    ghost end_fits = { λ r. r.end_fits };
+    ghost end_fits = { λ r. Prim.omega (arith, r.within, r.end_fits) };
 }
 
 // The number of bytes before the first `byte`.

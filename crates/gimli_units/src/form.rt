@@ -2,7 +2,7 @@
 
 ghost use Rattle.std.specs.Prelude.{◌≡◌, ◌≤◌};
 ghost use Rattle.gimli_base.specs.Offset.{answer_of};
-ghost use Rattle.gimli_base.specs.Reading.{read, uint_offset_at};
+ghost use Rattle.gimli_base.specs.Reading.{read, address_at, uint_offset_at};
 ghost use Rattle.gimli_units.specs.Value.{map_value};
 ghost use Rattle.gimli_units.specs.Form.{is_section_name, uleb_offset_at, direct_at, form_at, value_at};
 
@@ -49,6 +49,22 @@ fn allow_section_offset(name: DwAt, version: u16) -> bool
     }
 }
 
+// The next address; where it is refused, the input is left anywhere. One of 8 bytes is read in place, and the others by a call
+// that gets a reader of its own, so that the caller's stays in registers.
+#[inline(always)]
+#[tactic(auto, unfolding(gimli_base::specs::Reading::address_at))]
+fn address<R: Reader>(input: &mut R, size: u8) -> Result<u64>
+    ensures { read result (R.view input.new) ≡ address_at size (R.view input.old) }
+{
+    if size == 8 {
+        return input.read_u64();
+    }
+    let mut rest = input.copy();
+    let address = rest.read_address(size)?;
+    *input = rest;
+    Ok(address)
+}
+
 // The next three bytes as an offset; where they are refused, the input is left anywhere.
 fn three_byte_offset<R: Reader>(input: &mut R) -> Result<R::Offset>
     ensures { read (answer_of R.Offset.number result) (R.view input.new) ≡ uint_offset_at R.Offset.limit 3 (R.view input.old) }
@@ -77,7 +93,7 @@ fn direct<R: Reader>(
     ensures { read (answer_of (map_value R.view R.Offset.number) result) (R.view input.new) ≡ direct_at R.Offset.limit encoding name.0 constant form.0 (R.view input.old) }
 {
     match form {
-        DW_FORM_addr => Ok(AttributeValue::Addr(input.read_address(encoding.address_size)?)),
+        DW_FORM_addr => Ok(AttributeValue::Addr(address(input, encoding.address_size)?)),
         DW_FORM_block1 => {
             let length = input.read_sized_offset(1)?;
             Ok(AttributeValue::Block(input.split(length)?))

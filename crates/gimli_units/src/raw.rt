@@ -197,12 +197,13 @@ impl<'abbrev, R: Reader, A: Allocator> EntriesRaw<'abbrev, R, A> {
             self.go_behind_null(rest);
             return Ok(false);
         };
+        let start = rest.copy();
         let specifications = abbreviation.attributes();
-        match parse_attributes(&mut rest, self.encoding, specifications, &mut entry.attrs) {
+        let has_children = abbreviation.has_children();
+        match self.read_behind(&start, has_children, specifications, &mut entry.attrs) {
             Ok(()) => {
                 entry.tag = abbreviation.tag();
                 entry.has_children = abbreviation.has_children();
-                self.go_behind_entry(rest, entry.has_children);
                 Ok(true)
             }
             Err(error) => {
@@ -210,6 +211,31 @@ impl<'abbrev, R: Reader, A: Allocator> EntriesRaw<'abbrev, R, A> {
                 Err(error)
             }
         }
+    }
+
+    // Reads the attributes of these specifications, which begin at `start`, into an empty list, and goes behind their entry;
+    // where they are refused, the list is left anywhere. They are read on a reader whose address no call gets, so that it
+    // stays in registers.
+    #[inline(never)]
+    fn read_behind(
+        &mut self,
+        start: &R,
+        has_children: bool,
+        specifications: &[AttributeSpecification],
+        attrs: &mut Vec<Attribute<R>, A>,
+    ) -> Result<()>
+        requires shorter { length (R.view start.now).bytes < length self.old.rest.bytes }
+        requires empty { attrs.old.items ≡ [] }
+        ensures value { UnlessMemory result (read (filled (map (map_attribute R.view R.Offset.number) attrs.new.items) result) self.new.rest ≡ attributes_at R.Offset.limit self.old.encoding specifications.now (R.view start.now)) }
+        ensures none { specifications.now ≡ [] → IsOk result }
+        ensures depth { OnOk result (self.new.depth ≡ below_flag has_children self.old.depth) }
+        ensures same { self.new ≡ record self.old { rest = self.new.rest; depth = self.new.depth } }
+        ensures kept { OnErr result (self.new ≡ self.old) }
+    {
+        let mut rest = start.copy();
+        parse_attributes(&mut rest, self.encoding, specifications, attrs)?;
+        self.go_behind_entry(rest, has_children);
+        Ok(())
     }
 
     /// Reads the attribute of a specification.
@@ -307,8 +333,9 @@ fn parse_abbreviation<'abbrev, R: Reader, A: Allocator>(
     Ok(Some(abbreviation))
 }
 
-// The attributes of these specifications, behind those in `attrs`; where they are refused, the input and the list are
-// left anywhere.
+// The attributes of these specifications, in an empty list; where they are refused, the input and the list are left
+// anywhere.
+#[inline(always)]
 fn parse_attributes<R: Reader, A: Allocator>(
     input: &mut R,
     encoding: Encoding,

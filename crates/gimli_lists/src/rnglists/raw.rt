@@ -144,7 +144,7 @@ impl RawRange {
     }
 
     /// The next pair; where it is refused, the input is left anywhere.
-    #[inline]
+    #[inline(always)]
     #[tactic(auto, unfolding(crate::specs::RawList::pair_at, gimli_base::specs::Reading::address_at))]
     pub(crate) fn parse<R: Reader>(input: &mut R, address_size: u8) -> Result<RawRange>
         ensures value { read (answer_of (λ p. (p.begin, p.end)) result) (R.view input.new) ≡ pair_at address_size (R.view input.old) }

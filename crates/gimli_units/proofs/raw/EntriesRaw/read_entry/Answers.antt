@@ -12,10 +12,10 @@ go_behind_null-requires g c =
     let left = ap (λ (p : RawPlace). length p.rest.bytes) c.self.view_is in
     omega (arith, shorter, same, left)
 
-pub go_behind_entry-requires : goal.go_behind_entry-requires
-go_behind_entry-requires g c =
+pub read_behind-requires-clause-shorter : goal.read_behind-requires-clause-shorter
+read_behind-requires-clause-shorter g c =
     let shorter = IsLater-length 1 _ _ (abbreviation_at-later _ _ _ _ c.in_ok-abbreviation.ensures) in
     let same = ap (λ (v : View). length v.bytes) c.copy-rest.ensures in
-    let later = IsLater-length 0 _ _ (attributes_at-later _ _ _ _ _ _ c.in-Ok.ensures.value) in
+    let again = ap (λ (v : View). length v.bytes) c.copy-start.ensures in
     let left = ap (λ (p : RawPlace). length p.rest.bytes) c.self.view_is in
-    omega (arith, shorter, same, left, later)
+    omega (arith, shorter, same, again, left)
