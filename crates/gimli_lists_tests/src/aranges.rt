@@ -59,16 +59,61 @@ fn tries_entries<R: Reader>(
     let mut by_call = entries.copy();
     let mut by_iterator = entries.copy();
     for answer in wanted {
-        let found = by_call.next();
-        let item = next_of(&mut by_iterator).expect(rt, "no item");
-        assert_eq!(rt; item, found.map(|entry| entry.expect(rt, "no entry")));
-        assert_eq!(rt; item.map(|entry| numbers(rt, &entry)), *answer);
+        tries_entry(rt, &mut by_call, &mut by_iterator, *answer);
     }
     for _ in 0..3u8 {
-        assert_eq!(rt; by_call.next(), Ok(None));
+        tries_no_entry(rt, &mut by_call);
         assert!(rt; next_of(&mut by_iterator).is_none());
-        assert_eq!(rt; by_call.next_raw(), Ok(None));
     }
+}
+
+// Tries the next range, by the call and by the iterator.
+fn tries_entry<R: Reader>(
+    rt: &impl Abort,
+    by_call: &mut ArangeEntryIter<R>,
+    by_iterator: &mut ArangeEntryIter<R>,
+    wanted: Result<Numbers>,
+) {
+    let found = by_call.next();
+    let item = next_of(by_iterator).expect(rt, "no item");
+    assert_eq!(rt; item, found.map(|entry| entry.expect(rt, "no entry")));
+    assert_eq!(rt; item.map(|entry| numbers(rt, &entry)), wanted);
+}
+
+// Tries that no entry is left.
+fn tries_no_entry<R: Reader>(rt: &impl Abort, entries: &mut ArangeEntryIter<R>) {
+    assert_eq!(rt; entries.next(), Ok(None));
+    assert_eq!(rt; entries.next_raw(), Ok(None));
+}
+
+// The next raw entry. It is asked for in a function of its own, as what follows is, since a proof carries what is known of
+// each call in the function: so a test that makes many calls is proved sooner.
+fn raw_entry_of<R: Reader>(rt: &impl Abort, entries: &mut ArangeEntryIter<R>) -> ArangeEntry {
+    let found = entries.next_raw().expect(rt, "refused");
+    found.expect(rt, "no raw entry")
+}
+
+// The next range.
+fn entry_of<R: Reader>(rt: &impl Abort, entries: &mut ArangeEntryIter<R>) -> ArangeEntry {
+    let found = entries.next().expect(rt, "refused");
+    found.expect(rt, "no range")
+}
+
+// The next set.
+fn header_of<R: Reader>(rt: &impl Abort, headers: &mut ArangeHeaderIter<R>) -> ArangeHeader<R> {
+    let found = headers.next().expect(rt, "refused");
+    found.expect(rt, "no set")
+}
+
+// The next set, by the iterator.
+fn item_of<R: Reader>(rt: &impl Abort, headers: &mut ArangeHeaderIter<R>) -> ArangeHeader<R> {
+    let item = next_of(headers).expect(rt, "no set");
+    item.expect(rt, "refused")
+}
+
+// The set at an offset.
+fn header_at<R: Reader>(section: &DebugAranges<R>, offset: u64) -> Result<ArangeHeader<R>> {
+    section.header(DebugArangesOffset(R::Offset::from_u64(offset)?))
 }
 
 // Tries the raw entries that are left: where each begins, and its length; and then none.
@@ -79,13 +124,11 @@ fn tries_raw_entries<R: Reader>(
 ) {
     let mut entries = entries.copy();
     for (begin, length) in wanted {
-        let found = entries.next_raw().expect(rt, "refused");
-        let entry = found.expect(rt, "no raw entry");
+        let entry = raw_entry_of(rt, &mut entries);
         assert_eq!(rt; numbers(rt, &entry), (*begin, 0, *length));
     }
     for _ in 0..3u8 {
-        assert_eq!(rt; entries.next_raw(), Ok(None));
-        assert_eq!(rt; entries.next(), Ok(None));
+        tries_no_entry(rt, &mut entries);
     }
 }
 
@@ -100,30 +143,60 @@ fn tries_end<R: Reader + PartialEq>(rt: &impl Abort, mut headers: ArangeHeaderIt
 // The only set of a section, by the call, by the iterator, and by its offset.
 fn only_set<R: Reader + PartialEq>(rt: &impl Abort, reader: R) -> ArangeHeader<R> {
     let section = DebugAranges::from(reader);
-    let mut headers = section.headers();
-    let header = headers.next().expect(rt, "refused").expect(rt, "no set");
+    let header = only_by_call(rt, section.headers());
+    assert_eq!(rt; only_by_iterator(rt, section.headers()), header);
+    let found = header_at(&section, 0);
+    assert_eq!(rt; found.expect(rt, "refused"), header);
+    header
+}
+
+// The only set that is left, by the call.
+fn only_by_call<R: Reader + PartialEq>(
+    rt: &impl Abort,
+    mut headers: ArangeHeaderIter<R>,
+) -> ArangeHeader<R> {
+    let header = header_of(rt, &mut headers);
     tries_end(rt, headers);
-    let mut headers = section.headers();
-    let item = next_of(&mut headers).expect(rt, "no set");
-    assert_eq!(rt; item.expect(rt, "refused"), header);
+    header
+}
+
+// The only set that is left, by the iterator.
+fn only_by_iterator<R: Reader + PartialEq>(
+    rt: &impl Abort,
+    mut headers: ArangeHeaderIter<R>,
+) -> ArangeHeader<R> {
+    let header = item_of(rt, &mut headers);
     tries_end(rt, headers);
-    let begin = DebugArangesOffset(R::Offset::from_u8(0));
-    assert_eq!(rt; section.header(begin).expect(rt, "refused"), header);
     header
 }
 
 // Tries a section whose first set is refused, by the call, by the iterator, and by its offset; no set comes then.
 fn tries_refused<R: Reader + PartialEq>(rt: &impl Abort, reader: R, wanted: Error) {
     let section = DebugAranges::from(reader);
-    let mut headers = section.headers();
+    refuses_by_call(rt, section.headers(), wanted);
+    refuses_by_iterator(rt, section.headers(), wanted);
+    assert_eq!(rt; header_at(&section, 0).err(), Some(wanted));
+}
+
+// Tries that the next set is refused, and that no set comes then.
+fn refuses_by_call<R: Reader + PartialEq>(
+    rt: &impl Abort,
+    mut headers: ArangeHeaderIter<R>,
+    wanted: Error,
+) {
     assert_eq!(rt; headers.next().err(), Some(wanted));
     tries_end(rt, headers);
-    let mut headers = section.headers();
+}
+
+// The same by the iterator.
+fn refuses_by_iterator<R: Reader + PartialEq>(
+    rt: &impl Abort,
+    mut headers: ArangeHeaderIter<R>,
+    wanted: Error,
+) {
     let item = next_of(&mut headers).expect(rt, "no item");
     assert_eq!(rt; item.err(), Some(wanted));
     tries_end(rt, headers);
-    let begin = DebugArangesOffset(R::Offset::from_u8(0));
-    assert_eq!(rt; section.header(begin).err(), Some(wanted));
 }
 
 // Adds a number of `size` bytes, the lowest first, or the highest where `big`.

@@ -97,16 +97,31 @@ pub(crate) fn tries_answers<R: Reader>(
 ) {
     let mut locations = locations.expect(rt, "the list begins behind the end of its section");
     for (index, answer) in wanted.iter().enumerate() {
-        match (locations.next(), answer) {
-            (Ok(Some(found)), Ok(wanted)) => {
-                assert_eq!(rt; found.range, wanted.range, "at {index}");
-                assert!(rt; says(&found.expr, wanted.bytes), "at {index}");
-            }
-            (Err(error), Err(wanted)) => assert_eq!(rt; error, *wanted, "at {index}"),
-            _ => assert!(rt; false, "at {index}"),
-        }
+        tries_answer(rt, &mut locations, *answer, index);
     }
-    assert!(rt; matches!(locations.next(), Ok(None)));
+    tries_none(rt, &mut locations);
+    tries_none(rt, &mut locations);
+}
+
+// Tries the next answer of a list.
+fn tries_answer<R: Reader>(
+    rt: &impl Abort,
+    locations: &mut LocListIter<R>,
+    wanted: Result<Wanted>,
+    index: usize,
+) {
+    match (locations.next(), wanted) {
+        (Ok(Some(found)), Ok(wanted)) => {
+            assert_eq!(rt; found.range, wanted.range, "at {index}");
+            assert!(rt; says(&found.expr, wanted.bytes), "at {index}");
+        }
+        (Err(error), Err(wanted)) => assert_eq!(rt; error, wanted, "at {index}"),
+        _ => assert!(rt; false, "at {index}"),
+    }
+}
+
+// Tries that no location comes.
+fn tries_none<R: Reader>(rt: &impl Abort, locations: &mut LocListIter<R>) {
     assert!(rt; matches!(locations.next(), Ok(None)));
 }
 

@@ -1,7 +1,9 @@
-use super::{Shown, encoding, numbers, set_of, tries_end, tries_entries, tries_header};
+use super::{
+    Shown, encoding, entry_of, header_of, numbers, set_of, tries_end, tries_entries, tries_header,
+};
 use crate::samples::{FIRST_PLACE, has_bytes, part, whole};
 use gimli_base::{Format, LittleEndian, Reader, RunTimeEndian, Section};
-use gimli_lists::DebugAranges;
+use gimli_lists::{ArangeEntryIter, ArangeHeaderIter, DebugAranges};
 use std::process::Abort;
 use std::test::Fail;
 
@@ -13,31 +15,43 @@ fn tries_copies<R: Reader + PartialEq>(rt: &impl Abort, reader: R, bytes: &[u8])
     assert!(rt; has_bytes(source.reader(), bytes, FIRST_PLACE));
     let mut headers = section.headers();
     for offset in [0, 0x20] {
-        let mut copied = headers.copy();
-        let found = copied.next().expect(rt, "refused").expect(rt, "no set");
-        // the step of the copy left the source
-        let header = headers.next().expect(rt, "refused").expect(rt, "no set");
-        assert_eq!(rt; header.copy(), found);
-        assert_eq!(rt; header, found);
-        let shown = Shown {
-            offset,
-            length: 0x1c,
-            info: 0x0403_0201,
-            encoding: encoding(Format::Dwarf32, 4),
-        };
-        tries_header(rt, &header.copy(), shown);
-        let mut entries = header.copy().entries();
-        let first = entries.copy().next().expect(rt, "refused");
-        let entry = entries.next().expect(rt, "refused");
-        assert_eq!(rt; first, entry);
-        let entry = entry.expect(rt, "no entry");
-        assert_eq!(rt; entry.copy(), entry);
-        assert_eq!(rt; numbers(rt, &entry.copy()), (1, 3, 2));
-        tries_entries(rt, &entries, &[Ok((3, 7, 4))]);
-        assert_eq!(rt; headers.copy().next(), copied.next());
+        tries_copied_header(rt, &mut headers, offset);
     }
     tries_end(rt, headers.copy());
     tries_end(rt, headers);
+}
+
+// Tries copies of the next header, which has an offset, and that a copy of the iterator goes on as it does.
+fn tries_copied_header<R: Reader + PartialEq>(
+    rt: &impl Abort,
+    headers: &mut ArangeHeaderIter<R>,
+    offset: u64,
+) {
+    let mut copied = headers.copy();
+    let found = header_of(rt, &mut copied);
+    // the step of the copy left the source
+    let header = header_of(rt, headers);
+    assert_eq!(rt; header.copy(), found);
+    assert_eq!(rt; header, found);
+    let shown = Shown {
+        offset,
+        length: 0x1c,
+        info: 0x0403_0201,
+        encoding: encoding(Format::Dwarf32, 4),
+    };
+    tries_header(rt, &header.copy(), shown);
+    tries_copied_entries(rt, header.copy().entries());
+    assert_eq!(rt; headers.copy().next(), copied.next());
+}
+
+// Tries copies of two ranges, and of the first of them.
+fn tries_copied_entries<R: Reader>(rt: &impl Abort, mut entries: ArangeEntryIter<R>) {
+    let first = entry_of(rt, &mut entries.copy());
+    let entry = entry_of(rt, &mut entries);
+    assert_eq!(rt; first, entry);
+    assert_eq!(rt; entry.copy(), entry);
+    assert_eq!(rt; numbers(rt, &entry.copy()), (1, 3, 2));
+    tries_entries(rt, &entries, &[Ok((3, 7, 4))]);
 }
 
 #[test]

@@ -1,7 +1,7 @@
-use super::{only_set, set_of, tries_entries, tries_raw_entries};
+use super::{Numbers, entry_of, only_set, raw_entry_of, set_of, tries_entries, tries_raw_entries};
 use crate::samples::{part, whole, with_byte};
 use gimli_base::{BigEndian, Error, LittleEndian, Reader, Result};
-use gimli_lists::{ArangeEntryIter, Range};
+use gimli_lists::{ArangeEntry, ArangeEntryIter, Range};
 use std::alloc::{AllocError, Global};
 use std::process::Abort;
 use std::test::Fail;
@@ -24,21 +24,15 @@ const RANGE: (u64, u64, u64) = (0x0403_0201, 0x0c0a_0806, 0x0807_0605);
 #[test]
 fn refuses_a_sum_and_ends(rt: HostRuntime) {
     let wanted = [Err(Error::AddressOverflow)];
-    let header = only_set(&rt, part(&OVERFLOW, LittleEndian));
-    tries_entries(&rt, &header.entries(), &wanted);
-    let header = only_set(&rt, whole(&rt, &OVERFLOW, LittleEndian));
-    tries_entries(&rt, &header.entries(), &wanted);
+    tries_set(&rt, false, &OVERFLOW, &wanted);
 }
 
 #[test]
 fn passes_a_tombstone(rt: HostRuntime) {
     let raw = [(0xffff_ffff, 0x0807_0605), (0x0403_0201, 0x0807_0605)];
-    let header = only_set(&rt, part(&TOMBSTONE, LittleEndian));
-    tries_raw_entries(&rt, &header.entries(), &raw);
-    tries_entries(&rt, &header.entries(), &[Ok(RANGE)]);
-    let header = only_set(&rt, whole(&rt, &TOMBSTONE, LittleEndian));
-    tries_raw_entries(&rt, &header.entries(), &raw);
-    tries_entries(&rt, &header.entries(), &[Ok(RANGE)]);
+    tries_only_raw(&rt, part(&TOMBSTONE, LittleEndian), &raw);
+    tries_only_raw(&rt, whole(&rt, &TOMBSTONE, LittleEndian), &raw);
+    tries_set(&rt, false, &TOMBSTONE, &[Ok(RANGE)]);
 }
 
 #[test]
@@ -48,26 +42,31 @@ fn passes_two_zeros(rt: HostRuntime) {
         bytes = with_byte(bytes, index, 0);
     }
     let raw = [(0x0403_0201, 0x0807_0605)];
-    let header = only_set(&rt, part(&bytes, LittleEndian));
-    tries_raw_entries(&rt, &header.entries(), &raw);
-    tries_entries(&rt, &header.entries(), &[Ok(RANGE)]);
-    let header = only_set(&rt, whole(&rt, &bytes, LittleEndian));
-    tries_raw_entries(&rt, &header.entries(), &raw);
-    tries_entries(&rt, &header.entries(), &[Ok(RANGE)]);
+    tries_only_raw(&rt, part(&bytes, LittleEndian), &raw);
+    tries_only_raw(&rt, whole(&rt, &bytes, LittleEndian), &raw);
+    tries_set(&rt, false, &bytes, &[Ok(RANGE)]);
+}
+
+// Tries the ranges of the only set.
+fn tries_only<R: Reader + PartialEq>(rt: &impl Abort, reader: R, wanted: &[Result<Numbers>]) {
+    let header = only_set(rt, reader);
+    tries_entries(rt, &header.entries(), wanted);
+}
+
+// Tries the raw entries of the only set.
+fn tries_only_raw<R: Reader + PartialEq>(rt: &impl Abort, reader: R, wanted: &[(u64, u64)]) {
+    let header = only_set(rt, reader);
+    tries_raw_entries(rt, &header.entries(), wanted);
 }
 
 // Tries the ranges of the set in these bytes, by both readers.
-fn tries_set(rt: &impl Abort, big: bool, bytes: &[u8], wanted: &[Result<(u64, u64, u64)>]) {
+fn tries_set(rt: &impl Abort, big: bool, bytes: &[u8], wanted: &[Result<Numbers>]) {
     if big {
-        let header = only_set(rt, part(bytes, BigEndian));
-        tries_entries(rt, &header.entries(), wanted);
-        let header = only_set(rt, whole(rt, bytes, BigEndian));
-        tries_entries(rt, &header.entries(), wanted);
+        tries_only(rt, part(bytes, BigEndian), wanted);
+        tries_only(rt, whole(rt, bytes, BigEndian), wanted);
     } else {
-        let header = only_set(rt, part(bytes, LittleEndian));
-        tries_entries(rt, &header.entries(), wanted);
-        let header = only_set(rt, whole(rt, bytes, LittleEndian));
-        tries_entries(rt, &header.entries(), wanted);
+        tries_only(rt, part(bytes, LittleEndian), wanted);
+        tries_only(rt, whole(rt, bytes, LittleEndian), wanted);
     }
 }
 
@@ -137,30 +136,43 @@ fn adds_addresses_of_each_size(rt: HostRuntime) -> std::result::Result<(), Fail>
 
 // Tries raw entries and ranges in turn: each call goes on where the other stopped.
 fn tries_turns<R: Reader>(rt: &impl Abort, mut entries: ArangeEntryIter<R>) {
-    let raw = entries.next_raw().expect(rt, "refused");
-    let raw = raw.expect(rt, "no raw entry");
-    assert_eq!(rt; raw.range(), Range { begin: 1, end: 0 });
-    let found = entries.next().expect(rt, "refused");
-    let found = found.expect(rt, "no range");
-    assert_eq!(rt; found.range(), Range { begin: 3, end: 7 });
-    let second = entries.next_raw().expect(rt, "refused");
-    let second = second.expect(rt, "no raw entry");
+    let raw = raw_entry_of(rt, &mut entries);
+    tries_range(rt, &raw, 1, 0);
+    let found = entry_of(rt, &mut entries);
+    tries_range(rt, &found, 3, 7);
+    let second = raw_entry_of(rt, &mut entries);
     assert_eq!(rt; (second.address(), second.length()), (0xfe, 1));
-    let third = entries.next_raw().expect(rt, "refused");
-    let third = third.expect(rt, "no raw entry");
+    let third = raw_entry_of(rt, &mut entries);
     // what a raw entry stands for does not depend on the place
-    let converted = entries.convert_raw(raw).expect(rt, "refused");
-    let converted = converted.expect(rt, "no range");
-    assert_eq!(rt; converted.range(), Range { begin: 1, end: 3 });
-    assert_eq!(rt; converted.length(), 2);
-    assert_eq!(rt; entries.convert_raw(second), Ok(None));
-    assert_eq!(rt; entries.convert_raw(third), Err(Error::AddressOverflow));
+    tries_converted(rt, &entries, raw);
+    assert_eq!(rt; convert(&entries, second), Ok(None));
+    assert_eq!(rt; convert(&entries, third), Err(Error::AddressOverflow));
     // and leaves the place: a range whose end is given is converted again
-    assert_eq!(rt; entries.convert_raw(found.copy()), Ok(Some(found)));
-    let last = entries.next().expect(rt, "refused");
-    let last = last.expect(rt, "no range");
-    assert_eq!(rt; last.range(), Range { begin: 9, end: 10 });
+    assert_eq!(rt; convert(&entries, found.copy()), Ok(Some(found)));
+    let last = entry_of(rt, &mut entries);
+    tries_range(rt, &last, 9, 10);
     assert_eq!(rt; entries.next_raw(), Ok(None));
+}
+
+// Tries the range of an entry.
+fn tries_range(rt: &impl Abort, entry: &ArangeEntry, begin: u64, end: u64) {
+    assert_eq!(rt; entry.range(), Range { begin, end });
+}
+
+// What a raw entry stands for.
+fn convert<R: Reader>(
+    entries: &ArangeEntryIter<R>,
+    raw: ArangeEntry,
+) -> Result<Option<ArangeEntry>> {
+    entries.convert_raw(raw)
+}
+
+// Tries that a raw entry stands for two bytes from 1 on.
+fn tries_converted<R: Reader>(rt: &impl Abort, entries: &ArangeEntryIter<R>, raw: ArangeEntry) {
+    let converted = convert(entries, raw).expect(rt, "refused");
+    let converted = converted.expect(rt, "no range");
+    tries_range(rt, &converted, 1, 3);
+    assert_eq!(rt; converted.length(), 2);
 }
 
 #[test]
@@ -187,26 +199,38 @@ fn passes_many_zeros(rt: HostRuntime) -> std::result::Result<(), Fail> {
     Ok(())
 }
 
+// Tries the order of four ranges, of which the last two are equal.
+fn tries_order<R: Reader>(rt: &impl Abort, mut entries: ArangeEntryIter<R>) {
+    let first = entry_of(rt, &mut entries);
+    let second = entry_of(rt, &mut entries);
+    let third = entry_of(rt, &mut entries);
+    let fourth = entry_of(rt, &mut entries);
+    assert!(rt; first < second && second < third && first < third);
+    assert!(rt; third == fourth && third <= fourth && third >= fourth);
+    assert!(rt; first != second && second != third);
+}
+
+// Tries the order of raw entries, which have the end 0, so that their lengths alone tell them apart; and of a range.
+fn tries_raw_order<R: Reader>(
+    rt: &impl Abort,
+    mut raw: ArangeEntryIter<R>,
+    mut entries: ArangeEntryIter<R>,
+) {
+    let low = raw_entry_of(rt, &mut raw);
+    let high = raw_entry_of(rt, &mut raw);
+    assert!(rt; low < high && low != high && low.range() == high.range());
+    assert!(rt; low < entry_of(rt, &mut entries));
+}
+
 // Entries are ordered by where they begin, then by where they end, and then by their lengths.
 #[test]
 fn are_ordered_by_their_fields(rt: HostRuntime) -> std::result::Result<(), Fail> {
     let tuples = [(1, 2), (1, 3), (2, 1), (2, 1)];
     let bytes = set_of(rt.alloc(), false, 4, &tuples, &[])?;
     let header = only_set(&rt, part(&bytes, LittleEndian));
-    let mut entries = header.entries();
-    let first = entries.next()?.ok_or("no entry")?;
-    let second = entries.next()?.ok_or("no entry")?;
-    let third = entries.next()?.ok_or("no entry")?;
-    let fourth = entries.next()?.ok_or("no entry")?;
-    assert!(rt; first < second && second < third && first < third);
-    assert!(rt; third == fourth && third <= fourth && third >= fourth);
-    assert!(rt; first != second && second != third);
-    // raw entries have the end 0, so that their lengths alone tell them apart
-    let mut entries = header.entries();
-    let low = entries.next_raw()?.ok_or("no entry")?;
-    let high = entries.next_raw()?.ok_or("no entry")?;
-    assert!(rt; low < high && low != high && low.range() == high.range());
-    assert!(rt; low < first);
+    tries_order(&rt, header.entries());
+    tries_raw_order(&rt, header.entries(), header.entries());
+    let first = entry_of(&rt, &mut header.entries());
     let text = format!(in rt.alloc(); "{first:?}")?;
     assert_eq!(rt;
         text.as_str(),

@@ -1,9 +1,9 @@
-use super::{Shown, encoding, only_set, tries_end, tries_header, tries_raw_entries};
-use crate::samples::{next_of, part, whole, with_byte};
-use gimli_base::{
-    BigEndian, DebugArangesOffset, Encoding, Endianity, Format, LittleEndian, Reader, ReaderOffset,
-    RunTimeEndian,
+use super::{
+    Shown, encoding, header_at, header_of, item_of, only_set, raw_entry_of, tries_end,
+    tries_header, tries_raw_entries,
 };
+use crate::samples::{part, whole, with_byte};
+use gimli_base::{BigEndian, Encoding, Endianity, Format, LittleEndian, Reader, RunTimeEndian};
 use gimli_lists::DebugAranges;
 use std::process::Abort;
 
@@ -50,13 +50,11 @@ fn tries_sets<R: Reader + PartialEq>(rt: &impl Abort, reader: R) {
     let mut headers = section.headers();
     let mut items = section.headers();
     for (shown, raw) in [(FIRST, (0x1000, 0x20)), (SECOND, (0x2000, 0x30))] {
-        let header = headers.next().expect(rt, "refused").expect(rt, "no set");
+        let header = header_of(rt, &mut headers);
         tries_header(rt, &header, shown);
         tries_raw_entries(rt, &header.entries(), &[raw]);
-        let item = next_of(&mut items).expect(rt, "no set");
-        assert_eq!(rt; item.expect(rt, "refused"), header);
-        let offset = R::Offset::from_u64(shown.offset).expect(rt, "too high");
-        let found = section.header(DebugArangesOffset(offset));
+        assert_eq!(rt; item_of(rt, &mut items), header);
+        let found = header_at(&section, shown.offset);
         assert_eq!(rt; found.expect(rt, "refused"), header);
     }
     tries_end(rt, headers);
@@ -83,6 +81,14 @@ const SET_64: [u8; 48] = [
     0x09, 0x0a, 0x0b, 0x0c, 0x0d, 0x0e, 0x0f, 0x10, 0x11, 0x12, 0x13, 0x14, 0x15, 0x16, 0x17, 0x18,
 ];
 
+// Tries the first tuple of the only set.
+fn tries_tuple<R: Reader + PartialEq>(rt: &impl Abort, reader: R, shown: Shown, tuple: (u64, u64)) {
+    let header = only_set(rt, reader);
+    tries_header(rt, &header, shown);
+    let entry = raw_entry_of(rt, &mut header.entries());
+    assert_eq!(rt; (entry.address(), entry.length()), tuple);
+}
+
 // Tries the first tuple of a set, which tells how many bytes of padding lie before it.
 fn tries_first_tuple<E: Endianity>(
     rt: &impl Abort,
@@ -91,18 +97,8 @@ fn tries_first_tuple<E: Endianity>(
     shown: Shown,
     tuple: (u64, u64),
 ) {
-    let header = only_set(rt, part(bytes, endian));
-    tries_header(rt, &header, shown);
-    let mut entries = header.entries();
-    let entry = entries.next_raw().expect(rt, "refused");
-    let entry = entry.expect(rt, "no tuple");
-    assert_eq!(rt; (entry.address(), entry.length()), tuple);
-    let header = only_set(rt, whole(rt, bytes, endian));
-    tries_header(rt, &header, shown);
-    let mut entries = header.entries();
-    let entry = entries.next_raw().expect(rt, "refused");
-    let entry = entry.expect(rt, "no tuple");
-    assert_eq!(rt; (entry.address(), entry.length()), tuple);
+    tries_tuple(rt, part(bytes, endian), shown, tuple);
+    tries_tuple(rt, whole(rt, bytes, endian), shown, tuple);
 }
 
 #[test]

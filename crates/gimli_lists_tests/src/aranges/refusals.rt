@@ -1,4 +1,4 @@
-use super::{only_set, tries_end, tries_refused};
+use super::{header_at, only_set, refuses_by_call, refuses_by_iterator, tries_refused};
 use crate::samples::{end_at, next_of, part, whole, with_byte};
 use gimli_base::{DebugArangesOffset, Error, LittleEndian, Reader, ReaderOffset};
 use gimli_lists::DebugAranges;
@@ -113,18 +113,15 @@ fn refuses_numbers_of_more_than_32_bits(rt: HostRuntime) {
 // Tries a set, behind it one that is refused, and behind that another.
 fn tries_refused_second<R: Reader + PartialEq>(rt: &impl Abort, reader: R) {
     let section = DebugAranges::from(reader);
+    let wanted = Error::UnknownVersion(9);
     let mut headers = section.headers();
     assert!(rt; headers.next().is_ok());
-    assert_eq!(rt; headers.next().err(), Some(Error::UnknownVersion(9)));
-    tries_end(rt, headers);
+    refuses_by_call(rt, headers, wanted);
     let mut headers = section.headers();
     assert!(rt; next_of(&mut headers).is_some());
-    let item = next_of(&mut headers).expect(rt, "no item");
-    assert_eq!(rt; item.err(), Some(Error::UnknownVersion(9)));
-    tries_end(rt, headers);
+    refuses_by_iterator(rt, headers, wanted);
     // the set behind it is found by its offset
-    let third = DebugArangesOffset(R::Offset::from_u8(48));
-    let header = section.header(third).expect(rt, "refused");
+    let header = header_at(&section, 48).expect(rt, "refused");
     assert_eq!(rt; header.offset().0.into_u64(), 48);
 }
 

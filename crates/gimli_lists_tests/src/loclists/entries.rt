@@ -4,7 +4,7 @@ use gimli_base::{
     BigEndian, DebugAddr, DebugAddrIndex, Encoding, LittleEndian, LocationListsOffset, Reader,
     ReaderOffset,
 };
-use gimli_lists::{LocationLists, Range, RawLocListEntry};
+use gimli_lists::{LocListIter, LocationLists, Range, RawLocListEntry, RawLocListIter};
 use std::process::Abort;
 
 // The kind of an entry, its operands, and whether its expression has these bytes.
@@ -187,52 +187,74 @@ fn tries_conversion<R: Reader>(rt: &impl Abort, old: R, new: R, addr: R) {
     let table = DebugAddr::from(addr);
     let start = starts_with(encoding(4, 4), 0x0100_0000);
     let mut locations = locations_from(rt, &of_both, start, &table, 0).expect(rt, "no list");
-    let first = locations
-        .next_raw()
-        .expect(rt, "refused")
-        .expect(rt, "no entry");
+    tries_conversions(rt, &mut locations);
+    let wanted = [location(0x0201_0400, 0x0201_0500, &[0x31])];
+    tries_answers(rt, Ok(locations), &wanted);
+    let locations = locations_from(rt, &of_both, start, &table, 0);
+    tries_sum(rt, locations.expect(rt, "no list"));
+    let begin = LocationListsOffset(R::Offset::from_u8(0));
+    let entries = of_both.raw_locations(begin, start.encoding);
+    tries_three(rt, entries.expect(rt, "no list"));
+}
+
+// The next entry as it is written. It is asked for in a function of its own, since a proof carries what is known of each
+// call in the function: so a test that makes many calls is proved sooner.
+fn raw_of<R: Reader>(rt: &impl Abort, locations: &mut LocListIter<R>) -> RawLocListEntry<R> {
+    let found = locations.next_raw().expect(rt, "refused");
+    found.expect(rt, "no entry")
+}
+
+// Tries the location of an entry, whose expression is the byte 30.
+fn tries_range<R: Reader>(
+    rt: &impl Abort,
+    locations: &mut LocListIter<R>,
+    raw: RawLocListEntry<R>,
+    range: Range,
+) {
+    let found = locations.convert_raw(raw).expect(rt, "refused");
+    assert_eq!(rt;
+        found.map(|l| (l.range, says(&l.expr, &[0x30]))),
+        Some((range, true))
+    );
+}
+
+// Tries the two calls by turns, before a new base address and behind it.
+fn tries_conversions<R: Reader>(rt: &impl Abort, locations: &mut LocListIter<R>) {
+    let first = raw_of(rt, locations);
     let again = first.copy();
-    let found = locations.convert_raw(first).expect(rt, "refused");
     let wanted = Range {
         begin: 0x0101_0200,
         end: 0x0101_0300,
     };
-    assert_eq!(rt;
-        found.map(|l| (l.range, says(&l.expr, &[0x30]))),
-        Some((wanted, true))
-    );
-    let base = locations
-        .next_raw()
-        .expect(rt, "refused")
-        .expect(rt, "no entry");
+    tries_range(rt, locations, first, wanted);
+    let base = raw_of(rt, locations);
     assert!(rt; matches!(locations.convert_raw(base), Ok(None)));
     // the entry counts from the new base
-    let found = locations.convert_raw(again).expect(rt, "refused");
     let wanted = Range {
         begin: 0x0201_0200,
         end: 0x0201_0300,
     };
-    assert_eq!(rt;
-        found.map(|l| (l.range, says(&l.expr, &[0x30]))),
-        Some((wanted, true))
-    );
+    tries_range(rt, locations, again, wanted);
     let missing = RawLocListEntry::BaseAddressx {
         addr: DebugAddrIndex(R::Offset::from_u8(0)),
     };
     assert_eq!(rt; locations.convert_raw(missing).err(), Some(end_at(0)));
-    let wanted = [location(0x0201_0400, 0x0201_0500, &[0x31])];
-    tries_answers(rt, Ok(locations), &wanted);
+}
+
+// Tries the items of the iterator of locations.
+fn tries_sum<R: Reader>(rt: &impl Abort, locations: LocListIter<R>) {
     let mut sum = 0_u64;
-    for item in locations_from(rt, &of_both, start, &table, 0).expect(rt, "no list") {
+    for item in locations {
         match item {
             Ok(found) => sum = sum.wrapping_add(found.range.begin),
             Err(_) => assert!(rt; false, "refused"),
         }
     }
     assert_eq!(rt; sum, 0x0302_0600);
-    let begin = LocationListsOffset(R::Offset::from_u8(0));
-    let entries = of_both.raw_locations(begin, start.encoding);
-    let mut entries = entries.expect(rt, "no list");
+}
+
+// Tries the items of the iterator of entries as they are written.
+fn tries_three<R: Reader>(rt: &impl Abort, mut entries: RawLocListIter<R>) {
     for _ in 0..3_u8 {
         assert!(rt; matches!(next_of(&mut entries), Some(Ok(_))));
     }

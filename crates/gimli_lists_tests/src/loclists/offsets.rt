@@ -27,25 +27,34 @@ fn offset_of<R: Reader>(
     Ok(offset.0.into_u64())
 }
 
+// Tries the offset of the list at an index of the table at a base.
+fn tries_offset<R: Reader>(
+    rt: &impl Abort,
+    lists: &LocationLists<R>,
+    (format, base, index): (Format, u64, u64),
+    wanted: Result<u64>,
+) {
+    let found = offset_of(lists, format, base, index);
+    assert_eq!(rt; found, wanted, "{index} at {base}");
+}
+
 // Tries the table of 20 offsets from 1000 on behind a header.
 fn tries_table<R: Reader>(rt: &impl Abort, reader: R, format: Format, base: u64) {
     let none = reader.copy();
     let of_both = lists(none, reader);
     for index in 0..20_u64 {
         let wanted = base.wrapping_add(1000).wrapping_add(index);
-        assert_eq!(rt;
-            offset_of(&of_both, format, base, index),
-            Ok(wanted),
-            "{index}"
-        );
+        tries_offset(rt, &of_both, (format, base, index), Ok(wanted));
     }
     let word = if format == Format::Dwarf32 { 4 } else { 8 };
     let end = base.wrapping_add(20 * word);
-    assert_eq!(rt; offset_of(&of_both, format, base, 20), Err(end_at(end)));
-    assert_eq!(rt; offset_of(&of_both, format, base, 21), Err(end_at(base)));
-    assert_eq!(rt;
-        offset_of(&of_both, format, end.wrapping_add(1), 0),
-        Err(end_at(0))
+    tries_offset(rt, &of_both, (format, base, 20), Err(end_at(end)));
+    tries_offset(rt, &of_both, (format, base, 21), Err(end_at(base)));
+    tries_offset(
+        rt,
+        &of_both,
+        (format, end.wrapping_add(1), 0),
+        Err(end_at(0)),
     );
 }
 
@@ -86,32 +95,28 @@ fn offsets_that_do_not_fit_are_refused(rt: HostRuntime) {
     ];
     let unfit = Err(Error::UnsupportedOffset);
     let of_parts = lists(part(b"", LittleEndian), part(&bytes, LittleEndian));
-    assert_eq!(rt; offset_of(&of_parts, Format::Dwarf64, 8, 0), unfit);
+    tries_offset(&rt, &of_parts, (Format::Dwarf64, 8, 0), unfit);
     // without a base the offset fits 64 bits
-    assert_eq!(rt; offset_of(&of_parts, Format::Dwarf64, 0, 1), Ok(u64::MAX));
+    tries_offset(&rt, &of_parts, (Format::Dwarf64, 0, 1), Ok(u64::MAX));
     // four times the index needs 65 bits
-    assert_eq!(rt; offset_of(&of_parts, Format::Dwarf32, 0, 1 << 62), unfit);
-    assert_eq!(rt;
-        offset_of(&of_parts, Format::Dwarf32, 0, 1 << 61),
-        Err(end_at(0))
+    tries_offset(&rt, &of_parts, (Format::Dwarf32, 0, 1 << 62), unfit);
+    tries_offset(
+        &rt,
+        &of_parts,
+        (Format::Dwarf32, 0, 1 << 61),
+        Err(end_at(0)),
     );
     let of_wholes = lists(
         whole(&rt, b"", LittleEndian),
         whole(&rt, &bytes, LittleEndian),
     );
-    assert_eq!(rt; offset_of(&of_wholes, Format::Dwarf64, 8, 0), unfit);
-    assert_eq!(rt; offset_of(&of_wholes, Format::Dwarf64, 0, 1), unfit);
+    tries_offset(&rt, &of_wholes, (Format::Dwarf64, 8, 0), unfit);
+    tries_offset(&rt, &of_wholes, (Format::Dwarf64, 0, 1), unfit);
     // the sum of the base and the offset needs 33 bits
-    assert_eq!(rt; offset_of(&of_wholes, Format::Dwarf32, 8, 0), unfit);
-    assert_eq!(rt;
-        offset_of(&of_wholes, Format::Dwarf32, 0, 2),
-        Ok(0xffff_ffff)
-    );
+    tries_offset(&rt, &of_wholes, (Format::Dwarf32, 8, 0), unfit);
+    tries_offset(&rt, &of_wholes, (Format::Dwarf32, 0, 2), Ok(0xffff_ffff));
     // four times the index needs 34 bits
-    assert_eq!(rt;
-        offset_of(&of_wholes, Format::Dwarf32, 0, 0xffff_ffff),
-        unfit
-    );
+    tries_offset(&rt, &of_wholes, (Format::Dwarf32, 0, 0xffff_ffff), unfit);
 }
 
 // Tries where places lie in sections of eight bytes from 100 on and of four bytes from 108 on.

@@ -2,8 +2,9 @@ use super::{Start, encoding, lists, range, ranges_from, tries_answers, tries_lis
 use crate::samples::{end_at, part, whole};
 use gimli_base::{
     BigEndian, DebugAddr, DwRle, Error, LittleEndian, RangeListsOffset, Reader, ReaderOffset,
+    Result,
 };
-use gimli_lists::{Range, RawRngListEntry};
+use gimli_lists::{Range, RawRngListEntry, RngListIter};
 use std::process::Abort;
 
 // Two pairs, of which the second counts from the base address before it.
@@ -322,32 +323,46 @@ fn tries_conversion<R: Reader>(rt: &impl Abort, old: R, new: R, addr: R) {
         base: 0x0100_0000,
     };
     let mut ranges = ranges_from(rt, &of_both, start, &table, 0).expect(rt, "no list");
-    let first = ranges
-        .next_raw()
-        .expect(rt, "refused")
-        .expect(rt, "no entry");
+    tries_conversions(rt, &mut ranges);
+    tries_answers(rt, Ok(ranges), &[range(0x0201_0400, 0x0201_0500)]);
+}
+
+// The next entry as it is written. It is asked for in a function of its own, since a proof carries what is known of each
+// call in the function: so a test that makes many calls is proved sooner.
+fn raw_of<R: Reader>(rt: &impl Abort, ranges: &mut RngListIter<R>) -> RawRngListEntry<R::Offset> {
+    let found = ranges.next_raw().expect(rt, "refused");
+    found.expect(rt, "no entry")
+}
+
+// What an entry stands for.
+fn convert<R: Reader>(
+    ranges: &mut RngListIter<R>,
+    raw: RawRngListEntry<R::Offset>,
+) -> Result<Option<Range>> {
+    ranges.convert_raw(raw)
+}
+
+// Tries the two calls by turns, before a new base address and behind it.
+fn tries_conversions<R: Reader>(rt: &impl Abort, ranges: &mut RngListIter<R>) {
+    let first = raw_of(rt, ranges);
     let again = first.copy();
     let wanted = Range {
         begin: 0x0101_0200,
         end: 0x0101_0300,
     };
-    assert_eq!(rt; ranges.convert_raw(first), Ok(Some(wanted)));
-    let base = ranges
-        .next_raw()
-        .expect(rt, "refused")
-        .expect(rt, "no entry");
-    assert_eq!(rt; ranges.convert_raw(base), Ok(None));
+    assert_eq!(rt; convert(ranges, first), Ok(Some(wanted)));
+    let base = raw_of(rt, ranges);
+    assert_eq!(rt; convert(ranges, base), Ok(None));
     // the entry counts from the new base
     let wanted = Range {
         begin: 0x0201_0200,
         end: 0x0201_0300,
     };
-    assert_eq!(rt; ranges.convert_raw(again), Ok(Some(wanted)));
+    assert_eq!(rt; convert(ranges, again), Ok(Some(wanted)));
     let missing = RawRngListEntry::BaseAddressx {
         addr: gimli_base::DebugAddrIndex(R::Offset::from_u8(0)),
     };
-    assert_eq!(rt; ranges.convert_raw(missing), Err(end_at(0)));
-    tries_answers(rt, Ok(ranges), &[range(0x0201_0400, 0x0201_0500)]);
+    assert_eq!(rt; convert(ranges, missing), Err(end_at(0)));
 }
 
 #[test]

@@ -27,25 +27,34 @@ fn offset_of<R: Reader>(
     Ok(offset.0.into_u64())
 }
 
+// Tries the offset of the list at an index of the table at a base.
+fn tries_offset<R: Reader>(
+    rt: &impl Abort,
+    lists: &RangeLists<R>,
+    (format, base, index): (Format, u64, u64),
+    wanted: Result<u64>,
+) {
+    let found = offset_of(lists, format, base, index);
+    assert_eq!(rt; found, wanted, "{index} at {base}");
+}
+
 // Tries the table of 20 offsets from 1000 on behind a header.
 fn tries_table<R: Reader>(rt: &impl Abort, reader: R, format: Format, base: u64) {
     let none = reader.copy();
     let of_both = lists(none, reader);
     for index in 0..20_u64 {
         let wanted = base.wrapping_add(1000).wrapping_add(index);
-        assert_eq!(rt;
-            offset_of(&of_both, format, base, index),
-            Ok(wanted),
-            "{index}"
-        );
+        tries_offset(rt, &of_both, (format, base, index), Ok(wanted));
     }
     let word = if format == Format::Dwarf32 { 4 } else { 8 };
     let end = base.wrapping_add(20 * word);
-    assert_eq!(rt; offset_of(&of_both, format, base, 20), Err(end_at(end)));
-    assert_eq!(rt; offset_of(&of_both, format, base, 21), Err(end_at(base)));
-    assert_eq!(rt;
-        offset_of(&of_both, format, end.wrapping_add(1), 0),
-        Err(end_at(0))
+    tries_offset(rt, &of_both, (format, base, 20), Err(end_at(end)));
+    tries_offset(rt, &of_both, (format, base, 21), Err(end_at(base)));
+    tries_offset(
+        rt,
+        &of_both,
+        (format, end.wrapping_add(1), 0),
+        Err(end_at(0)),
     );
 }
 
@@ -86,32 +95,28 @@ fn offsets_that_do_not_fit_are_refused(rt: HostRuntime) {
     ];
     let unfit = Err(Error::UnsupportedOffset);
     let of_parts = lists(part(b"", LittleEndian), part(&bytes, LittleEndian));
-    assert_eq!(rt; offset_of(&of_parts, Format::Dwarf64, 8, 0), unfit);
+    tries_offset(&rt, &of_parts, (Format::Dwarf64, 8, 0), unfit);
     // without a base the offset fits 64 bits
-    assert_eq!(rt; offset_of(&of_parts, Format::Dwarf64, 0, 1), Ok(u64::MAX));
+    tries_offset(&rt, &of_parts, (Format::Dwarf64, 0, 1), Ok(u64::MAX));
     // four times the index needs 65 bits
-    assert_eq!(rt; offset_of(&of_parts, Format::Dwarf32, 0, 1 << 62), unfit);
-    assert_eq!(rt;
-        offset_of(&of_parts, Format::Dwarf32, 0, 1 << 61),
-        Err(end_at(0))
+    tries_offset(&rt, &of_parts, (Format::Dwarf32, 0, 1 << 62), unfit);
+    tries_offset(
+        &rt,
+        &of_parts,
+        (Format::Dwarf32, 0, 1 << 61),
+        Err(end_at(0)),
     );
     let of_wholes = lists(
         whole(&rt, b"", LittleEndian),
         whole(&rt, &bytes, LittleEndian),
     );
-    assert_eq!(rt; offset_of(&of_wholes, Format::Dwarf64, 8, 0), unfit);
-    assert_eq!(rt; offset_of(&of_wholes, Format::Dwarf64, 0, 1), unfit);
+    tries_offset(&rt, &of_wholes, (Format::Dwarf64, 8, 0), unfit);
+    tries_offset(&rt, &of_wholes, (Format::Dwarf64, 0, 1), unfit);
     // the sum of the base and the offset needs 33 bits
-    assert_eq!(rt; offset_of(&of_wholes, Format::Dwarf32, 8, 0), unfit);
-    assert_eq!(rt;
-        offset_of(&of_wholes, Format::Dwarf32, 0, 2),
-        Ok(0xffff_ffff)
-    );
+    tries_offset(&rt, &of_wholes, (Format::Dwarf32, 8, 0), unfit);
+    tries_offset(&rt, &of_wholes, (Format::Dwarf32, 0, 2), Ok(0xffff_ffff));
     // four times the index needs 34 bits
-    assert_eq!(rt;
-        offset_of(&of_wholes, Format::Dwarf32, 0, 0xffff_ffff),
-        unfit
-    );
+    tries_offset(&rt, &of_wholes, (Format::Dwarf32, 0, 0xffff_ffff), unfit);
 }
 
 // Tries where places lie in sections of eight bytes from 100 on and of four bytes from 108 on.
@@ -148,6 +153,17 @@ fn places_are_looked_up_in_the_old_section_first(rt: HostRuntime) {
     tries_places(&rt, &of_wholes.copy());
 }
 
+// Tries the bytes of both sections.
+fn tries_slices(
+    rt: &impl Abort,
+    of_both: &RangeLists<EndianSlice<'_, LittleEndian>>,
+    old: &[u8],
+    new: &[u8],
+) {
+    assert_eq!(rt; of_both.debug_ranges().reader().slice(), old);
+    assert_eq!(rt; of_both.debug_rnglists().reader().slice(), new);
+}
+
 #[test]
 fn sections_are_borrowed_in_order(rt: HostRuntime) -> std::result::Result<(), Fail> {
     let alloc = rt.alloc();
@@ -161,14 +177,7 @@ fn sections_are_borrowed_in_order(rt: HostRuntime) -> std::result::Result<(), Fa
         EndianSlice::new(bytes, LittleEndian)
     });
     assert_eq!(rt; lengths, 0x32);
-    assert_eq!(rt;
-        borrowed.debug_ranges().reader().slice(),
-        [1, 2, 3].as_slice()
-    );
-    assert_eq!(rt;
-        borrowed.debug_rnglists().reader().slice(),
-        [4, 5].as_slice()
-    );
+    tries_slices(&rt, &borrowed, &[1, 2, 3], &[4, 5]);
     Ok(())
 }
 
@@ -177,19 +186,16 @@ fn sections_are_kept_and_replaced(rt: HostRuntime) -> std::result::Result<(), Fa
     let old = DebugRanges::new(&[1, 2], LittleEndian);
     let new = DebugRngLists::new(&[3], LittleEndian);
     let mut of_both = RangeLists::new(old, new);
-    assert_eq!(rt; of_both.debug_ranges().reader().slice(), [1, 2].as_slice());
+    tries_slices(&rt, &of_both, &[1, 2], &[3]);
     assert_eq!(rt;
         of_both.debug_rnglists().copy().reader().slice(),
         [3].as_slice()
     );
     let same = of_both;
     of_both.set_debug_ranges(DebugRanges::new(&[4], LittleEndian).copy());
-    assert_eq!(rt; of_both.debug_ranges().reader().slice(), [4].as_slice());
-    assert_eq!(rt; of_both.debug_rnglists().reader().slice(), [3].as_slice());
-    assert_eq!(rt; same.debug_ranges().reader().slice(), [1, 2].as_slice());
-    let empty: RangeLists<EndianSlice<'_, LittleEndian>> = RangeLists::default();
-    assert!(rt; empty.debug_ranges().reader().is_empty());
-    assert!(rt; empty.debug_rnglists().reader().is_empty());
+    tries_slices(&rt, &of_both, &[4], &[3]);
+    tries_slices(&rt, &same, &[1, 2], &[3]);
+    tries_slices(&rt, &RangeLists::default(), &[], &[]);
     assert_eq!(rt;
         <DebugRanges<EndianSlice<'_, LittleEndian>>>::id(),
         SectionId::DebugRanges
