@@ -41,14 +41,14 @@ fn next_range<R: Reader>(sum: u64, ranges: &mut RngListIter<R>) -> Result<Option
 }
 
 #[inline(never)]
-fn with_ranges<R: Reader>(sum: u64, mut ranges: RngListIter<R>) -> u64 {
-    let mut all = match next_range(sum, &mut ranges) {
+fn with_ranges<R: Reader>(sum: u64, ranges: &mut RngListIter<R>) -> u64 {
+    let mut all = match next_range(sum, ranges) {
         Ok(Some(first)) => first,
         Ok(None) => return sum,
         Err(error) => return refused(sum, error),
     };
     loop {
-        match next_range(all, &mut ranges) {
+        match next_range(all, ranges) {
             Ok(Some(next)) => all = next,
             Ok(None) => return all,
             Err(error) => return refused(all, error),
@@ -70,14 +70,14 @@ fn next_location<R: Reader>(sum: u64, locations: &mut LocListIter<R>) -> Result<
 }
 
 #[inline(never)]
-fn with_locations<R: Reader>(sum: u64, mut locations: LocListIter<R>) -> u64 {
-    let mut all = match next_location(sum, &mut locations) {
+fn with_locations<R: Reader>(sum: u64, locations: &mut LocListIter<R>) -> u64 {
+    let mut all = match next_location(sum, locations) {
         Ok(Some(first)) => first,
         Ok(None) => return sum,
         Err(error) => return refused(sum, error),
     };
     loop {
-        match next_location(all, &mut locations) {
+        match next_location(all, locations) {
             Ok(Some(next)) => all = next,
             Ok(None) => return all,
             Err(error) => return refused(all, error),
@@ -105,14 +105,14 @@ fn with_list<R: Reader>(
         Kind::Ranges => {
             let offset = RangeListsOffset(offset);
             let lists = &sections.ranges;
-            let ranges = lists.ranges(offset, encoding, base, addresses, table)?;
-            Ok(with_ranges(sum, ranges))
+            let mut ranges = lists.ranges(offset, encoding, base, addresses, table)?;
+            Ok(with_ranges(sum, &mut ranges))
         }
         Kind::Locations => {
             let offset = LocationListsOffset(offset);
             let lists = &sections.locations;
-            let locations = lists.locations(offset, encoding, base, addresses, table)?;
-            Ok(with_locations(sum, locations))
+            let mut locations = lists.locations(offset, encoding, base, addresses, table)?;
+            Ok(with_locations(sum, &mut locations))
         }
     }
 }

@@ -39,14 +39,14 @@ fn next_range<R: Reader>(sum: u64, ranges: &mut RngListIter<R>) -> Result<Option
 }
 
 #[inline(never)]
-fn with_ranges<R: Reader>(sum: u64, mut ranges: RngListIter<R>) -> u64 {
-    let mut all = match next_range(sum, &mut ranges) {
+fn with_ranges<R: Reader>(sum: u64, ranges: &mut RngListIter<R>) -> u64 {
+    let mut all = match next_range(sum, ranges) {
         Ok(Some(first)) => first,
         Ok(None) => return sum,
         Err(error) => return refused(sum, error),
     };
     for _ in 0..u64::MAX {
-        match next_range(all, &mut ranges) {
+        match next_range(all, ranges) {
             Ok(Some(next)) => all = next,
             Ok(None) => break,
             Err(error) => return refused(all, error),
@@ -67,14 +67,14 @@ fn next_location<R: Reader>(sum: u64, locations: &mut LocListIter<R>) -> Result<
 }
 
 #[inline(never)]
-fn with_locations<R: Reader>(sum: u64, mut locations: LocListIter<R>) -> u64 {
-    let mut all = match next_location(sum, &mut locations) {
+fn with_locations<R: Reader>(sum: u64, locations: &mut LocListIter<R>) -> u64 {
+    let mut all = match next_location(sum, locations) {
         Ok(Some(first)) => first,
         Ok(None) => return sum,
         Err(error) => return refused(sum, error),
     };
     for _ in 0..u64::MAX {
-        match next_location(all, &mut locations) {
+        match next_location(all, locations) {
             Ok(Some(next)) => all = next,
             Ok(None) => break,
             Err(error) => return refused(all, error),
@@ -104,17 +104,17 @@ fn with_list<R: Reader>(
     match kind {
         Kind::Ranges => {
             let offset = RangeListsOffset(offset);
-            let ranges = sections
+            let mut ranges = sections
                 .ranges
                 .ranges(offset, encoding, base, addresses, table)?;
-            Ok(with_ranges(sum, ranges))
+            Ok(with_ranges(sum, &mut ranges))
         }
         Kind::Locations => {
             let offset = LocationListsOffset(offset);
-            let locations = sections
+            let mut locations = sections
                 .locations
                 .locations(offset, encoding, base, addresses, table)?;
-            Ok(with_locations(sum, locations))
+            Ok(with_locations(sum, &mut locations))
         }
     }
 }
