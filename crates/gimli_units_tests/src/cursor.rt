@@ -291,9 +291,18 @@ fn tries_clones<R: Reader>(
     let table = table_of(alloc, &TABLE_NESTED_STRINGS)?;
     let unit = unit_of(rt, entries);
     let mut cursor = begin(alloc, &unit, &table, way, None)?;
+    tries_clone_at_each_step(rt, alloc, &mut cursor)
+}
+
+// Tries a clone before each step.
+fn tries_clone_at_each_step<R: Reader>(
+    rt: &impl Abort,
+    alloc: Global,
+    cursor: &mut Cursor<'_, R>,
+) -> Result<(), Fail> {
     for _ in 0..9u8 {
-        tries_clone(rt, alloc, &cursor)?;
-        take(&mut cursor, Step::Entry);
+        tries_clone(rt, alloc, cursor)?;
+        take(cursor, Step::Entry);
     }
     Ok(())
 }

@@ -188,18 +188,27 @@ fn next_of<R: Reader>(raw: &EntriesRaw<'_, R, Global>) -> (u64, isize) {
     (raw.next_offset().0.into_u64(), raw.next_depth())
 }
 
+// Tries a copy of a reader behind its first entry.
+fn tries_copied_reader<R: Reader>(
+    rt: &impl Abort,
+    raw: &mut EntriesRaw<'_, R, Global>,
+    entry: &mut Entry<R>,
+) -> Result<(), Fail> {
+    read_entry(raw, entry)?;
+    let mut copy = raw.copy();
+    assert_eq!(rt; next_of(&copy), (0x10, 1));
+    read_entry(&mut copy, entry)?;
+    assert_eq!(rt; next_of(&copy).0, 0x15);
+    assert_eq!(rt; next_of(raw).0, 0x10);
+    Ok(())
+}
+
 fn tries_copy<R: Reader>(rt: &impl Abort, alloc: Global, entries: R) -> Result<(), Fail> {
     let table = table_of(alloc, &TABLE_NESTED_STRINGS)?;
     let unit = unit_of(rt, entries);
     let mut raw = raw_of(&unit, &table)?;
     let mut entry = Entry::null(alloc);
-    read_entry(&mut raw, &mut entry)?;
-    let mut copy = raw.copy();
-    assert_eq!(rt; next_of(&copy), (0x10, 1));
-    read_entry(&mut copy, &mut entry)?;
-    assert_eq!(rt; next_of(&copy).0, 0x15);
-    assert_eq!(rt; next_of(&raw).0, 0x10);
-    Ok(())
+    tries_copied_reader(rt, &mut raw, &mut entry)
 }
 
 #[test]

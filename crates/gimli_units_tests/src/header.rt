@@ -337,6 +337,13 @@ fn tries_inside<R: Reader>(rt: &impl Abort, unit: &UnitHeader<R>, table: &Abbrev
     }
 }
 
+// Tries offsets outside of the unit over the siblings.
+fn tries_outside<R: Reader>(rt: &impl Abort, unit: &UnitHeader<R>, table: &Abbreviations<Global>) {
+    for number in [0x00, 0x01, 0x0a, 0x10, 0x11, 0xff] {
+        assert!(rt; is_refused_at(unit, table, number), "{number}");
+    }
+}
+
 // Tries offsets inside and outside of the unit over the siblings.
 fn keeps_to_its_bounds<R: Reader>(
     rt: &impl Abort,
@@ -346,9 +353,7 @@ fn keeps_to_its_bounds<R: Reader>(
     let table = table_of(alloc, &TABLE_WITH_SIBLINGS)?;
     let unit = unit_of(rt, entries);
     tries_inside(rt, &unit, &table);
-    for number in [0x00, 0x01, 0x0a, 0x10, 0x11, 0xff] {
-        assert!(rt; is_refused_at(&unit, &table, number), "{number}");
-    }
+    tries_outside(rt, &unit, &table);
     let raw = raw_of(&unit, &table)?;
     assert_eq!(rt; raw.next_offset(), unit.root_offset());
     Ok(())

@@ -195,8 +195,17 @@ fn tries_false_siblings<R: Reader>(rt: &impl Abort, alloc: Global, entries: R) -
     let table = table_of(alloc, &TABLE)?;
     let unit = unit_of(rt, entries);
     follows_false_siblings(rt, alloc, &unit, &table)?;
-    // by plain walking the first has no sibling
-    let mut cursor = begin(alloc, &unit, &table, Way::Plain, None)?;
+    finds_no_sibling(rt, alloc, &unit, &table)
+}
+
+// By plain walking the first has no sibling.
+fn finds_no_sibling<R: Reader>(
+    rt: &impl Abort,
+    alloc: Global,
+    unit: &UnitHeader<R>,
+    table: &Abbreviations<Global>,
+) -> Result<(), Fail> {
+    let mut cursor = begin(alloc, unit, table, Way::Plain, None)?;
     let first = yes((11, 0), LINKED, (16, 1), 1);
     tries_step(rt, &mut cursor, Step::Entry, first);
     let end = 11 + 5 * u64::from(COUNT);

@@ -37,15 +37,24 @@ fn tries_first_request<R: Reader>(
     let table = table_of(&ample, &TABLE_NESTED_STRINGS)?;
     let unit = unit_of(rt, entries);
     let mut cursor = begin(&heap, &unit, &table, way, None)?;
+    tries_refused_first(rt, &heap, &mut cursor);
+    Ok(())
+}
+
+// Tries a cursor whose first request is refused.
+fn tries_refused_first<R: Reader>(
+    rt: &impl Abort,
+    heap: Heap<'_>,
+    cursor: &mut EntriesCursor<'_, R, Heap<'_>>,
+) {
     let place = (0x0b, 0);
     let wanted = refused(Error::OutOfMemory, place, (0x1d, 0), 1);
-    tries_step(rt, &mut cursor, Step::Dfs, wanted);
+    tries_step(rt, cursor, Step::Dfs, wanted);
     assert_eq!(rt; heap.requests(), 1);
     for step in [Step::Entry, Step::Dfs, Step::Sibling] {
-        tries_step(rt, &mut cursor, step, no(place, (0x1d, 0), 1));
+        tries_step(rt, cursor, step, no(place, (0x1d, 0), 1));
     }
     assert_eq!(rt; heap.requests(), 1);
-    Ok(())
 }
 
 #[test]
@@ -323,20 +332,30 @@ fn tries_clone<'a, R: Reader>(
     Ok(())
 }
 
-// Tries to clone a cursor that stands on an entry with attributes, where memory is refused.
+// Tries to clone a cursor that stands on an entry with attributes, where memory is refused, and where there is enough.
+fn tries_clones<'a, R: Reader>(
+    rt: &impl Abort,
+    ample: Heap<'a>,
+    refusing: Heap<'a>,
+    cursor: &mut EntriesCursor<'_, R, Heap<'a>>,
+) -> Result<(), Fail> {
+    let wanted = yes((0x0b, 0), TEXT, (0x10, 1), 1);
+    tries_step(rt, cursor, Step::Entry, wanted);
+    let error = clone_of(refusing, cursor).err();
+    assert_eq!(rt; error, Some(Error::OutOfMemory));
+    stands(rt, cursor, wanted);
+    let second = yes((0x10, 1), TEXT, (0x15, 2), 2);
+    tries_clone(rt, ample, cursor, (wanted, second))
+}
+
+// The same over a unit.
 fn tries_refused_clone<R: Reader>(rt: &impl Abort, alloc: Global, entries: R) -> Result<(), Fail> {
     let ample = Failing::new(alloc, Refusal::Never);
     let refusing = Failing::new(alloc, Refusal::From(1));
     let table = table_of(&ample, &TABLE_NESTED_STRINGS)?;
     let unit = unit_of(rt, entries);
     let mut cursor = begin(&ample, &unit, &table, Way::Follows, None)?;
-    let wanted = yes((0x0b, 0), TEXT, (0x10, 1), 1);
-    tries_step(rt, &mut cursor, Step::Entry, wanted);
-    let error = clone_of(&refusing, &cursor).err();
-    assert_eq!(rt; error, Some(Error::OutOfMemory));
-    stands(rt, &cursor, wanted);
-    let second = yes((0x10, 1), TEXT, (0x15, 2), 2);
-    tries_clone(rt, &ample, &mut cursor, (wanted, second))
+    tries_clones(rt, &ample, &refusing, &mut cursor)
 }
 
 #[test]

@@ -7,7 +7,7 @@ use crate::shown::{Shown, bits, bytes, bytes_of, number, show_raw, show_value};
 use gimli_base::{
     DebugStr, DwForm, Encoding, Error, Expression, Format, Reader, ReaderOffset, Result,
 };
-use gimli_units::{Attribute, AttributeValue};
+use gimli_units::{Attribute, AttributeValue, EntriesRaw};
 use std::alloc::Global;
 use std::process::Abort;
 use std::test::Fail;
@@ -201,10 +201,18 @@ fn reads_behind_passed<R: Remade>(
         .remade(b"\x01\x61\x00\x02ab")
         .expect(rt, "too many bytes");
     let mut raw = raw_over(rt, input, version_4(), &table);
+    tries_reading_on(rt, &mut raw)
+}
+
+// Tries a block behind a byte and a text that are passed.
+fn tries_reading_on<R: Reader>(
+    rt: &impl Abort,
+    raw: &mut EntriesRaw<'_, R, Global>,
+) -> std::result::Result<(), Fail> {
     let passed = [specification(NAME, 0x0b, 0), specification(NAME, 0x08, 0)];
-    pass(&mut raw, &passed)?;
-    assert_eq!(rt; taken_of(&raw), 3);
-    let attribute = read(&mut raw, specification(NAME, 0x0a, 0))?;
+    pass(raw, &passed)?;
+    assert_eq!(rt; taken_of(raw), 3);
+    let attribute = read(raw, specification(NAME, 0x0a, 0))?;
     assert_eq!(rt; show_raw(&attribute), bytes("Block", 0x6162, 4, 2));
     assert!(rt; raw.is_empty());
     assert_eq!(rt; raw.next_depth(), 0);

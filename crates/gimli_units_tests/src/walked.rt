@@ -224,12 +224,22 @@ fn tries_steps<R: Reader>(
     let table = table_of(alloc, walk.declared)?;
     let unit = unit_of(rt, entries);
     let mut cursor = begin(alloc, &unit, &table, way, walk.start)?;
-    tries_begun(rt, &cursor, way, walk.start);
+    tries_steps_of(rt, &mut cursor, way, walk);
+    Ok(())
+}
+
+// Takes the steps of a walk by a cursor.
+fn tries_steps_of<R: Reader, A: Allocator>(
+    rt: &impl Abort,
+    cursor: &mut EntriesCursor<'_, R, A>,
+    way: Way,
+    walk: Walk<'_>,
+) {
+    tries_begun(rt, cursor, way, walk.start);
     for step in walk.steps {
-        tries_step_over(rt, &mut cursor, (way, walk.entries), *step);
+        tries_step_over(rt, cursor, (way, walk.entries), *step);
     }
     assert_eq!(rt; cursor.follows(), way == Way::Follows);
-    Ok(())
 }
 
 /// Takes the steps of a walk by each reader.

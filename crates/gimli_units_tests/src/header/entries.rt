@@ -106,8 +106,18 @@ fn tries_siblings<R: Reader>(
     let entry = entry_at(alloc, &unit, &table, 0x0b)?;
     tries_parts(rt, &entry, (0x2e, true, 1), 0x0b);
     assert!(rt; has_reference(&entry, 0x0f));
+    tries_leaves(rt, alloc, &unit, &table)
+}
+
+// Tries the entries without children.
+fn tries_leaves<R: Reader>(
+    rt: &impl Abort,
+    alloc: Global,
+    unit: &UnitHeader<R>,
+    table: &Abbreviations<Global>,
+) -> std::result::Result<(), Fail> {
     for number in [0x0d, 0x0f] {
-        let entry = entry_at(alloc, &unit, &table, number)?;
+        let entry = entry_at(alloc, unit, table, number)?;
         tries_parts(rt, &entry, (0x34, false, 0), number);
     }
     Ok(())
