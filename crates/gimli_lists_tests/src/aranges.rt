@@ -17,7 +17,7 @@ mod section;
 // What a header shows: where its set begins, the number in its length field, the offset of its unit, and how it is read.
 #[derive(Clone, Copy, Debug)]
 struct Shown {
-    offset: u64,
+    offset: u8,
     length: u64,
     info: u64,
     encoding: Encoding,
@@ -34,7 +34,7 @@ fn encoding(format: Format, address_size: u8) -> Encoding {
 
 // Tries what a header shows.
 fn tries_header<R: Reader>(rt: &impl Abort, header: &ArangeHeader<R>, shown: Shown) {
-    assert_eq!(rt; header.offset().0.into_u64(), shown.offset);
+    assert_eq!(rt; header.offset().0.into_u64(), u64::from(shown.offset));
     assert_eq!(rt; header.length().into_u64(), shown.length);
     assert_eq!(rt; header.debug_info_offset().0.into_u64(), shown.info);
     assert_eq!(rt; header.encoding(), shown.encoding);
@@ -112,8 +112,8 @@ fn item_of<R: Reader>(rt: &impl Abort, headers: &mut ArangeHeaderIter<R>) -> Ara
 }
 
 // The set at an offset.
-fn header_at<R: Reader>(section: &DebugAranges<R>, offset: u64) -> Result<ArangeHeader<R>> {
-    section.header(DebugArangesOffset(R::Offset::from_u64(offset)?))
+fn header_at<R: Reader>(section: &DebugAranges<R>, offset: u8) -> Result<ArangeHeader<R>> {
+    section.header(DebugArangesOffset(R::Offset::from_u8(offset)))
 }
 
 // Tries the raw entries that are left: where each begins, and its length; and then none.

@@ -181,7 +181,8 @@ true_entry limit start here outcome new o (an_entry e w some reads is same) hold
     let shorter = entry_at-shorter limit here.raw.encoding (found here.raw.abbreviations) here.raw.rest w e reads in
     let low = later_offset start here o in
     rw same (record {
-      is = same_what limit start here (next_offset_of here.raw) o (omega arith) ∙ what_here limit here.raw (Ok (e, w)) reads;
+      is = reads ∙ sym (ap (next_of limit here.raw) (view_here here.raw)) ∙ sym (same_next limit start here (next_offset_of here.raw) o (omega arith));
+      depth = refl;
       after = low;
       before = omega (arith, shorter, o.sound.fits);
     })

@@ -20,7 +20,7 @@ use Rattle.gimli_units.specs.CursorRead.{stands_at, stands_if, after_entry, afte
 use Rattle.gimli_units.proofs.CursorSteps.{rows_entry, rows_end, rows_refusal, rows_over}
 use Rattle.gimli_units.proofs.Flagless.{entry_at-flagless}
 use Rattle.gimli_units.proofs.Splits.{differs, equal, at_least, jump}
-use Rattle.gimli_units.proofs.Onward.{Onward, onward_start, onward_follow, onward_read, read_once, true_entry, true_refusal, followed_bounds, unless_then, view_here, same_next}
+use Rattle.gimli_units.proofs.Onward.{Onward, onward_start, onward_follow, onward_read, read_once, true_entry, true_refusal, followed_bounds, unless_then}
 use Rattle.gimli_units.proofs.Walking.{place_on, refused_place, read_shorter}
 
 -- where a reference is followed, the entry has children: the depth behind it is one more
@@ -248,7 +248,6 @@ module _ (limit : ℕ) (depth : ℤ) (offset : ℕ) where
             more = rw same at onward.more;
             found = λ honest. found_at mid e w some reads deep ∙ sought_there start here k honest;
             yes = λ t. (rw same at true_one, not-true (is_null e) (ok_is t), equal mid.raw.depth depth deep);
-            behind = λ t. reads ∙ sym (ap (next_of limit mid.raw) (view_here mid.raw)) ∙ sym (same_next limit start mid (next_offset_of mid.raw) (onward_follow start here depth k.onward) (omega arith));
             no = λ t. (not-false (is_null e) (ok_is t), equal mid.raw.depth depth deep, inl (rw same at true_one));
             refused = λ x t. absurd (cc);
             place = λ x t. absurd (cc);
@@ -298,7 +297,6 @@ module _ (limit : ℕ) (depth : ℤ) (offset : ℕ) where
             more = rw same at onward.more;
             found = λ honest. end_at mid none ∙ sought_there start here k honest;
             yes = λ t. absurd (cc);
-            behind = λ t. absurd (cc);
             no = λ t. (refl, refl, inr (none, refl));
             refused = λ x t. absurd (cc);
             place = λ x t. absurd (cc);
@@ -350,7 +348,6 @@ module _ (limit : ℕ) (depth : ℤ) (offset : ℕ) where
             more = rw same at onward.more;
             found = λ honest. rw one (λ fine. refusal_at mid y some (why fine) ∙ sought_there start here k honest);
             yes = λ t. absurd (cc);
-            behind = λ t. absurd (cc);
             no = λ t. absurd (cc);
             refused = rw same at refused;
             place = λ v t honest.

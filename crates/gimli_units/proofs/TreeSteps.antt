@@ -154,7 +154,6 @@ module _ (limit : ℕ) (t : TreeView) (s : IsTree t) where
             first = (Ok (not (is_null e)), rw same (first_entry e w some reads));
             goes = rw same (goes_root e w some reads some_e);
             yes = λ k. (true_one is, entry);
-            behind = λ k. rw same reads;
             place = λ k. rw same (refl, s.depth);
             refused = λ x fails. absurd (cc);
             reads = ap (λ (x : CursorView). x.reads) same;
@@ -175,7 +174,6 @@ module _ (limit : ℕ) (t : TreeView) (s : IsTree t) where
         first = λ fine. (Ok (not (is_null e)), first_entry e w some reads);
         goes = λ fine. goes_null e w some reads null_e;
         yes = λ k. absurd (cc);
-        behind = λ k. absurd (cc);
         place = λ k. absurd (cc);
         refused = λ x fails.
             let one : NoEntryAtGivenOffset (next_offset_of t.start) ≡ x = cc in
@@ -201,7 +199,6 @@ module _ (limit : ℕ) (t : TreeView) (s : IsTree t) where
         first = λ fine. (Err x, first_refusal x some (why fine));
         goes = λ fine. goes_fault x some (why fine);
         yes = λ k. absurd (cc);
-        behind = λ k. absurd (cc);
         place = λ k. absurd (cc);
         refused = λ y h.
             let two : x ≡ y = cc in

@@ -1,6 +1,6 @@
 -- What a cursor of a unit answers is what the unit has at that offset.
 use Rattle.std.specs.Prelude.{◌≡◌, ℕ, ◌+◌, ◌-◌, ◌<◌, ◌≤◌, ℤ, pos, Bool, true, false, nat_le, nat_lt, if◌then◌else◌, length, Option, Some, None, Result, Ok, Err}
-use Rattle.std.proofs.Common.{refl, ap, ◌∙◌, arith, length-drop, le-leb, lt-ltb, ltb-true}
+use Rattle.std.proofs.Common.{refl, sym, ap, ◌∙◌, arith, length-drop, le-leb, lt-ltb, ltb-true}
 use Rattle.gimli_base.specs.declared.error.Error.{Error}
 use Rattle.gimli_base.specs.declared.error.Error.TheVariants.{NoEntryAtGivenOffset, OffsetOutOfBounds, OutOfMemory}
 use Rattle.gimli_base.specs.Both.{both}
@@ -80,10 +80,13 @@ module _ (limit : ℕ) (u : UnitView) (t : Table) (fits : length u.entries.bytes
       let q : Reads Entry = entry_at limit u.encoding (found t) (cut (o - header_size u) u.entries) in
       (q, (rw (unit_view o low, s.encoding, s.abbreviations) at is), rw (in_unit o low high) refl)
 
+  what_is : (new : CursorView) → IsTrueEntry limit c new → what_at limit c.raw new.offset ≡ Ok new.entry
+  what_is new is = ap (answer_of (λ (x : Entry × View). x.0)) (sym is.is)
+
   -- an entry that was answered is the unit's
   pub entry_law : (new : CursorView) → new.raw.end ≡ c.raw.end → IsTrueEntry limit c new → is_null new.entry ≡ false → unit_entry_at limit u (found t) new.offset ≡ Ok new.entry
   entry_law new same is entry =
-      let h = unit_has new.offset is.after (omega (arith, is.before, same, s.end)) (Ok new.entry) is.is in
+      let h = unit_has new.offset is.after (omega (arith, is.before, same, s.end)) (Ok new.entry) (what_is new is) in
       h.2 ∙ cases h.0 h.1
     where
       cases : (q : Reads Entry) → answer_of (λ (x : Entry × View). x.0) q ≡ Ok new.entry → some_entry new.offset q ≡ Ok new.entry
@@ -94,7 +97,7 @@ module _ (limit : ℕ) (u : UnitView) (t : Table) (fits : length u.entries.bytes
   pub null_law : (new : CursorView) → new.raw.end ≡ c.raw.end → IsTrueEntry limit c new → is_null new.entry ≡ true
       → unit_entry_at limit u (found t) new.offset ≡ Err (NoEntryAtGivenOffset new.offset)
   null_law new same is null =
-      let h = unit_has new.offset is.after (omega (arith, is.before, same, s.end)) (Ok new.entry) is.is in
+      let h = unit_has new.offset is.after (omega (arith, is.before, same, s.end)) (Ok new.entry) (what_is new is) in
       h.2 ∙ cases h.0 h.1
     where
       cases : (q : Reads Entry) → answer_of (λ (x : Entry × View). x.0) q ≡ Ok new.entry → some_entry new.offset q ≡ Err (NoEntryAtGivenOffset new.offset)

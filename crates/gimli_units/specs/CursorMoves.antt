@@ -76,10 +76,11 @@ pub record IsSameUnit (old new : CursorView) : Type 0 where
   pub end : new.raw.end ≡ old.raw.end
   pub follows : new.follows ≡ old.follows
 
--- The entry that a step answered is the one that stands at its offset, which is not before what the step found next; and the
--- reader is past it.
+-- The entry that a step answered is the one that stands at its offset, which is not before what stood next before the step; and
+-- the reader is just behind it, at the depth that it makes.
 pub record IsTrueEntry (limit : ℕ) (old new : CursorView) : Type 0 where
-  pub is : what_at limit old.raw new.offset ≡ Ok new.entry
+  pub is : Ok (new.entry, new.raw.rest) ≡ next_of limit old.raw (view_from old.raw new.offset)
+  pub depth : new.raw.depth ≡ depth_after new.entry new.depth
   pub after : next_offset_of old.raw ≤ new.offset
   pub before : new.offset < next_offset_of new.raw
 
@@ -87,8 +88,8 @@ pub record IsTrueEntry (limit : ℕ) (old new : CursorView) : Type 0 where
 abbrev pub IsOver : CursorView → Type 0
 IsOver c = length c.raw.rest.bytes ≡ 0
 
--- A refusal of bytes is what stands at the pair's offset, which is not before what the step found next and before the end; the walk is over, with
--- no current entry, and the next depth is the pair's.
+-- A refusal of bytes is what stands at the pair's offset, which is not before what stood next before the step, and before the end; the walk is over,
+-- with no current entry, and the next depth is the pair's.
 pub record IsRefused (limit : ℕ) (old : CursorView) (e : Error) (new : CursorView) : Type 0 where
   pub is : (e ≡ OutOfMemory → ⊥) → what_at limit old.raw new.offset ≡ Err e
   pub memory : e ≡ OutOfMemory → takes_memory_at old.raw new.offset ≡ true

@@ -67,7 +67,6 @@ pub record HasSought (limit : ℕ) (depth : ℤ) (offset : ℕ) (old : CursorVie
   pub more : old.reads ≤ new.reads
   pub found : (old.follows ≡ true → IsHonestFor limit depth old) → Stands limit outcome new (seek old.raw.end depth offset (rows_of limit old.raw))
   pub yes : outcome ≡ Ok true → IsTrueEntry limit old new × (is_null new.entry ≡ false) × (new.depth ≡ depth)
-  pub behind : outcome ≡ Ok true → Ok (new.entry, new.raw.rest) ≡ next_of limit old.raw (view_from old.raw new.offset)
   pub no : outcome ≡ Ok false → IsNotFound limit depth offset old new
   pub refused : (e : Error) → outcome ≡ Err e → IsRefused limit old e new
   pub place : (e : Error) → outcome ≡ Err e → (old.follows ≡ true → IsHonestFor limit depth old) → IsAheadOf limit (has_depth depth) old new

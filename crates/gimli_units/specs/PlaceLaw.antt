@@ -76,7 +76,7 @@ module _ (limit : ℕ) where
   linked_rows p = let a : Ahead = rows_of limit p in linked (next_of limit p) p.end a.rows p.rest p.depth a.refusal a.stop a.stop_depth (chain p)
 
   -- a null leads nowhere
-  null_honest : (c : CursorView) (rows : List Row) → is_null c.entry ≡ true → IsHonest c.raw.end (last_row c) rows
+  pub null_honest : (c : CursorView) (rows : List Row) → is_null c.entry ≡ true → IsHonest c.raw.end (last_row c) rows
   null_honest c rows is_none t leads =
       let nowhere : usable c.raw.end (last_row c) ≡ None = rw is_none refl in
       let e : ◌≡◌ {A = Option ℕ} None (Some t) = sym nowhere ∙ leads in absurd (cc)

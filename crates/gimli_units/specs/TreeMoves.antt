@@ -95,7 +95,6 @@ pub record HasBegun (limit : ℕ) (old : TreeView) (outcome : Result (Unit {0}) 
   pub first : UnlessMemory outcome ((b : Result Bool Error) × (record { outcome = b; place = place_of limit new.cursor } ≡ first_of_rows old.start.end (pos 0) 0 (rows_of limit old.start)))
   pub goes : UnlessMemory outcome (begun limit outcome new ≡ to_root old.start.end (rows_of limit old.start))
   pub yes : outcome ≡ Ok tt → IsTrueEntry limit (before_first true old.start) new.cursor × (is_null new.cursor.entry ≡ false)
-  pub behind : outcome ≡ Ok tt → Ok (new.cursor.entry, new.cursor.raw.rest) ≡ next_of limit old.start old.start.rest
   pub place : outcome ≡ Ok tt → (new.cursor.offset ≡ next_offset_of old.start) × (new.cursor.depth ≡ pos 0)
   pub refused : (e : Error) → outcome ≡ Err e → IsNoRoot limit old.start e
   pub reads : new.cursor.reads ≡ 1

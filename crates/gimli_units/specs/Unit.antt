@@ -113,9 +113,13 @@ entry_in limit encoding declared offset (Err e) = Err e
 unfoldable pub unit_entry_at : ℕ → UnitView → Map → ℕ → Result Entry Error
 unit_entry_at limit u declared offset = entry_in limit u.encoding declared offset (range_from u offset)
 
+-- what is read at an offset of a unit: an entry or a null with what is left behind it, or a refusal
+abbrev pub unit_read_at : ℕ → UnitView → Map → ℕ → Reads Entry
+unit_read_at limit u declared offset = entry_at limit u.encoding declared (cut (offset - header_size u) u.entries)
+
 -- the bytes at an offset of a unit are refused, as no entry and no null can be read there
 abbrev pub IsUnreadAt : ℕ → UnitView → Map → ℕ → Error → Type 0
-IsUnreadAt limit u declared offset e = (in_bounds u offset ≡ true) × (answer_of (λ (x : Entry × View). x.0) (entry_at limit u.encoding declared (cut (offset - header_size u) u.entries)) ≡ Err e)
+IsUnreadAt limit u declared offset e = (in_bounds u offset ≡ true) × (answer_of (λ (x : Entry × View). x.0) (unit_read_at limit u declared offset) ≡ Err e)
 
 -- whether memory is asked for where the entry in these bytes is read
 abbrev pub takes_memory_in : Map → Result View Error → Bool

@@ -24,13 +24,13 @@ const SECTIONS: [SectionId; 10] = [
     SectionId::DebugTypes,
 ];
 
-// A unit of a section, which lies from 0x20 to 0x33; its entries begin at 0x2b.
+// A unit of a section, which lies from 0x20 to 0x33; its entries begin at 0x2b. It tells its section.
 fn unit_in<R: Reader>(rt: &impl Abort, section: SectionId, entries: R) -> UnitHeader<R> {
     let unit_length = R::Offset::from_u8(0x10);
     let field = R::Offset::from_u8(12);
     assert!(rt; entries.len().into_u64() == 9);
     assert!(rt; field.checked_add(unit_length).is_some());
-    UnitHeader::new(
+    let unit = UnitHeader::new(
         version_4(),
         unit_length,
         UnitType::Compilation,
@@ -38,7 +38,9 @@ fn unit_in<R: Reader>(rt: &impl Abort, section: SectionId, entries: R) -> UnitHe
         section,
         UnitSectionOffset(R::Offset::from_u8(0x20)),
         entries,
-    )
+    );
+    assert_eq!(rt; unit.section(), section);
+    unit
 }
 
 // The number of an offset, if there is one.
@@ -56,9 +58,14 @@ fn in_unit<R: Reader>(unit: &UnitHeader<R>, number: u8) -> [Option<u64>; 3] {
     ]
 }
 
-// Tries an offset, with the offset in the unit that it is in the unit's section.
-fn tries_offset<R: Reader>(rt: &impl Abort, unit: &UnitHeader<R>, number: u8, found: Option<u64>) {
-    let section = unit.section();
+// Tries an offset, with the offset in the unit, which lies in a section, that it is in that section.
+fn tries_offset<R: Reader>(
+    rt: &impl Abort,
+    unit: &UnitHeader<R>,
+    section: SectionId,
+    number: u8,
+    found: Option<u64>,
+) {
     let wanted = match section {
         SectionId::DebugInfo => [found, None, found],
         SectionId::DebugTypes => [None, found, found],
@@ -86,7 +93,7 @@ fn finds_offsets_of_the_unit<R: Reader>(rt: &impl Abort, entries: &R) {
     for section in SECTIONS {
         let unit = unit_in(rt, section, entries.copy());
         for (number, found) in rows {
-            tries_offset(rt, &unit, number, found);
+            tries_offset(rt, &unit, section, number, found);
         }
     }
 }
@@ -97,19 +104,13 @@ fn finds_offsets_of_the_unit_in_each_section(rt: HostRuntime) {
     finds_offsets_of_the_unit(&rt, &EndianSlice::new_at(&ENTRIES, BigEndian, 0x2b));
 }
 
-// An offset, where the unit lies in a section.
-fn within<R: Reader>(unit: &UnitHeader<R>, section: SectionId, number: u8) -> Option<R::Offset> {
-    if unit.section() == section {
-        Some(R::Offset::from_u8(number))
-    } else {
-        None
-    }
-}
-
-// Tries an offset of `.debug_info`, and the same of the unit's section.
-fn tries_info<R: Reader>(rt: &impl Abort, unit: &UnitHeader<R>, number: u8) {
+// Tries an offset of `.debug_info`, and the same of the section in which the unit lies.
+fn tries_info<R: Reader>(rt: &impl Abort, unit: &UnitHeader<R>, section: SectionId, number: u8) {
     let offset = R::Offset::from_u8(number);
-    let found = within(unit, SectionId::DebugInfo, number);
+    let found = match section {
+        SectionId::DebugInfo => Some(offset),
+        _ => None,
+    };
     assert_eq!(rt;
         DebugInfoOffset(offset).to_unit_section_offset(unit),
         found.map(UnitSectionOffset)
@@ -120,10 +121,13 @@ fn tries_info<R: Reader>(rt: &impl Abort, unit: &UnitHeader<R>, number: u8) {
     );
 }
 
-// Tries an offset of `.debug_types`, and the same of the unit's section.
-fn tries_types<R: Reader>(rt: &impl Abort, unit: &UnitHeader<R>, number: u8) {
+// Tries an offset of `.debug_types`, and the same of the section in which the unit lies.
+fn tries_types<R: Reader>(rt: &impl Abort, unit: &UnitHeader<R>, section: SectionId, number: u8) {
     let offset = R::Offset::from_u8(number);
-    let found = within(unit, SectionId::DebugTypes, number);
+    let found = match section {
+        SectionId::DebugTypes => Some(offset),
+        _ => None,
+    };
     assert_eq!(rt;
         DebugTypesOffset(offset).to_unit_section_offset(unit),
         found.map(UnitSectionOffset)
@@ -140,8 +144,8 @@ fn keeps_offsets_of_a_section<R: Reader>(rt: &impl Abort, entries: &R) {
     for section in SECTIONS {
         let unit = unit_in(rt, section, entries.copy());
         for number in [0x00, 0x1f, 0x20, 0x2b, 0x33, 0x34, 0xff] {
-            tries_info(rt, &unit, number);
-            tries_types(rt, &unit, number);
+            tries_info(rt, &unit, section, number);
+            tries_types(rt, &unit, section, number);
         }
     }
 }
@@ -172,9 +176,14 @@ fn in_sections<R: Reader>(
     )
 }
 
-// Tries an offset of the unit, with what it is in the unit's section.
-fn tries_offset_of_unit<R: Reader>(rt: &impl Abort, unit: &UnitHeader<R>, number: u8, found: u64) {
-    let section = unit.section();
+// Tries an offset of the unit, with what it is in the section in which the unit lies.
+fn tries_offset_of_unit<R: Reader>(
+    rt: &impl Abort,
+    unit: &UnitHeader<R>,
+    section: SectionId,
+    number: u8,
+    found: u64,
+) {
     let wanted = match section {
         SectionId::DebugInfo => (found, Some(found), None),
         SectionId::DebugTypes => (found, None, Some(found)),
@@ -197,7 +206,7 @@ fn finds_offsets_of_sections<R: Reader>(rt: &impl Abort, entries: &R) {
     for section in SECTIONS {
         let unit = unit_in(rt, section, entries.copy());
         for (number, found) in rows {
-            tries_offset_of_unit(rt, &unit, number, found);
+            tries_offset_of_unit(rt, &unit, section, number, found);
         }
     }
 }

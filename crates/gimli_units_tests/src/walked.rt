@@ -144,7 +144,7 @@ pub(crate) fn tries_step<R: Reader, A: Allocator>(
     assert_eq!(rt; take(cursor, step), wanted, "{step:?}");
 }
 
-/// Tries where a cursor stands, behind a step that answered something.
+/// Tries where a cursor stands; what is wanted says the answer `Ok(true)`, as if a step had led there.
 pub(crate) fn stands<R: Reader, A: Allocator>(
     rt: &impl Abort,
     cursor: &EntriesCursor<'_, R, A>,

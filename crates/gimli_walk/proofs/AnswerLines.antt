@@ -4,6 +4,7 @@ use Rattle.std.specs.Prelude.{if◌then◌else◌, IfOk}
 use Rattle.std.specs.List.{list_any}
 use Rattle.std.specs.Result.{is_err}
 use Rattle.std.proofs.lemmas.List.{length-map, map-append}
+use Rattle.gimli_base.specs.declared.error.Error.{Error}
 use Rattle.gimli_base.specs.View.{View}
 use Rattle.gimli_base.specs.Abbreviations.{Map}
 use Rattle.gimli_units.specs.Unit.{UnitView, whole_length}
@@ -11,7 +12,7 @@ use Rattle.gimli_walk.specs.declared.cursor.CursorStep.{CursorStep}
 use Rattle.gimli_walk.specs.declared.cursor.CursorAnswer.{CursorAnswer}
 use Rattle.gimli_walk.specs.Runs.{IsFront}
 use Rattle.gimli_walk.specs.Lines.{WroteRun}
-use Rattle.gimli_walk.specs.Cursors.{Answer, seen, start_of, unit_rows_at, answers_at, answers_text, answer_line, status_of, run_answers, RunsAs, IsStopped, IsCut}
+use Rattle.gimli_walk.specs.Cursors.{Answer, seen, start_of, unit_rows_at, answers_at, answers_text, answer_line, status_of, run_answers, HoldsFrom, RunsAs, IsStopped, IsCut}
 use Rattle.gimli_walk.proofs.CursorTruth.{answers_length}
 use Rattle.gimli_walk.specs.Text.{Wrote, all_lines, some_lines}
 
@@ -32,9 +33,12 @@ take_front [] (y ∷ ys) = refl
 take_front (x ∷ xs) ys = ap (λ l. x ∷ l) (take_front xs ys)
 
 -- the answers of a run, by what they stand for, are as many
+pub stops_by : {X Y : Type 0} → (f : X → Y) (items : List X) (stopped : Bool) (steps : ℕ) → IsStopped stopped (length items) steps → IsStopped stopped (length (map f items)) steps
+stops_by f items stopped steps h = rw (length-map items f) h
+
 pub is_cut : {X Y : Type 0} → (f : X → Y) (items : List X) (stopped : Bool) (steps : ℕ) → IsStopped stopped (length items) steps → IsCut stopped (length (map f items)) steps
-is_cut f items true steps h = inl (rw (length-map items f) h)
-is_cut f items false steps h = length-map items f ∙ h
+is_cut f items true steps h = inl (stops_by f items true steps h)
+is_cut f items false steps h = stops_by f items false steps h
 
 -- the lines of a run are those of all answers, or some from the front
 pub run_wrote : {X : Type 0} → (line : X → List ℕ) (status_by : List X → ℕ) (old new : Option (List ℕ)) (xs all : List X) (stopped : Bool) (steps status : ℕ) → IsFront xs all
@@ -58,6 +62,11 @@ run_text limit u declared steps old new xs stopped status runs stop h =
 pub if_ok : {E : Type 0} {P Q : ℕ → Type 0} → (r : Result ℕ E) → ((n : ℕ) → P n → Q n) → IfOk r P → IfOk r Q
 if_ok (Ok n) f p = f n p
 if_ok (Err e) f p = p
+
+-- two facts of a start are one
+pub both_from : (P Q : View → Type 0) (r : Result View Error) → HoldsFrom r P → HoldsFrom r Q → HoldsFrom r (λ v. P v × Q v)
+both_from P Q (Ok v) p q = (p, q)
+both_from P Q (Err e) p q = p
 
 -- the same, by the code's answers
 pub run_lines : {R A O E : Type 0} → (f : R → View) (g : O → ℕ) (limit : ℕ) (u : UnitView) (declared : Map) (steps : List CursorStep) (old new : Option (List ℕ))

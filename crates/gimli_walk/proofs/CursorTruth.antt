@@ -1,32 +1,27 @@
--- What the answers of a run are: the definition's where the rows are honest, and true in any case.
-use Rattle.std.proofs.Common.{◌≡◌, ℕ, suc, ◌<◌, ◌≤◌, ◌++◌, ℤ, pos, Bool, true, false, List, [], ◌∷◌, length, length-append, Option, Some, None, Result, Ok, Err, refl, sym, ap, ◌∙◌, subst, arith}
-use Rattle.std.specs.Prelude.{◌||◌, ◌&&◌, nat_le, if◌then◌else◌}
-use Rattle.std.proofs.lemmas.Bool.{leb-true}
+-- What the answers of a run are where the rows are honest: the definition's.
+use Rattle.std.proofs.Common.{◌≡◌, ℕ, suc, ◌<◌, ◌≤◌, ◌++◌, ℤ, pos, Bool, true, false, List, [], ◌∷◌, length, length-append, Option, Some, None, Result, Ok, Err, refl, sym, ap, ◌∙◌, arith}
+use Rattle.std.specs.Prelude.{◌||◌}
 use Rattle.gimli_base.specs.declared.error.Error.{Error}
 use Rattle.gimli_base.specs.declared.error.Error.TheVariants.{OutOfMemory}
 use Rattle.gimli_base.specs.Reading.{UnlessMemory}
 use Rattle.gimli_base.specs.Table.{Table, found}
 use Rattle.std.proofs.lemmas.List.{append-nil}
 use Rattle.gimli_base.specs.Offset.{answer_of}
-use Rattle.gimli_base.specs.Both.{both}
 use Rattle.gimli_base.specs.View.{View}
-use Rattle.gimli_units.specs.Entry.{Entry, is_null}
-use Rattle.gimli_units.specs.RawPlace.{RawPlace, next_offset_of}
-use Rattle.gimli_units.specs.Unit.{UnitView, whole_length, range_from, entries_in, entries_from, unit_entry_at}
+use Rattle.gimli_units.specs.RawPlace.{RawPlace}
+use Rattle.gimli_units.specs.Unit.{UnitView, whole_length, range_from, entries_in, entries_from}
 use Rattle.gimli_units.specs.CursorStart.{before_first, raw_start, cursor_start}
-use Rattle.gimli_units.specs.Kind.{kind_of}
-use Rattle.gimli_units.specs.Honest.{target, within, usable}
-use Rattle.gimli_units.specs.CursorPlace.{Place, Moved, some_of, next_offset, first_of_rows}
-use Rattle.gimli_units.specs.CursorMoves.{CursorView, rows_of, rows_from, place_of, last_row, followed_to, Goes}
-use Rattle.gimli_units.specs.CursorLaw.{StandsIn, start_stands, step_stands, unit_rows, entry_law, null_law, refusal_law}
+use Rattle.gimli_units.specs.CursorPlace.{Place, Moved, some_of, next_offset}
+use Rattle.gimli_units.specs.CursorMoves.{CursorView, rows_of, place_of, Goes}
+use Rattle.gimli_units.specs.CursorLaw.{StandsIn, start_stands}
 use Rattle.gimli_units.specs.PlaceLaw.{IsHonestCursor, honest_start, offset_is, depth_is, honest_for, honest_next, honest_dfs, honest_sibling}
 use Rattle.gimli_walk.specs.declared.cursor.CursorStep.{CursorStep}
 use Rattle.gimli_walk.specs.declared.cursor.CursorStep.TheVariants.{NextEntry, NextDfs, NextSibling}
 use Rattle.gimli_walk.specs.Runs.{IsFront}
-use Rattle.gimli_walk.specs.Cursors.{Answer, step_of, told, answers, start_of, unit_rows_at, start_view, answers_at, run_answers, IsHonestFrom, RunsAs, IsStopped, is_sibling, any_sibling, usable_of, IsTrueAnswer, AreTrueAnswers, IsTaken, AreTakenFrom, AreTaken}
-use Rattle.gimli_walk.specs.CursorTurns.{answer_at, HasAnswered, HasRun}
+use Rattle.gimli_walk.specs.Cursors.{Answer, step_of, told, answers, start_of, unit_rows_at, start_view, answers_at, run_answers, IsHonestFrom, RunsAs, IsStopped, is_sibling, any_sibling}
+use Rattle.gimli_walk.specs.CursorTurns.{answer_at, HasRun}
 
-unless_fine : {A P : Type 0} → (r : Result A Error) → UnlessMemory r P → (r ≡ Err OutOfMemory → ⊥) → P
+pub unless_fine : {A P : Type 0} → (r : Result A Error) → UnlessMemory r P → (r ≡ Err OutOfMemory → ⊥) → P
 unless_fine (Ok a) p fine = p
 unless_fine (Err e) p fine = p (λ m. fine (ap Err m))
 
@@ -46,13 +41,13 @@ module _ (limit : ℕ) where
   honest_step NextSibling c new outcome same h is = honest_sibling limit c new outcome same h is
 
   -- the answer of a step tells where the cursor stands
-  seen_at : (outcome : Result Bool Error) (new : CursorView) → answer_at outcome new ≡ told (record { outcome = outcome; place = place_of limit new })
+  pub seen_at : (outcome : Result Bool Error) (new : CursorView) → answer_at outcome new ≡ told (record { outcome = outcome; place = place_of limit new })
   seen_at outcome new =
       let f : ℕ → ℤ → Answer = λ o d. record { outcome = outcome; current = some_of new.entry; offset = new.offset; depth = new.depth; next_offset = o; next_depth = d } in
       ap (λ o. f o new.raw.depth) (offset_is limit new.raw) ∙ ap (λ d. f (next_offset (rows_of limit new.raw)) d) (depth_is limit new.raw)
 
   -- the answer of a step is that of the place
-  told_is : (s : CursorStep) (c new : CursorView) (outcome : Result Bool Error) → Goes limit (step_of c.raw.end s) c outcome new → answer_at outcome new ≡ told (step_of c.raw.end s (place_of limit c))
+  pub told_is : (s : CursorStep) (c new : CursorView) (outcome : Result Bool Error) → Goes limit (step_of c.raw.end s) c outcome new → answer_at outcome new ≡ told (step_of c.raw.end s (place_of limit c))
   told_is s c new outcome is = seen_at outcome new ∙ ap told is
 
   -- where the rows are honest, if any step looks for a sibling, a run gives the first of the definition's answers
@@ -72,96 +67,13 @@ module _ (limit : ℕ) where
       ap (answers c.raw.end steps) (sym place) ∙ ap (λ (e : ℕ). answers e steps (place_of limit new)) (sym step.unit.end) in
       (rest.0, ap (λ xs. told (step_of c.raw.end s (place_of limit c)) ∷ xs) (others ∙ rest.1) ∙ ap (λ x. x ∷ (all ++ rest.0)) (sym first))
 
-  -- an answer is true
-  module _ (u : UnitView) (t : Table) (fits : length u.entries.bytes ≤ whole_length u) where
-    true_answer : (s : CursorStep) (c new : CursorView) (a : Answer) → StandsIn u t c → HasAnswered limit s c a new → IsTrueAnswer limit u (found t) a
-    true_answer s c new a stands answered = record {
-      entry = λ e is. entry_of_current (is_null new.entry) refl e is;
-      null = λ yes_it none.
-          let null_is = none_null (is_null new.entry) refl (sym (ap (λ (x : Answer). x.current) answered.is) ∙ none) in
-          let at = ap (λ (x : Answer). x.offset) answered.is in
-          rw at (null_law limit u t fits c stands new answered.step.unit.end (answered.step.true_entry yes_it) null_is);
-      refusal = λ x fails.
-          let at = ap (λ (y : Answer). y.offset) answered.is in
-          rw at (refusal_law limit u t fits c stands new x (λ m. answered.fine (fails ∙ ap Err m)) (answered.step.refused x fails));
-    }
-      where
-        none_null : (b : Bool) → is_null new.entry ≡ b → ◌≡◌ {A = Option Entry} (if b then None else Some new.entry) None → is_null new.entry ≡ true
-        none_null true h k = h
-        none_null false h k = absurd (cc)
-
-        took : (r : Result Bool Error) → a.outcome ≡ r → is_null new.entry ≡ false → a.outcome ≡ Ok true
-        took (Ok true) is h = is
-        took (Ok false) is h = let x : false ≡ true = sym h ∙ answered.step.none (λ k. let y : ◌≡◌ {A = Result Bool Error} (Ok false) (Ok true) = sym is ∙ k in cc) in absurd (cc)
-        took (Err e) is h = let x : false ≡ true = sym h ∙ answered.step.none (λ k. let y : ◌≡◌ {A = Result Bool Error} (Err e) (Ok true) = sym is ∙ k in cc) in absurd (cc)
-
-        entry_of_current : (b : Bool) → is_null new.entry ≡ b → (e : Entry) → a.current ≡ Some e → unit_entry_at limit u (found t) a.offset ≡ Ok e
-        entry_of_current true h e is =
-            let nothing : some_of new.entry ≡ None = rw h refl in
-            let k : ◌≡◌ {A = Option Entry} None (Some e) = sym nothing ∙ sym (ap (λ (x : Answer). x.current) answered.is) ∙ is in absurd (cc)
-        entry_of_current false h e is =
-            let some : some_of new.entry ≡ Some new.entry = rw h refl in
-            let k : ◌≡◌ {A = Option Entry} (Some new.entry) (Some e) = sym some ∙ sym (ap (λ (x : Answer). x.current) answered.is) ∙ is in
-            let one : new.entry ≡ e = cc in
-            let at = ap (λ (x : Answer). x.offset) answered.is in
-            rw (at, ← one) (entry_law limit u t fits c stands new answered.step.unit.end (answered.step.true_entry (took a.outcome refl h)) h)
-
-    -- all answers are
-    pub run_true : (steps : List CursorStep) (c : CursorView) (all : List Answer) → StandsIn u t c → HasRun limit c steps all → AreTrueAnswers limit u (found t) all
-    run_true steps c [] stands run = tt
-    run_true [] c (a ∷ all) stands run = absurd run
-    run_true (s ∷ steps) c (a ∷ all) stands (new, answered, more) =
-        (true_answer s c new a stands answered, run_true steps new all (step_stands u t c new stands answered.step.unit answered.step.further) more)
-
-    low_bound : (low high : ℕ) (o : Option ℕ) (to : ℕ) → within low high o ≡ Some to → low ≤ to
-    low_bound low high None to is = absurd (cc)
-    low_bound low high (Some x) to is = cases (nat_le low x && nat_le x high) refl is
-      where
-        cases : (b : Bool) → (nat_le low x && nat_le x high) ≡ b → ◌≡◌ {A = Option ℕ} (if b then Some x else None) (Some to) → low ≤ to
-        cases true h k = let same : x ≡ to = cc in rw (← same) (leb-true low x (both (nat_le low x) (nat_le x high) h).0)
-        cases false h k = absurd (cc)
-
-    -- a reference that an answer's entry has is the cursor's
-    usable_is : (o : Result Bool Error) (c : CursorView) → c.raw.end ≡ whole_length u → (to : ℕ) → usable_of (whole_length u) (answer_at o c) ≡ Some to → usable c.raw.end (last_row c) ≡ Some to
-    usable_is o c same to = cases (is_null c.entry) refl
-      where
-        cases : (b : Bool) → is_null c.entry ≡ b
-            → ◌≡◌ {A = Option ℕ} (elim (if b then None else Some c.entry) [ None ↦ None | Some e ↦ usable (whole_length u) (record { offset = c.offset; next = next_offset_of c.raw; depth = c.depth; entry = e }) ]) (Some to)
-            → usable c.raw.end (last_row c) ≡ Some to
-        cases true h is = absurd (cc)
-        cases false h is = let P : ℕ → Type 0 = λ n. usable n (last_row c) ≡ Some to in subst P (sym same) is
-
-    -- references are followed
-    pub run_taken_from : (steps : List CursorStep) (o : Result Bool Error) (c : CursorView) (all : List Answer) → StandsIn u t c → c.follows ≡ true → HasRun limit c steps all
-        → AreTakenFrom limit u (found t) (answer_at o c) steps all
-    run_taken_from [] o c all stands follows run = tt
-    run_taken_from (s ∷ steps) o c [] stands follows run = tt
-    run_taken_from (s ∷ steps) o c (b ∷ all) stands follows (new, answered, more) =
-        (taken, rw answered.is (run_taken_from steps b.outcome new all (step_stands u t c new stands answered.step.unit answered.step.further) (answered.step.unit.follows ∙ follows) more))
-      where
-        taken : IsTaken limit u (found t) s (answer_at o c) b
-        taken sibling to leads =
-            let used = usable_is o c stands.end to leads in
-            let follow : followed_to c ≡ Some to = rw follows used in
-            let low = low_bound (next_offset_of c.raw) c.raw.end (target (kind_of c.entry)) to used in
-            let at = unless_fine b.outcome (answered.step.taken sibling to follow) answered.fine in
-            answered.is ∙ seen_at b.outcome new ∙ ap told at
-            ∙ ap (λ n. told (first_of_rows n c.depth c.offset (rows_from limit c.raw to c.depth))) stands.end
-            ∙ ap (λ a. told (first_of_rows (whole_length u) c.depth c.offset a)) (unit_rows limit u t fits c stands to c.depth low)
-
-    pub run_taken : (steps : List CursorStep) (c : CursorView) (all : List Answer) → StandsIn u t c → c.follows ≡ true → HasRun limit c steps all → AreTaken limit u (found t) steps all
-    run_taken [] c all stands follows run = tt
-    run_taken (s ∷ steps) c [] stands follows run = tt
-    run_taken (s ∷ steps) c (a ∷ all) stands follows (new, answered, more) =
-        rw answered.is (run_taken_from steps a.outcome new all (step_stands u t c new stands answered.step.unit answered.step.further) (answered.step.unit.follows ∙ follows) more)
-
 -- there is an answer to each step
 pub answers_length : (end : ℕ) (steps : List CursorStep) (p : Place) → length (answers end steps p) ≡ length steps
 answers_length end [] p = refl
 answers_length end (s ∷ steps) p = ap suc (answers_length end steps (step_of end s p).place)
 
 -- a front of the same length is the whole
-front_whole : {T : Type 0} → (xs all : List T) → IsFront xs all → length xs ≡ length all → xs ≡ all
+pub front_whole : {T : Type 0} → (xs all : List T) → IsFront xs all → length xs ≡ length all → xs ≡ all
 front_whole {T} xs all (rest, is) same = cases rest is
   where
     cases : (rest : List T) → all ≡ xs ++ rest → xs ≡ all
@@ -169,7 +81,7 @@ front_whole {T} xs all (rest, is) same = cases rest is
     cases (x ∷ rest) is = absurd (let long = ap length is ∙ length-append xs (x ∷ rest) in omega (arith, long, same))
 
 -- the place that a cursor starts from is that of a view of the unit
-start_is : (u : UnitView) (t : Table) (start : Option ℕ) (p : RawPlace) → Ok p ≡ raw_start u t start
+pub start_is : (u : UnitView) (t : Table) (start : Option ℕ) (p : RawPlace) → Ok p ≡ raw_start u t start
     → (v : View) × (start_view u start ≡ Ok v) × (p ≡ record { rest = v; encoding = u.encoding; abbreviations = t; end = whole_length u; depth = pos 0 })
 unfolding entries_from
 start_is u t None p is = (u.entries, refl, cc)

@@ -1,10 +1,11 @@
 -- The text of a unit whose declarations are refused.
-use Rattle.std.proofs.Common.{◌≡◌, ℕ, true, List, [], ◌∷◌, sym, ap, Option, None, Result, Ok, Err, refl, arith, length, ◌⊎◌, inl, inr}
+use Rattle.std.proofs.Common.{◌≡◌, ℕ, pos, Bool, true, false, List, [], ◌∷◌, sym, ap, Option, Result, Ok, Err, refl, arith, length, ◌⊎◌, inl, inr}
 use Rattle.std.specs.Io.KnownBytes.{Appends}
 use Rattle.gimli_base.specs.declared.error.Error.{Error}
 use Rattle.gimli_base.specs.declared.error.Error.TheVariants.{UnexpectedEof, BadUnsignedLeb128, BadSignedLeb128, UnknownReservedLength, UnknownVersion, UnknownUnitType, UnsupportedAddressSize, UnsupportedSegmentSize, UnsupportedOffset, UnsupportedOffsetSize, OffsetOutOfBounds, NoEntryAtGivenOffset, InvalidAbbreviationCode, UnknownForm, InvalidImplicitConst, UnknownRangeListsEntry, UnknownLocListsEntry, AddressOverflow, AbbreviationTagZero, InvalidAbbreviationChildren, AttributeNameZero, AttributeFormZero, DuplicateAbbreviationCode, OutOfMemory}
 use Rattle.gimli_base.specs.Refusal.{number_of}
 use Rattle.gimli_base.specs.Abbreviations.{Map}
+use Rattle.gimli_units.specs.CursorPlace.{Place}
 use Rattle.gimli_units.specs.Unit.{UnitView}
 use Rattle.gimli_walk.specs.declared.mode.Mode.{Mode}
 use Rattle.gimli_walk.specs.declared.mode.Mode.TheVariants.{Rows, Cursor, Plain, Tree}
@@ -12,9 +13,10 @@ use Rattle.gimli_walk.proofs.AnswerLines.{if_ok}
 use Rattle.std.specs.Prelude.{IfOk}
 use Rattle.gimli_walk.specs.Lines.{Text, error_line, memory_line}
 use Rattle.gimli_walk.specs.Text.{Wrote, WroteText, wrote, no_line, declared_text, mode_text, IsHonestMode, IsHonestDeclared, WroteTrueMode, WroteTrueDeclared}
-use Rattle.gimli_walk.specs.declared.tree.TreeStep.{TreeStep}
-use Rattle.gimli_walk.specs.Trees.{AreTrueTolds, AreGrowing}
-use Rattle.gimli_walk.specs.TreeText.{tree_lines}
+use Rattle.gimli_walk.specs.declared.cursor.CursorStep.{CursorStep}
+use Rattle.gimli_walk.specs.Cursors.{start_of, unit_rows_at}
+use Rattle.gimli_walk.specs.TrueAnswers.{AreStepped, AreTaken}
+use Rattle.gimli_walk.specs.TreeText.{no_line as no_tree_line}
 use Rattle.gimli_walk.proofs.WrittenLines.{Wrote-only, Wrote-memory}
 
 -- a refusal is that of memory, or another
@@ -64,13 +66,10 @@ walked_declared limit mode u declared m old new r is h walked =
     let honest = rw (← is) at h in
     rw (← is) (if_ok r (λ status w. wrote w) (walked honest))
 
-no_growing : (steps : List TreeStep) → AreGrowing None steps []
-no_growing [] = tt
-no_growing (s ∷ steps) = tt
-
-no_truth : (limit : ℕ) (u : UnitView) (declared : Map) (steps : List TreeStep) → AreTrueTolds limit u declared steps []
-no_truth limit u declared [] = tt
-no_truth limit u declared (s ∷ steps) = tt
+-- what is said of all answers holds where there are none
+no_steps : (limit : ℕ) (u : UnitView) (declared : Map) (follows : Bool) (p : Place) (steps : List CursorStep) → AreStepped limit u declared follows p steps [] × AreTaken limit u declared steps []
+no_steps limit u declared follows p [] = (tt, tt)
+no_steps limit u declared follows p (s ∷ steps) = (tt, tt)
 
 -- no answer is told where the declarations are refused, be it for want of memory
 pub undeclared_true : (limit : ℕ) (mode : Mode) (u : UnitView) (m : Result Map Error) (e : Error) (old new : Option (List ℕ)) → ((e ≡ OutOfMemory → ⊥) → Err e ≡ m)
@@ -83,6 +82,10 @@ undeclared_true limit mode u (Ok declared) e old new refused h = elim (memory_or
   where
     told : (x : Mode) → Appends old new memory_line → WroteTrueMode limit x u declared old new 1
     told Rows k = tt
-    told (Cursor steps) k = record { all = []; stopped = true; count = inr refl; are_true = tt; written = (k, refl) }
-    told (Plain steps) k = record { all = []; stopped = true; count = inr refl; are_true = tt; written = (k, refl) }
-    told (Tree steps) k = tree_lines [] true (no_truth limit u declared steps.now) (no_growing steps.now) (inr refl) (k, refl)
+    told (Cursor steps) k =
+        let none = no_steps limit u declared true (start_of (unit_rows_at limit u declared (pos 0) u.entries)) steps.now in
+        record { all = []; stopped = true; count = inr refl; are_true = tt; are_stepped = none.0; are_taken = λ f. none.1; written = (k, refl) }
+    told (Plain steps) k =
+        let none = no_steps limit u declared false (start_of (unit_rows_at limit u declared (pos 0) u.entries)) steps.now in
+        record { all = []; stopped = true; count = inr refl; are_true = tt; are_stepped = none.0; are_taken = λ f. none.1; written = (k, refl) }
+    told (Tree steps) k = no_tree_line k refl

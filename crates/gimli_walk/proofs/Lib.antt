@@ -5,8 +5,10 @@ pub mod Declared
 pub mod WordLines
 pub mod CursorRuns
 pub mod CursorTruth
+pub mod AnswerTruth
 pub mod AnswerLines
 pub mod TreeRuns
 pub mod TreeTruth
 pub mod TreeTold
+pub mod TreeTurned
 pub mod TreeLines

@@ -1,11 +1,8 @@
 -- What the answers of a run of a tree are, whatever the references: true, with growing offsets, and references are taken.
-use Rattle.std.proofs.Common.{◌≡◌, ℕ, ◌-◌, ◌<◌, ◌≤◌, ◌++◌, ℤ, pos, Bool, true, false, List, [], ◌∷◌, length, length-append, Option, Some, None, Result, Ok, Err, refl, sym, ap, ◌∙◌, arith, add-zero}
-use Rattle.std.specs.Prelude.{if◌then◌else◌, nat_le, ◌&&◌, unwrap_or, IfOk}
-use Rattle.std.proofs.lemmas.List.{append-nil}
-use Rattle.std.proofs.lemmas.Bool.{leb-true}
+use Rattle.std.proofs.Common.{◌≡◌, ℕ, ◌-◌, ◌<◌, ◌≤◌, ℤ, pos, Bool, true, false, List, [], ◌∷◌, length, Option, Some, None, Result, Ok, Err, refl, sym, ap, ◌∙◌, arith}
+use Rattle.std.specs.Prelude.{if◌then◌else◌, unwrap_or}
 use Rattle.gimli_base.specs.declared.error.Error.{Error}
 use Rattle.gimli_base.specs.declared.error.Error.TheVariants.{OutOfMemory}
-use Rattle.gimli_base.specs.Both.{both}
 use Rattle.gimli_base.specs.Offset.{answer_of}
 use Rattle.gimli_base.specs.Later.{IsLater-length}
 use Rattle.gimli_base.specs.Reading.{Reads}
@@ -15,10 +12,10 @@ use Rattle.gimli_units.specs.Entry.{Entry, is_null, entry_at}
 use Rattle.gimli_units.specs.RawPlace.{RawPlace, next_offset_of}
 use Rattle.gimli_units.specs.Rows.{Ahead}
 use Rattle.gimli_units.specs.Kind.{kind_of}
-use Rattle.gimli_units.specs.Honest.{target, within, usable}
+use Rattle.gimli_units.specs.Honest.{target, usable}
 use Rattle.gimli_units.specs.Unit.{UnitView, whole_length, header_size, range_from, entries_in, entries_from, some_entry}
 use Rattle.gimli_units.specs.CursorPlace.{first_of_rows}
-use Rattle.gimli_units.specs.CursorMoves.{CursorView, next_of, rows_of, rows_from, place_of, last_row, followed_to, view_from, IsSameUnit, IsFurther}
+use Rattle.gimli_units.specs.CursorMoves.{CursorView, next_of, rows_of, rows_from, place_of, last_row, followed_to, IsSameUnit, IsFurther}
 use Rattle.gimli_units.specs.CursorStart.{before_first}
 use Rattle.gimli_units.specs.CursorLaw.{StandsIn, start_stands, step_stands, in_unit, unit_rows, entry_law, refusal_law}
 use Rattle.gimli_units.specs.TreeLaw.{unit_reads, unit_bytes}
@@ -27,29 +24,20 @@ use Rattle.gimli_units.specs.TreeMoves.{TreeView, before_root, tree_from, node_a
 use Rattle.gimli_walk.specs.declared.tree.TreeStep.{TreeStep}
 use Rattle.gimli_walk.specs.declared.tree.TreeStep.TheVariants.{Root, Next, Enter, Leave}
 use Rattle.gimli_walk.specs.Runs.{IsFront}
-use Rattle.gimli_walk.specs.Cursors.{unit_rows_at, IsHonestFrom, RunsAs, IsStopped}
-use Rattle.gimli_walk.specs.Trees.{tree_answers_at, before_steps, tree_view, run_tree_answers, IsTrueTold, AreTrueTolds, AreRoots, root_at, last_node, IsPast, IsPastLast, AreGrowing, is_next, is_root, IsTakenFrom, IsTakenBehind, AreTakenBehind}
+use Rattle.gimli_walk.specs.Cursors.{unit_rows_at, HoldsFrom, IsHonestFrom, RunsAs, IsStopped}
+use Rattle.gimli_walk.specs.Trees.{tree_answers_at, before_steps, tree_view, run_tree_answers}
+use Rattle.gimli_walk.specs.TrueTolds.{IsTrueTold, AreTrueTolds, AreRoots, root_at, last_node, IsPast, IsPastLast, AreGrowing, is_next, is_root, IsTakenFrom, IsTakenBehind, AreTakenBehind}
 use Rattle.gimli_walk.specs.TreeTurns.{Standing, at_none, told_begun, told_asked, after_asked, HasAsked, HasTurned, HasTreeRun}
-use Rattle.gimli_walk.proofs.TreeTruth.{unless_fine, tree_front, tree_answers_length}
-
--- what is read next stands at the next offset
-here_is : (p : RawPlace) → view_from p (next_offset_of p) ≡ p.rest
-here_is p = let none : next_offset_of p - next_offset_of p ≡ 0 = omega arith in ap (λ n. cut n p.rest) none ∙ rw add-zero refl
+use Rattle.gimli_walk.proofs.CursorTruth.{unless_fine, front_whole}
+use Rattle.gimli_walk.proofs.AnswerTruth.{here_is, low_bound}
+use Rattle.gimli_walk.proofs.TreeTruth.{turn_same, tree_front, tree_answers_length}
 
 -- the next offset never falls
-later_offset : (old new : CursorView) → IsSameUnit old new → IsFurther old new → next_offset_of old.raw ≤ next_offset_of new.raw
+pub later_offset : (old new : CursorView) → IsSameUnit old new → IsFurther old new → next_offset_of old.raw ≤ next_offset_of new.raw
 later_offset old new same further =
     let fewer = IsLater-length 0 old.raw.rest new.raw.rest further in
     let end = same.end in
     omega (arith, fewer, end)
-
-low_bound : (low high : ℕ) (o : Option ℕ) (to : ℕ) → within low high o ≡ Some to → low ≤ to
-low_bound low high None to is = absurd (cc)
-low_bound low high (Some x) to is = cases (nat_le low x && nat_le x high) refl is
-  where
-    cases : (b : Bool) → (nat_le low x && nat_le x high) ≡ b → ◌≡◌ {A = Option ℕ} (if b then Some x else None) (Some to) → low ≤ to
-    cases true h k = let same : x ≡ to = cc in rw (← same) (leb-true low x (both (nat_le low x) (nat_le x high) h).0)
-    cases false h k = absurd (cc)
 
 module _ (limit : ℕ) (u : UnitView) (t : Table) (fits : length u.entries.bytes ≤ whole_length u) where
   -- the entry that a cursor stands on, and its reader is right behind it
@@ -136,7 +124,7 @@ module _ (limit : ℕ) (u : UnitView) (t : Table) (fits : length u.entries.bytes
   kept b [] s Leave told new other inside turned = same_kept s new Leave told no_node turned.0 (ap (λ (x : Standing). x.tree) turned.1) inside tt
   kept b (list ∷ outer) s Leave told new other inside turned = same_kept s new Leave told has_left turned.0 (ap (λ (x : Standing). x.tree) turned.1) inside tt
 
-  turn_in : (s : Standing) (step : TreeStep) (told : Told) (new : Standing) → IsIn s → HasTurned limit step s told new → IsIn new × IsTrueTold limit u (found t) step told
+  pub turn_in : (s : Standing) (step : TreeStep) (told : Told) (new : Standing) → IsIn s → HasTurned limit step s told new → IsIn new × IsTrueTold limit u (found t) step told
   turn_in s Root told new inside r = (root_in s new r.outcome r.begun inside, rw r.is (root_true s new r.outcome r.begun r.fine inside))
   turn_in s Next told new inside turned = let k = kept s.is_on s.lists s Next told new refl inside turned in (k.is_in, k.is_true)
   turn_in s Enter told new inside turned = let k = kept s.is_on s.lists s Enter told new refl inside turned in (k.is_in, k.is_true)
@@ -152,17 +140,6 @@ module _ (limit : ℕ) (u : UnitView) (t : Table) (fits : length u.entries.bytes
       (k.1, tree_true steps new all more k.0)
 
   -- each root is the tree's
-  turn_same : (is_on : Bool) (lists : Lists) (s : Standing) (step : TreeStep) (told : Told) (new : Standing) → HasTurned limit step (record { tree = s.tree; is_on = is_on; lists = lists }) told new
-      → new.tree.start ≡ s.tree.start
-  turn_same is_on lists s Root told new r = r.begun.start
-  turn_same is_on [] s Next told new r = ap (λ (x : Standing). x.tree.start) r.1
-  turn_same is_on (None ∷ outer) s Next told new r = ap (λ (x : TreeView). x.start) r.asked.1
-  turn_same is_on (Some d ∷ outer) s Next told new r = r.asked.start
-  turn_same true lists s Enter told new r = ap (λ (x : Standing). x.tree.start) r.1
-  turn_same false lists s Enter told new r = ap (λ (x : Standing). x.tree.start) r.1
-  turn_same is_on [] s Leave told new r = ap (λ (x : Standing). x.tree.start) r.1
-  turn_same is_on (list ∷ outer) s Leave told new r = ap (λ (x : Standing). x.tree.start) r.1
-
   rooted_is : (outcome : Result (Unit {0}) Error) (old new : TreeView) → HasBegun limit old outcome new → (outcome ≡ Err OutOfMemory → ⊥)
       → told_begun outcome new ≡ (to_root old.start.end (rows_of limit old.start)).told
   rooted_is (Ok k) old new b fine = ap (λ (m : TreeMoved). m.told) (unless_fine (Ok k) b.goes fine)
@@ -180,7 +157,7 @@ module _ (limit : ℕ) (u : UnitView) (t : Table) (fits : length u.entries.bytes
   tree_roots p [] s (a ∷ all) same run = tt
   tree_roots p (step ∷ steps) s [] same run = tt
   tree_roots p (step ∷ steps) s (a ∷ all) same (new, turned, more) =
-      (is_rooted p s step a new same turned, tree_roots p steps new all (turn_same s.is_on s.lists s step a new turned ∙ same) more)
+      (is_rooted p s step a new same turned, tree_roots p steps new all (turn_same limit s.is_on s.lists s step a new turned ∙ same) more)
 
   -- the last node stands before what is read next
   abbrev IsBehindLast : Option ℕ → Standing → Type 0
@@ -307,7 +284,7 @@ module _ (limit : ℕ) (u : UnitView) (t : Table) (fits : length u.entries.bytes
       → new ≡ after_asked (Some d) outer outcome new.tree → IsHeld told new
   next_held s new told d outer (Ok true) inside g is stands =
       let y = g.sought.yes refl in
-      let on = g.sought.behind refl ∙ unit_bytes limit u t fits s.tree.cursor inside.here new.tree.cursor.offset y.0.after in
+      let on = y.0.is ∙ unit_bytes limit u t fits s.tree.cursor inside.here new.tree.cursor.offset y.0.after in
       rw is (on, refl, (outer, ap (λ (x : Standing). x.lists) stands ∙ ap (λ k. Some k ∷ outer) (sym y.2)))
   next_held s new told d outer (Ok false) inside g is stands = rw is tt
   next_held s new told d outer (Err e) inside g is stands = rw is tt
@@ -331,7 +308,7 @@ module _ (limit : ℕ) (u : UnitView) (t : Table) (fits : length u.entries.bytes
       (taken_behind before s step a new inside last turned, tree_taken steps new all (if is_next step then Some a else None) more k.0 (held s.lists s step a new inside turned))
 
 -- how a run starts
-tree_start : (u : UnitView) (t : Table) (start : Option ℕ) (p : RawPlace) → Ok p ≡ entries_from u t start
+pub tree_start : (u : UnitView) (t : Table) (start : Option ℕ) (p : RawPlace) → Ok p ≡ entries_from u t start
     → (v : View) × (tree_view u start ≡ Ok v) × (p ≡ record { rest = v; encoding = u.encoding; abbreviations = t; end = whole_length u; depth = pos 0 })
 unfolding entries_from
 tree_start u t start p is = cases (range_from u (unwrap_or start (header_size u))) is
@@ -341,7 +318,7 @@ tree_start u t start p is = cases (range_from u (unwrap_or start (header_size u)
     cases (Err x) e = absurd (cc)
 
 -- a tree is one of the entries from its start
-tree_is : (u : UnitView) (t : Table) (start : Option ℕ) (tree : TreeView) → Ok tree ≡ tree_from u t start → (p : RawPlace) × (Ok p ≡ entries_from u t start) × (tree ≡ before_root p)
+pub tree_is : (u : UnitView) (t : Table) (start : Option ℕ) (tree : TreeView) → Ok tree ≡ tree_from u t start → (p : RawPlace) × (Ok p ≡ entries_from u t start) × (tree ≡ before_root p)
 tree_is u t start tree = cases (entries_from u t start)
   where
     cases : (r : Result RawPlace Error) → Ok tree ≡ answer_of before_root r → (p : RawPlace) × (Ok p ≡ r) × (tree ≡ before_root p)
@@ -362,17 +339,9 @@ unfolding entries_from
 stands_first u t None p fits is = start_stands u t true (Some (header_size u)) p fits is
 stands_first u t (Some o) p fits is = start_stands u t true (Some o) p fits is
 
--- a front of the same length is the whole
-front_whole : {T : Type 0} → (xs all : List T) → IsFront xs all → length xs ≡ length all → xs ≡ all
-front_whole {T} xs all (rest, is) same = cases rest is
-  where
-    cases : (rest : List T) → all ≡ xs ++ rest → xs ≡ all
-    cases [] is = sym (is ∙ append-nil xs)
-    cases (x ∷ rest) is = absurd (let long = ap length is ∙ length-append xs (x ∷ rest) in omega (arith, long, same))
-
 module _ (limit : ℕ) (u : UnitView) (t : Table) (fits : length u.entries.bytes ≤ whole_length u) (start : Option ℕ) (steps : List TreeStep) (tree : TreeView) (all : List Told)
     (begins : Ok tree ≡ tree_from u t start) (run : HasTreeRun limit (at_none tree []) steps all) where
-  first_in : IsIn limit u t fits (at_none tree [])
+  pub first_in : IsIn limit u t fits (at_none tree [])
   first_in =
       let i = tree_is u t start tree begins in
       let stands = stands_first u t start i.0 fits i.1 in
@@ -381,7 +350,7 @@ module _ (limit : ℕ) (u : UnitView) (t : Table) (fits : length u.entries.bytes
   pub run_tree_true : AreTrueTolds limit u (found t) steps all
   run_tree_true = tree_true limit u t fits steps (at_none tree []) all run first_in
 
-  pub run_tree_roots : IfOk (tree_view u start) (λ v. AreRoots (root_at limit u (found t) v) steps all)
+  pub run_tree_roots : HoldsFrom (tree_view u start) (λ v. AreRoots (root_at limit u (found t) v) steps all)
   run_tree_roots =
       let i = tree_is u t start tree begins in
       let s = tree_start u t start i.0 i.1 in

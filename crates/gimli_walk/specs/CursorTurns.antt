@@ -1,12 +1,12 @@
 -- What a step does to a cursor, whatever the references, and the answers that come of it.
-use Rattle.std.specs.Prelude.{◌≡◌, ℕ, Bool, true, List, [], ◌∷◌, Some, Result, Ok, Err}
+use Rattle.std.specs.Prelude.{◌≡◌, ℕ, Bool, true, false, List, [], ◌∷◌, Some, Result, Ok, Err}
 use Rattle.gimli_base.specs.declared.error.Error.{Error}
 use Rattle.gimli_base.specs.declared.error.Error.TheVariants.{OutOfMemory}
 use Rattle.gimli_base.specs.Reading.{UnlessMemory}
 use Rattle.gimli_units.specs.Entry.{is_null}
 use Rattle.gimli_units.specs.RawPlace.{next_offset_of}
 use Rattle.gimli_units.specs.CursorPlace.{some_of, first_of_rows}
-use Rattle.gimli_units.specs.CursorMoves.{CursorView, Goes, IsHonestFor, followed_to, rows_from, IsSameUnit, IsTrueEntry, IsRefused, IsFurther}
+use Rattle.gimli_units.specs.CursorMoves.{CursorView, Goes, IsHonestFor, followed_to, rows_from, IsSameUnit, IsTrueEntry, IsRefused, IsNotFound, IsFurther}
 use Rattle.gimli_units.specs.CursorRead.{Stands}
 use Rattle.gimli_walk.specs.declared.cursor.CursorStep.{CursorStep}
 use Rattle.gimli_walk.specs.Cursors.{Answer, step_of, is_sibling}
@@ -15,6 +15,9 @@ use Rattle.gimli_walk.specs.Cursors.{Answer, step_of, is_sibling}
 pub record HasStepped (limit : ℕ) (s : CursorStep) (old : CursorView) (outcome : Result Bool Error) (new : CursorView) : Type 0 where
   pub moves : (is_sibling s ≡ true → old.follows ≡ true → IsHonestFor limit old.depth old) → UnlessMemory outcome (Goes limit (step_of old.raw.end s) old outcome new)
   pub true_entry : outcome ≡ Ok true → IsTrueEntry limit old new
+  pub idle : is_sibling s ≡ true → is_null old.entry ≡ true → (outcome ≡ Ok false) × (new ≡ old)
+  pub beside : is_sibling s ≡ true → outcome ≡ Ok true → (new.depth ≡ old.depth) × (is_null new.entry ≡ false)
+  pub not_found : is_sibling s ≡ true → outcome ≡ Ok false → is_null old.entry ≡ false → IsNotFound limit old.depth old.offset old new
   pub none : (outcome ≡ Ok true → ⊥) → is_null new.entry ≡ true
   pub refused : (e : Error) → outcome ≡ Err e → IsRefused limit old e new
   pub taken : is_sibling s ≡ true → (t : ℕ) → followed_to old ≡ Some t → Stands limit outcome new (first_of_rows old.raw.end old.depth old.offset (rows_from limit old.raw t old.depth))

@@ -5,16 +5,15 @@ use Rattle.std.specs.List.{list_any}
 use Rattle.std.specs.Result.{is_err}
 use Rattle.std.specs.Option.{option_map}
 use Rattle.gimli_base.specs.declared.error.Error.{Error}
-use Rattle.gimli_base.specs.declared.error.Error.TheVariants.{NoEntryAtGivenOffset}
 use Rattle.gimli_base.specs.Offset.{answer_of}
 use Rattle.gimli_base.specs.Refusal.{number_of}
 use Rattle.gimli_base.specs.View.{View, cut}
 use Rattle.gimli_base.specs.Abbreviations.{Map}
 use Rattle.gimli_units.specs.Entry.{Entry, entry_of, entry_at}
 use Rattle.gimli_units.specs.Rows.{Ahead, ahead_at}
-use Rattle.gimli_units.specs.Unit.{UnitView, whole_length, header_size, range_from, unit_entry_at, IsUnreadAt}
-use Rattle.gimli_units.specs.Honest.{AreHonest, usable}
-use Rattle.gimli_units.specs.CursorPlace.{Place, Moved, next_row, next_in_depth_first_order, next_of_depth, first_of_rows, next_offset, next_depth}
+use Rattle.gimli_units.specs.Unit.{UnitView, whole_length, header_size, range_from}
+use Rattle.gimli_units.specs.Honest.{AreHonest}
+use Rattle.gimli_units.specs.CursorPlace.{Place, Moved, next_row, next_in_depth_first_order, next_of_depth, next_offset, next_depth}
 use Rattle.gimli_walk.specs.declared.cursor.CursorAnswer.{CursorAnswer}
 use Rattle.gimli_walk.specs.declared.cursor.CursorStep.{CursorStep}
 use Rattle.gimli_walk.specs.declared.cursor.CursorStep.TheVariants.{NextEntry, NextDfs, NextSibling}
@@ -73,6 +72,10 @@ start_of a = record { ahead = a; current = None; offset = 0; depth = pos 0 }
 abbrev pub unit_rows_at : ℕ → UnitView → Map → ℤ → View → Ahead
 unit_rows_at limit u declared depth v = ahead_at (entry_at limit u.encoding declared) (whole_length u) depth v
 
+-- the rows of a unit from an offset on, whose place has this depth
+abbrev pub unit_rows_from : ℕ → UnitView → Map → ℕ → ℤ → Ahead
+unit_rows_from limit u declared offset depth = unit_rows_at limit u declared depth (cut (offset - header_size u) u.entries)
+
 -- the bytes from a start on: an offset, or the first entry
 abbrev pub start_view : UnitView → Option ℕ → Result View Error
 start_view u None = Ok u.entries
@@ -81,6 +84,11 @@ start_view u (Some offset) = range_from u offset
 -- the answers of a run over these steps from a view on
 abbrev pub answers_at : ℕ → UnitView → Map → List CursorStep → View → List Answer
 answers_at limit u declared steps v = answers (whole_length u) steps (start_of (unit_rows_at limit u declared (pos 0) v))
+
+-- this holds of the bytes from a start on, which is not refused
+abbrev pub HoldsFrom : Result View Error → (View → Type 0) → Type 0
+HoldsFrom (Ok v) P = P v
+HoldsFrom (Err e) P = ⊥
 
 -- the answers of a run from a start, which may be refused
 abbrev pub run_answers : ℕ → UnitView → Map → Option ℕ → List CursorStep → Result (List Answer) Error
@@ -121,40 +129,6 @@ IsStopped false count steps = count ≡ steps
 abbrev pub IsCut : Bool → ℕ → ℕ → Type 0
 IsCut true count steps = (count < steps) ⊎ (count ≡ 0)
 IsCut false count steps = count ≡ steps
-
--- An answer is true, whatever the references: its entry is what the unit has at its offset, a null or a refusal likewise.
-pub record IsTrueAnswer (limit : ℕ) (u : UnitView) (declared : Map) (a : Answer) : Type 0 where
-  pub entry : (e : Entry) → a.current ≡ Some e → unit_entry_at limit u declared a.offset ≡ Ok e
-  pub null : a.outcome ≡ Ok true → a.current ≡ None → unit_entry_at limit u declared a.offset ≡ Err (NoEntryAtGivenOffset a.offset)
-  pub refusal : (x : Error) → a.outcome ≡ Err x → IsUnreadAt limit u declared a.offset x
-
-abbrev pub AreTrueAnswers : ℕ → UnitView → Map → List Answer → Type 0
-AreTrueAnswers limit u declared [] = Unit {0}
-AreTrueAnswers limit u declared (a ∷ rest) = IsTrueAnswer limit u declared a × AreTrueAnswers limit u declared rest
-
--- where the reference of an answer's entry leads, if it can be followed
-abbrev pub usable_of : ℕ → Answer → Option ℕ
-usable_of end a = elim a.current [
-  | None ↦ None
-  | Some e ↦ usable end (record { offset = a.offset; next = a.next_offset; depth = a.depth; entry = e })
-]
-
--- An answer, and that of a step to a sibling behind it: where the first one's reference can be followed, it is followed, and the second
--- answers what stands there, with the entry's depth.
-abbrev pub IsTaken : ℕ → UnitView → Map → CursorStep → Answer → Answer → Type 0
-IsTaken limit u declared s a b = is_sibling s ≡ true → (t : ℕ) → usable_of (whole_length u) a ≡ Some t
-    → b ≡ told (first_of_rows (whole_length u) a.depth a.offset (unit_rows_at limit u declared a.depth (cut (t - header_size u) u.entries)))
-
--- references are followed, from each answer to the next
-abbrev pub AreTakenFrom : ℕ → UnitView → Map → Answer → List CursorStep → List Answer → Type 0
-AreTakenFrom limit u declared a [] rest = Unit {0}
-AreTakenFrom limit u declared a (s ∷ steps) [] = Unit {0}
-AreTakenFrom limit u declared a (s ∷ steps) (b ∷ rest) = IsTaken limit u declared s a b × AreTakenFrom limit u declared b steps rest
-
-abbrev pub AreTaken : ℕ → UnitView → Map → List CursorStep → List Answer → Type 0
-AreTaken limit u declared [] all = Unit {0}
-AreTaken limit u declared (s ∷ steps) [] = Unit {0}
-AreTaken limit u declared (s ∷ steps) (a ∷ rest) = AreTakenFrom limit u declared a steps rest
 
 -- what a step answered, before the row that it ended on
 unfoldable pub outcome_text : Result Bool Error → List ℕ

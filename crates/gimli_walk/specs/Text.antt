@@ -18,7 +18,8 @@ use Rattle.gimli_walk.specs.declared.mode.Mode.TheVariants.{Rows, Cursor, Plain,
 use Rattle.gimli_walk.specs.declared.cursor.CursorStep.{CursorStep}
 use Rattle.gimli_walk.specs.Trees.{tree_view, run_tree_answers, run_text_of}
 use Rattle.gimli_walk.specs.TreeText.{WroteTrueTree}
-use Rattle.gimli_walk.specs.Cursors.{Answer, answers_at, answers_text, any_sibling, IsHonestAt, IsHonestFrom, IsCut, AreTrueAnswers}
+use Rattle.gimli_walk.specs.Cursors.{Answer, answers_at, answers_text, any_sibling, IsHonestAt, IsHonestFrom, IsCut, start_of, unit_rows_at}
+use Rattle.gimli_walk.specs.TrueAnswers.{AreTrueAnswers, AreStepped, AreTaken}
 
 abbrev pub line_of : Row → List ℕ
 line_of r = row_line r.offset r.depth r.entry.tag.0 r.entry.has_children
@@ -117,19 +118,22 @@ pub data WroteText (old new : Option (List ℕ)) (text : Text) (status : ℕ) : 
   wrote : Wrote old new text status → WroteText old new text status
   no_line : text.lines ≡ [] → Appends old new memory_line → status ≡ 1 → WroteText old new text status
 
--- the lines of true answers, whatever the references: all of them, or, where memory was refused, the first, and then the line that says so
-pub record WroteTrue (limit : ℕ) (u : UnitView) (declared : Map) (steps : ℕ) (old new : Option (List ℕ)) (status : ℕ) : Type 0 where
+-- The lines of true answers to these steps, whatever the references: all of them, or, where memory was refused, the first, and then the line that
+-- says so.
+pub record WroteTrue (limit : ℕ) (u : UnitView) (declared : Map) (follows : Bool) (steps : List CursorStep) (old new : Option (List ℕ)) (status : ℕ) : Type 0 where
   pub all : List Answer
   pub stopped : Bool
-  pub count : IsCut stopped (length all) steps
+  pub count : IsCut stopped (length all) (length steps)
   pub are_true : AreTrueAnswers limit u declared all
+  pub are_stepped : AreStepped limit u declared follows (start_of (unit_rows_at limit u declared (pos 0) u.entries)) steps all
+  pub are_taken : follows ≡ true → AreTaken limit u declared steps all
   pub written : WroteRun old new (answers_text all) stopped status
 
 -- a mode that steps a cursor, or a tree, writes such lines
 abbrev pub WroteTrueMode : ℕ → Mode → UnitView → Map → Option (List ℕ) → Option (List ℕ) → ℕ → Type 0
 WroteTrueMode limit Rows u declared old new status = Unit {0}
-WroteTrueMode limit (Cursor steps) u declared old new status = WroteTrue limit u declared (length steps.now) old new status
-WroteTrueMode limit (Plain steps) u declared old new status = WroteTrue limit u declared (length steps.now) old new status
+WroteTrueMode limit (Cursor steps) u declared old new status = WroteTrue limit u declared true steps.now old new status
+WroteTrueMode limit (Plain steps) u declared old new status = WroteTrue limit u declared false steps.now old new status
 WroteTrueMode limit (Tree steps) u declared old new status = WroteTrueTree limit u declared steps.now old new status
 
 abbrev pub WroteTrueDeclared : ℕ → Mode → UnitView → Result Map Error → Option (List ℕ) → Option (List ℕ) → ℕ → Type 0

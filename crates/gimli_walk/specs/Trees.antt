@@ -1,17 +1,15 @@
 -- The answers of a list of steps of a tree, and their text (DWARF 5, 2.3).
-use Rattle.std.specs.Prelude.{◌≡◌, ℕ, ◌-◌, ◌<◌, ℤ, pos, Bool, true, false, if◌then◌else◌, ◌++◌, List, [], ◌∷◌, map, codes, unwrap_or, Option, Some, None, Result, Ok, Err}
+use Rattle.std.specs.Prelude.{ℕ, ℤ, pos, Bool, true, false, if◌then◌else◌, ◌++◌, List, [], ◌∷◌, map, codes, unwrap_or, Option, None, Result, Ok, Err}
 use Rattle.std.specs.List.{list_any}
 use Rattle.gimli_base.specs.declared.error.Error.{Error}
 use Rattle.gimli_base.specs.Offset.{answer_of}
 use Rattle.gimli_base.specs.Refusal.{number_of}
-use Rattle.gimli_base.specs.View.{View, cut}
+use Rattle.gimli_base.specs.View.{View}
 use Rattle.gimli_base.specs.Abbreviations.{Map}
-use Rattle.gimli_units.specs.Entry.{Entry, entry_of, entry_at}
-use Rattle.gimli_units.specs.Rows.{Ahead, offset_of_view}
-use Rattle.gimli_units.specs.Unit.{UnitView, whole_length, header_size, in_bounds, range_from, unit_entry_at, IsUnreadAt}
-use Rattle.gimli_units.specs.Honest.{usable}
-use Rattle.gimli_units.specs.CursorPlace.{first_of_rows}
-use Rattle.gimli_units.specs.TreePlace.{TreePlace, Told, a_node, list_end, has_entered, has_left, no_node, a_fault, TreeMoved, to_root, to_next, to_enter, to_leave, found_in}
+use Rattle.gimli_units.specs.Entry.{entry_of}
+use Rattle.gimli_units.specs.Rows.{Ahead}
+use Rattle.gimli_units.specs.Unit.{UnitView, whole_length, header_size, range_from}
+use Rattle.gimli_units.specs.TreePlace.{TreePlace, Told, a_node, list_end, has_entered, has_left, no_node, a_fault, TreeMoved, to_root, to_next, to_enter, to_leave}
 use Rattle.gimli_walk.specs.declared.tree.TreeAnswer.{TreeAnswer}
 use Rattle.gimli_walk.specs.declared.tree.TreeAnswer.TheVariants.{Node as NodeAnswer, End, Entered, Left, NoNode, Fault}
 use Rattle.gimli_walk.specs.declared.tree.TreeStep.{TreeStep}
@@ -59,89 +57,6 @@ tree_view u start = range_from u (unwrap_or start (header_size u))
 -- the answers of a run from a start, which may be refused
 abbrev pub run_tree_answers : ℕ → UnitView → Map → Option ℕ → List TreeStep → Result (List Told) Error
 run_tree_answers limit u declared start steps = answer_of (tree_answers_at limit u declared steps) (tree_view u start)
-
--- An answer is one that its step can give, and true whatever the references: a node's entry is what the unit has at its offset; what is
--- refused stands in the bounds of the unit; a null is refused as a root alone.
-abbrev pub IsTrueTold : ℕ → UnitView → Map → TreeStep → Told → Type 0
-IsTrueTold limit u declared Root (a_node n) = unit_entry_at limit u declared n.offset ≡ Ok n.entry
-IsTrueTold limit u declared Root (a_fault e) = (offset : ℕ) × (in_bounds u offset ≡ true) × (unit_entry_at limit u declared offset ≡ Err e)
-IsTrueTold limit u declared Root told = ⊥
-IsTrueTold limit u declared Next (a_node n) = unit_entry_at limit u declared n.offset ≡ Ok n.entry
-IsTrueTold limit u declared Next (a_fault e) = (offset : ℕ) × IsUnreadAt limit u declared offset e
-IsTrueTold limit u declared Next list_end = Unit {0}
-IsTrueTold limit u declared Next no_node = Unit {0}
-IsTrueTold limit u declared Next told = ⊥
-IsTrueTold limit u declared Enter has_entered = Unit {0}
-IsTrueTold limit u declared Enter no_node = Unit {0}
-IsTrueTold limit u declared Enter told = ⊥
-IsTrueTold limit u declared Leave has_left = Unit {0}
-IsTrueTold limit u declared Leave no_node = Unit {0}
-IsTrueTold limit u declared Leave told = ⊥
-
-abbrev pub AreTrueTolds : ℕ → UnitView → Map → List TreeStep → List Told → Type 0
-AreTrueTolds limit u declared steps [] = Unit {0}
-AreTrueTolds limit u declared [] (a ∷ rest) = ⊥
-AreTrueTolds limit u declared (s ∷ steps) (a ∷ rest) = IsTrueTold limit u declared s a × AreTrueTolds limit u declared steps rest
-
-abbrev pub is_root : TreeStep → Bool
-is_root Root = true
-is_root Next = false
-is_root Enter = false
-is_root Leave = false
-
-abbrev pub is_next : TreeStep → Bool
-is_next Root = false
-is_next Next = true
-is_next Enter = false
-is_next Leave = false
-
--- Each Root answers the root.
-abbrev pub AreRoots : Told → List TreeStep → List Told → Type 0
-AreRoots root steps [] = Unit {0}
-AreRoots root [] (a ∷ rest) = Unit {0}
-AreRoots root (s ∷ steps) (a ∷ rest) = (is_root s ≡ true → a ≡ root) × AreRoots root steps rest
-
--- the root of a tree, which begins at a view
-abbrev pub root_at : ℕ → UnitView → Map → View → Told
-root_at limit u declared v = (to_root (whole_length u) (unit_rows_at limit u declared (pos 0) v)).told
-
--- the offset of the last node since the last root
-abbrev pub last_node : Option ℕ → TreeStep → Told → Option ℕ
-last_node last s (a_node n) = Some n.offset
-last_node last s told = if is_root s then None else last
-
--- a node lies past the last one, but for a root
-abbrev pub IsPast : ℕ → Told → Type 0
-IsPast last (a_node n) = last < n.offset
-IsPast last told = Unit {0}
-
-abbrev pub IsPastLast : Option ℕ → TreeStep → Told → Type 0
-IsPastLast last s a = elim last [ None ↦ Unit {0} | Some offset ↦ is_root s ≡ false → IsPast offset a ]
-
--- From a root to the next the offsets of nodes strictly grow; `last` is that of the last node.
-abbrev pub AreGrowing : Option ℕ → List TreeStep → List Told → Type 0
-AreGrowing last [] all = Unit {0}
-AreGrowing last (s ∷ steps) [] = Unit {0}
-AreGrowing last (s ∷ steps) (a ∷ all) = IsPastLast last s a × AreGrowing (last_node last s a) steps all
-
--- A node that Next gave, and the answer of the Next straight behind it: where the entry that stands at its offset has a reference that can be
--- followed, it is followed, and what stands there is answered, at the node's depth.
-abbrev pub IsTakenFrom : ℕ → UnitView → Map → Told → Told → Type 0
-IsTakenFrom limit u declared (a_node n) b = (e : Entry) (w : View) (t : ℕ) → Ok (e, w) ≡ entry_at limit u.encoding declared (cut (n.offset - header_size u) u.entries)
-    → usable (whole_length u) (record { offset = n.offset; next = offset_of_view (whole_length u) w; depth = n.depth; entry = e }) ≡ Some t
-    → b ≡ (found_in n.depth [] (first_of_rows (whole_length u) n.depth n.offset (unit_rows_at limit u declared n.depth (cut (t - header_size u) u.entries)))).told
-IsTakenFrom limit u declared told b = Unit {0}
-
--- `before` is the answer of the step before, if that was Next
-abbrev pub IsTakenBehind : ℕ → UnitView → Map → Option Told → TreeStep → Told → Type 0
-IsTakenBehind limit u declared before s b = elim before [ None ↦ Unit {0} | Some a ↦ is_next s ≡ true → IsTakenFrom limit u declared a b ]
-
--- references are followed, from each Next to the Next straight behind it
-abbrev pub AreTakenBehind : ℕ → UnitView → Map → Option Told → List TreeStep → List Told → Type 0
-AreTakenBehind limit u declared before [] all = Unit {0}
-AreTakenBehind limit u declared before (s ∷ steps) [] = Unit {0}
-AreTakenBehind limit u declared before (s ∷ steps) (a ∷ all) =
-    IsTakenBehind limit u declared before s a × AreTakenBehind limit u declared (if is_next s then Some a else None) steps all
 
 -- the line of a node
 unfoldable pub node_line : ℕ → ℤ → ℕ → Bool → List ℕ

@@ -1,6 +1,6 @@
 //! Runs of a cursor over a list of steps.
 
-ghost use Rattle.std.specs.Prelude.{◌≡◌, ℕ, ◌<◌, true, false, map, length, IfOk, IfErr, IfSome, Ok, Err, Some, Option};
+ghost use Rattle.std.specs.Prelude.{◌≡◌, ℕ, ◌<◌, true, false, pos, map, length, IfOk, IfErr, IfSome, Ok, Err, Some, Option};
 ghost use Rattle.std.specs.List.{All};
 ghost use Rattle.std.specs.Option.{option_map};
 ghost use Rattle.gimli_base.specs.declared.error.Error.{Error as SpecError};
@@ -10,11 +10,12 @@ ghost use Rattle.gimli_base.specs.Offset.{answer_of};
 ghost use Rattle.gimli_base.specs.Table.{found};
 ghost use Rattle.gimli_units.specs.Entry.{entry_of, is_null};
 ghost use Rattle.gimli_units.specs.CursorPlace.{some_of, first_of_rows};
-ghost use Rattle.gimli_units.specs.CursorMoves.{Goes, IsHonestFor, followed_to, rows_from, IsSameUnit, IsTrueEntry, IsRefused, IsFurther};
+ghost use Rattle.gimli_units.specs.CursorMoves.{Goes, IsHonestFor, followed_to, rows_from, IsSameUnit, IsTrueEntry, IsRefused, IsNotFound, IsFurther};
 ghost use Rattle.gimli_units.specs.CursorRead.{Stands};
 ghost use Rattle.gimli_units.specs.CursorStart.{cursor_start};
 ghost use Rattle.gimli_walk.specs.Runs.{IsFront};
-ghost use Rattle.gimli_walk.specs.Cursors.{seen, IsPaired, step_of, is_sibling, any_sibling, run_answers, start_view, RunsAs, IsStopped, IsHonestFrom, AreTrueAnswers, AreTaken};
+ghost use Rattle.gimli_walk.specs.Cursors.{seen, IsPaired, step_of, is_sibling, any_sibling, run_answers, start_view, HoldsFrom, RunsAs, start_of, unit_rows_at, IsStopped, IsHonestFrom};
+ghost use Rattle.gimli_walk.specs.TrueAnswers.{AreTrueAnswers, AreStepped, AreTaken};
 ghost use Rattle.gimli_walk.specs.CursorTurns.{HasStepped, HasAnswered, HasRun};
 
 use crate::Run;
@@ -58,6 +59,9 @@ fn take<R: Reader, A: Allocator>(
 ) -> Result<bool>
     ensures moves { (is_sibling step ≡ true → cursor.old.follows ≡ true → IsHonestFor R.Offset.limit cursor.old.depth cursor.old) → UnlessMemory result (Goes R.Offset.limit (step_of cursor.old.raw.end step) cursor.old result cursor.new) }
     ensures true_entry { result ≡ Ok true → IsTrueEntry R.Offset.limit cursor.old cursor.new }
+    ensures idle { is_sibling step ≡ true → is_null cursor.old.entry ≡ true → (result ≡ Ok false) × (cursor.new ≡ cursor.old) }
+    ensures beside { is_sibling step ≡ true → result ≡ Ok true → (cursor.new.depth ≡ cursor.old.depth) × (is_null cursor.new.entry ≡ false) }
+    ensures not_found { is_sibling step ≡ true → result ≡ Ok false → is_null cursor.old.entry ≡ false → IsNotFound R.Offset.limit cursor.old.depth cursor.old.offset cursor.old cursor.new }
     ensures none { (result ≡ Ok true → ⊥) → is_null cursor.new.entry ≡ true }
     ensures refused { (e : SpecError) → result ≡ Err e → IsRefused R.Offset.limit cursor.old e cursor.new }
     ensures taken { is_sibling step ≡ true → (t : ℕ) → followed_to cursor.old ≡ Some t → Stands R.Offset.limit result cursor.new (first_of_rows cursor.old.raw.end cursor.old.depth cursor.old.offset (rows_from R.Offset.limit cursor.old.raw t cursor.old.depth)) }
@@ -194,8 +198,11 @@ fn start_cursor<'abbrev, R: Reader, A: Allocator + Copy>(
 /// The answers of a cursor from a start, or from the first entry, to these steps; the cursor follows sibling references.
 ///
 /// Where the rows from the start are honest, or no step looks for a sibling, they are the definition's answers. Whatever the
-/// references, each is true: its entry is what the unit has at its offset. Refusal: `OffsetOutOfBounds` of the start. Where
-/// memory is refused the run is stopped, and holds the answers before.
+/// references, each is true: its entry is what the unit has at its offset, and what is read next stands behind it. And each is
+/// that of its step from the place behind the answer before, but for a sibling that is sought by references that are not
+/// honest, which stands ahead all the same. A `NextSibling` straight behind an entry follows its reference where it can be
+/// followed. Refusal: `OffsetOutOfBounds` of the start. Where memory is refused the run is stopped, and holds the answers
+/// before.
 pub fn run_cursor<R: Reader, A: Allocator + Copy>(
     alloc: A,
     unit: &UnitHeader<R>,
@@ -205,6 +212,7 @@ pub fn run_cursor<R: Reader, A: Allocator + Copy>(
 ) -> Result<Run<CursorAnswer<R, A>, A>>
     ensures answers { (any_sibling steps.now ≡ true → IsHonestFrom R.Offset.limit (⟦<UnitHeader<R> as HasUnit>⟧.unit unit.now) (found abbreviations.now) (start_view (⟦<UnitHeader<R> as HasUnit>⟧.unit unit.now) (option_map (λ o. R.Offset.number o.0) start))) → RunsAs (answer_of (λ r. (map (seen R.view R.Offset.number) r.answers.items, r.stopped)) result) (run_answers R.Offset.limit (⟦<UnitHeader<R> as HasUnit>⟧.unit unit.now) (found abbreviations.now) (option_map (λ o. R.Offset.number o.0) start) steps.now) }
     ensures true_answers { IfOk result (λ r. AreTrueAnswers R.Offset.limit (⟦<UnitHeader<R> as HasUnit>⟧.unit unit.now) (found abbreviations.now) (map (seen R.view R.Offset.number) r.answers.items)) }
+    ensures steps { IfOk result (λ r. HoldsFrom (start_view (⟦<UnitHeader<R> as HasUnit>⟧.unit unit.now) (option_map (λ o. R.Offset.number o.0) start)) (λ v. AreStepped R.Offset.limit (⟦<UnitHeader<R> as HasUnit>⟧.unit unit.now) (found abbreviations.now) true (start_of (unit_rows_at R.Offset.limit (⟦<UnitHeader<R> as HasUnit>⟧.unit unit.now) (found abbreviations.now) (pos 0) v)) steps.now (map (seen R.view R.Offset.number) r.answers.items))) }
     ensures taken { IfOk result (λ r. AreTaken R.Offset.limit (⟦<UnitHeader<R> as HasUnit>⟧.unit unit.now) (found abbreviations.now) steps.now (map (seen R.view R.Offset.number) r.answers.items)) }
     ensures refused { IfErr result (λ e. start_view (⟦<UnitHeader<R> as HasUnit>⟧.unit unit.now) (option_map (λ o. R.Offset.number o.0) start) ≡ Err e) }
     ensures paired { IfOk result (λ r. All (IsPaired R.Offset.number) r.answers.items) }
@@ -227,6 +235,7 @@ pub fn run_cursor_plain<R: Reader, A: Allocator + Copy>(
 ) -> Result<Run<CursorAnswer<R, A>, A>>
     ensures answers { RunsAs (answer_of (λ r. (map (seen R.view R.Offset.number) r.answers.items, r.stopped)) result) (run_answers R.Offset.limit (⟦<UnitHeader<R> as HasUnit>⟧.unit unit.now) (found abbreviations.now) (option_map (λ o. R.Offset.number o.0) start) steps.now) }
     ensures true_answers { IfOk result (λ r. AreTrueAnswers R.Offset.limit (⟦<UnitHeader<R> as HasUnit>⟧.unit unit.now) (found abbreviations.now) (map (seen R.view R.Offset.number) r.answers.items)) }
+    ensures steps { IfOk result (λ r. HoldsFrom (start_view (⟦<UnitHeader<R> as HasUnit>⟧.unit unit.now) (option_map (λ o. R.Offset.number o.0) start)) (λ v. AreStepped R.Offset.limit (⟦<UnitHeader<R> as HasUnit>⟧.unit unit.now) (found abbreviations.now) false (start_of (unit_rows_at R.Offset.limit (⟦<UnitHeader<R> as HasUnit>⟧.unit unit.now) (found abbreviations.now) (pos 0) v)) steps.now (map (seen R.view R.Offset.number) r.answers.items))) }
     ensures refused { IfErr result (λ e. start_view (⟦<UnitHeader<R> as HasUnit>⟧.unit unit.now) (option_map (λ o. R.Offset.number o.0) start) ≡ Err e) }
     ensures paired { IfOk result (λ r. All (IsPaired R.Offset.number) r.answers.items) }
     ensures stopped { IfOk result (λ r. IsStopped r.stopped (length r.answers.items) (length steps.now)) }

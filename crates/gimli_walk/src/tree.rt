@@ -10,8 +10,9 @@ ghost use Rattle.gimli_units.specs.Entry.{entry_of, is_null};
 ghost use Rattle.gimli_units.specs.TreePlace.{Lists, a_node, a_fault};
 ghost use Rattle.gimli_units.specs.TreeMoves.{TreeView, list_of};
 ghost use Rattle.gimli_walk.specs.declared.tree.TreeStep.TheVariants.{Root, Enter};
-ghost use Rattle.gimli_walk.specs.Cursors.{IsHonestFrom, RunsAs, IsStopped};
-ghost use Rattle.gimli_walk.specs.Trees.{told_by, tolds_by, tree_view, run_tree_answers, AreTrueTolds, AreRoots, root_at, AreGrowing, AreTakenBehind};
+ghost use Rattle.gimli_walk.specs.Cursors.{HoldsFrom, IsHonestFrom, RunsAs, IsStopped};
+ghost use Rattle.gimli_walk.specs.Trees.{told_by, tolds_by, tree_view, run_tree_answers};
+ghost use Rattle.gimli_walk.specs.TrueTolds.{AreTrueTolds, AreRoots, root_at, AreTurnedFrom, AreGrowing, AreTakenBehind};
 ghost use Rattle.gimli_walk.specs.TreeTurns.{at_node, at_none, WasAsked, HasTreeRun, HasWalked, enters, asks_lists};
 ghost use Rattle.gimli_walk.specs.TreeFound.{HasFound, HasFoundRoot};
 
@@ -334,9 +335,10 @@ fn run_steps<R: Reader, A: Allocator + Copy>(
 ///
 /// Where the rows from the start are honest they are the definition's answers. Whatever the references, each is one that its
 /// step can give, and true: a node's entry is what the unit has at its offset, each root is the tree's, and from a root to the
-/// next the offsets of nodes grow. Each list that is open
-/// takes a nested call, so that a walk takes as much of the machine's stack as it goes deep. Refusal: `OffsetOutOfBounds` of
-/// the start. Where memory is refused the run is stopped, and holds the answers before.
+/// next the offsets of nodes grow. And each step leads from where the one before stood to where the definition says, but for a
+/// node that is sought by references that are not honest, which stands ahead all the same. Each list that is open takes a nested
+/// call, so that a walk takes as much of the machine's stack as it goes deep. Refusal: `OffsetOutOfBounds` of the start. Where
+/// memory is refused the run is stopped, and holds the answers before.
 pub fn run_tree<R: Reader, A: Allocator + Copy>(
     alloc: A,
     unit: &UnitHeader<R>,
@@ -346,7 +348,8 @@ pub fn run_tree<R: Reader, A: Allocator + Copy>(
 ) -> Result<Run<TreeAnswer<R, A>, A>>
     ensures answers { IsHonestFrom R.Offset.limit (⟦<UnitHeader<R> as HasUnit>⟧.unit unit.now) (found abbreviations.now) (tree_view (⟦<UnitHeader<R> as HasUnit>⟧.unit unit.now) (option_map (λ o. R.Offset.number o.0) start)) → RunsAs (answer_of (λ r. (tolds_by R.view R.Offset.number r.answers.items, r.stopped)) result) (run_tree_answers R.Offset.limit (⟦<UnitHeader<R> as HasUnit>⟧.unit unit.now) (found abbreviations.now) (option_map (λ o. R.Offset.number o.0) start) steps.now) }
     ensures true_answers { IfOk result (λ r. AreTrueTolds R.Offset.limit (⟦<UnitHeader<R> as HasUnit>⟧.unit unit.now) (found abbreviations.now) steps.now (tolds_by R.view R.Offset.number r.answers.items)) }
-    ensures roots { IfOk result (λ r. IfOk (tree_view (⟦<UnitHeader<R> as HasUnit>⟧.unit unit.now) (option_map (λ o. R.Offset.number o.0) start)) (λ v. AreRoots (root_at R.Offset.limit (⟦<UnitHeader<R> as HasUnit>⟧.unit unit.now) (found abbreviations.now) v) steps.now (tolds_by R.view R.Offset.number r.answers.items))) }
+    ensures roots { IfOk result (λ r. HoldsFrom (tree_view (⟦<UnitHeader<R> as HasUnit>⟧.unit unit.now) (option_map (λ o. R.Offset.number o.0) start)) (λ v. AreRoots (root_at R.Offset.limit (⟦<UnitHeader<R> as HasUnit>⟧.unit unit.now) (found abbreviations.now) v) steps.now (tolds_by R.view R.Offset.number r.answers.items))) }
+    ensures steps { IfOk result (λ r. HoldsFrom (tree_view (⟦<UnitHeader<R> as HasUnit>⟧.unit unit.now) (option_map (λ o. R.Offset.number o.0) start)) (λ v. AreTurnedFrom R.Offset.limit (⟦<UnitHeader<R> as HasUnit>⟧.unit unit.now) (found abbreviations.now) v steps.now (tolds_by R.view R.Offset.number r.answers.items))) }
     ensures growing { IfOk result (λ r. AreGrowing None steps.now (tolds_by R.view R.Offset.number r.answers.items)) }
     ensures taken { IfOk result (λ r. AreTakenBehind R.Offset.limit (⟦<UnitHeader<R> as HasUnit>⟧.unit unit.now) (found abbreviations.now) None steps.now (tolds_by R.view R.Offset.number r.answers.items)) }
     ensures refused { IfErr result (λ e. tree_view (⟦<UnitHeader<R> as HasUnit>⟧.unit unit.now) (option_map (λ o. R.Offset.number o.0) start) ≡ Err e) }

@@ -7,6 +7,7 @@ ghost use Rattle.gimli_base.specs.Reading.{is_size};
 ghost use Rattle.gimli_lists.specs.Aranges.{ArangesPlace, next_tuple, raw_entry, converted, answer_to, first_of_tuples, next_raw_entry, next_arange, raw_entries, aranges_of};
 
 use crate::Range;
+use crate::rnglists::raw::RawRange;
 use gimli_base::{Encoding, Reader, ReaderAddress, ReaderOffset, Result};
 use std::fmt::Debug;
 use std::marker::Model;
@@ -149,9 +150,9 @@ fn next_tuple<R: Reader>(input: &mut R, address_size: u8) -> Result<Option<(u64,
         input.empty();
         return Ok(None);
     }
-    let address = input.read_address(address_size)?;
-    let length = input.read_address(address_size)?;
-    Ok(Some((address, length)))
+    // (the length has the size of an address, so that a tuple is read as a pair of addresses)
+    let pair = RawRange::parse(input, address_size)?;
+    Ok(Some((pair.begin, pair.end)))
 }
 
 // A tuple as it stands, without its end; two zeros are none.

@@ -25,7 +25,7 @@ fn tries_copies<R: Reader + PartialEq>(rt: &impl Abort, reader: R, bytes: &[u8])
 fn tries_copied_header<R: Reader + PartialEq>(
     rt: &impl Abort,
     headers: &mut ArangeHeaderIter<R>,
-    offset: u64,
+    offset: u8,
 ) {
     let mut copied = headers.copy();
     let found = header_of(rt, &mut copied);

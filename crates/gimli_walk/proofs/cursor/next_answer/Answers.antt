@@ -10,7 +10,7 @@ returns g c =
     let next_depth : to_z w64 (of_z w64 c.next_depth.result) ≡ c.next_depth.result = to_z-of_z w64 _ (record { sfits = c.next_depth.type_inv }) in
     record {
       answered = record {
-        step = record { moves = t.moves; true_entry = t.true_entry; none = t.none; refused = t.refused; taken = t.taken; further = t.further; unit = t.unit };
+        step = record { moves = t.moves; true_entry = t.true_entry; idle = t.idle; beside = t.beside; not_found = t.not_found; none = t.none; refused = t.refused; taken = t.taken; further = t.further; unit = t.unit };
         is = rw (depth, next_depth, c.in_ok-current.ensures.entry, c.offset.ensures, c.depth.ensures, c.next_offset.ensures, c.next_depth.ensures) refl;
         fine = c.wants_memory.ensures c.if-wants_memory.false;
       };

@@ -4,7 +4,8 @@ use Rattle.std.specs.Option.{option_map}
 use Rattle.gimli_units.specs.UnitKind.{map_type}
 use Rattle.gimli_units.specs.Unit.{UnitView}
 use Rattle.gimli_walk.specs.Cursors.{seen}
-use Rattle.gimli_walk.proofs.CursorTruth.{run_true, run_as, run_refused, start_refused, start_in, stopped_is}
+use Rattle.gimli_walk.proofs.CursorTruth.{run_as, run_refused, start_refused, start_in, stopped_is}
+use Rattle.gimli_walk.proofs.AnswerTruth.{run_true, run_stepped_from}
 use Rattle.gimli_walk.proofs.cursor.run_cursor_plain.Goals as goal
 
 pub returns-clause-answers : goal.returns-clause-answers
@@ -51,6 +52,22 @@ returns-clause-true_answers g c =
     } in
     let inside = start_in g.R.Offset.ReaderOffset.limit unit c.args.abbreviations.now (option_map (λ o. n o.0) c.args.start) c.args.steps.now false _ c.args.unit.now.entries_fit c.in_ok-cursor.ensures in
     run_true g.R.Offset.ReaderOffset.limit unit c.args.abbreviations.now c.args.unit.now.entries_fit c.args.steps.now _ _ inside.0 c.run_steps.ensures.run
+
+pub returns-clause-steps : goal.returns-clause-steps
+returns-clause-steps g c =
+    let n = g.R.Offset.ReaderOffset.number in
+    let unit : UnitView = record {
+      encoding = c.args.unit.now.encoding;
+      unit_length = n c.args.unit.now.unit_length;
+      kind = map_type n c.args.unit.now.unit_type;
+      abbreviations = n c.args.unit.now.debug_abbrev_offset.0;
+      section = c.args.unit.now.section;
+      offset = n c.args.unit.now.unit_offset.0;
+      entries = g.R.Reader.view c.args.unit.now.entries_buf;
+    } in
+    let start = option_map (λ o. n o.0) c.args.start in
+    let inside = start_in g.R.Offset.ReaderOffset.limit unit c.args.abbreviations.now start c.args.steps.now false _ c.args.unit.now.entries_fit c.in_ok-cursor.ensures in
+    run_stepped_from g.R.Offset.ReaderOffset.limit unit c.args.abbreviations.now c.args.unit.now.entries_fit false start c.args.steps.now _ _ inside.0 inside.1 c.in_ok-cursor.ensures c.run_steps.ensures.run
 
 pub returns-clause-stopped : goal.returns-clause-stopped
 returns-clause-stopped g c = stopped_is _ _ _ c.run_steps.ensures.stopped c.run_steps.ensures.whole

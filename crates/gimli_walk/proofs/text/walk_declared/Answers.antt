@@ -7,7 +7,7 @@ use Rattle.gimli_walk.proofs.Roots.{root_text, root_refused}
 use Rattle.gimli_walk.specs.TreeText.{tree_lines, no_tree}
 use Rattle.gimli_walk.specs.Cursors.{seen}
 use Rattle.gimli_walk.specs.Trees.{told_by}
-use Rattle.gimli_walk.proofs.AnswerLines.{if_ok, is_cut, run_lines}
+use Rattle.gimli_walk.proofs.AnswerLines.{if_ok, both_from, stops_by, is_cut, run_lines}
 use Rattle.gimli_walk.proofs.TreeLines.{tree_run_lines}
 use Rattle.gimli_walk.proofs.text.walk_declared.Goals as goal
 
@@ -74,11 +74,11 @@ returns-in-Ok-run_cursor_plain-clause-text g c h =
 
 pub returns-in-Ok-run_cursor-clause-true_lines : goal.returns-in-Ok-run_cursor-clause-true_lines
 returns-in-Ok-run_cursor-clause-true_lines g c =
-    rw c.in-Cursor.is (if_ok c.write_run.result (λ status w. record { all = _; stopped = _; count = is_cut (seen g.R.Reader.view g.R.Offset.ReaderOffset.number) c.in-Ok-run_cursor.run'.answers.items _ _ c.in-Ok-run_cursor.ensures.stopped; are_true = c.in-Ok-run_cursor.ensures.true_answers; written = w }) c.write_run.ensures)
+    rw c.in-Cursor.is (if_ok c.write_run.result (λ status w. record { all = _; stopped = _; count = is_cut (seen g.R.Reader.view g.R.Offset.ReaderOffset.number) c.in-Ok-run_cursor.run'.answers.items _ _ c.in-Ok-run_cursor.ensures.stopped; are_true = c.in-Ok-run_cursor.ensures.true_answers; are_stepped = c.in-Ok-run_cursor.ensures.steps; are_taken = λ k. c.in-Ok-run_cursor.ensures.taken; written = w }) c.write_run.ensures)
 
 pub returns-in-Ok-run_cursor_plain-clause-true_lines : goal.returns-in-Ok-run_cursor_plain-clause-true_lines
 returns-in-Ok-run_cursor_plain-clause-true_lines g c =
-    rw c.in-Plain.is (if_ok c.write_run-in-Ok-run_cursor_plain.result (λ status w. record { all = _; stopped = _; count = is_cut (seen g.R.Reader.view g.R.Offset.ReaderOffset.number) c.in-Ok-run_cursor_plain.run'.answers.items _ _ c.in-Ok-run_cursor_plain.ensures.stopped; are_true = c.in-Ok-run_cursor_plain.ensures.true_answers; written = w }) c.write_run-in-Ok-run_cursor_plain.ensures)
+    rw c.in-Plain.is (if_ok c.write_run-in-Ok-run_cursor_plain.result (λ status w. record { all = _; stopped = _; count = is_cut (seen g.R.Reader.view g.R.Offset.ReaderOffset.number) c.in-Ok-run_cursor_plain.run'.answers.items _ _ c.in-Ok-run_cursor_plain.ensures.stopped; are_true = c.in-Ok-run_cursor_plain.ensures.true_answers; are_stepped = c.in-Ok-run_cursor_plain.ensures.steps; are_taken = λ k. absurd (cc); written = w }) c.write_run-in-Ok-run_cursor_plain.ensures)
 
 pub returns-in_ok-write_error-in-Err-run_cursor-clause-true_lines : goal.returns-in_ok-write_error-in-Err-run_cursor-clause-true_lines
 returns-in_ok-write_error-in-Err-run_cursor-clause-true_lines g c = let never = c.in-Err-run_cursor.ensures.refused in absurd (cc)
@@ -102,7 +102,7 @@ returns-in-Ok-run_tree-clause-text g c h =
 
 pub returns-in-Ok-run_tree-clause-true_lines : goal.returns-in-Ok-run_tree-clause-true_lines
 returns-in-Ok-run_tree-clause-true_lines g c =
-    rw c.in-Tree.is (if_ok c.write_tree_run.result (λ status w. tree_lines _ _ c.in-Ok-run_tree.ensures.true_answers c.in-Ok-run_tree.ensures.growing (is_cut (told_by g.R.Reader.view g.R.Offset.ReaderOffset.number) c.in-Ok-run_tree.run'.answers.items _ _ c.in-Ok-run_tree.ensures.stopped) w) c.write_tree_run.ensures)
+    rw c.in-Tree.is (if_ok c.write_tree_run.result (λ status w. tree_lines _ _ c.in-Ok-run_tree.ensures.true_answers (both_from _ _ _ c.in-Ok-run_tree.ensures.roots c.in-Ok-run_tree.ensures.steps) c.in-Ok-run_tree.ensures.growing c.in-Ok-run_tree.ensures.taken (stops_by (told_by g.R.Reader.view g.R.Offset.ReaderOffset.number) c.in-Ok-run_tree.run'.answers.items _ _ c.in-Ok-run_tree.ensures.stopped) w) c.write_tree_run.ensures)
 
 pub returns-in_ok-write_error-in-Err-run_tree-clause-true_lines : goal.returns-in_ok-write_error-in-Err-run_tree-clause-true_lines
 returns-in_ok-write_error-in-Err-run_tree-clause-true_lines g c =

@@ -5,6 +5,7 @@ use Rattle.gimli_units.specs.UnitKind.{map_type}
 use Rattle.gimli_units.specs.Unit.{UnitView}
 use Rattle.gimli_walk.specs.Trees.{told_by}
 use Rattle.gimli_walk.proofs.TreeTold.{run_tree_as, run_tree_true, run_tree_roots, run_tree_growing, run_tree_taken, run_tree_refused, tree_refused}
+use Rattle.gimli_walk.proofs.TreeTurned.{run_tree_turned}
 use Rattle.gimli_walk.proofs.tree.run_tree.Goals as goal
 
 pub returns-clause-answers : goal.returns-clause-answers
@@ -63,6 +64,20 @@ returns-clause-roots g c =
       entries = g.R.Reader.view c.args.unit.now.entries_buf;
     } in
     run_tree_roots g.R.Offset.ReaderOffset.limit unit c.args.abbreviations.now c.args.unit.now.entries_fit (option_map (λ o. n o.0) c.args.start) c.args.steps.now _ _ c.in_ok-tree.ensures c.run_all_steps.ensures.run
+
+pub returns-clause-steps : goal.returns-clause-steps
+returns-clause-steps g c =
+    let n = g.R.Offset.ReaderOffset.number in
+    let unit : UnitView = record {
+      encoding = c.args.unit.now.encoding;
+      unit_length = n c.args.unit.now.unit_length;
+      kind = map_type n c.args.unit.now.unit_type;
+      abbreviations = n c.args.unit.now.debug_abbrev_offset.0;
+      section = c.args.unit.now.section;
+      offset = n c.args.unit.now.unit_offset.0;
+      entries = g.R.Reader.view c.args.unit.now.entries_buf;
+    } in
+    run_tree_turned g.R.Offset.ReaderOffset.limit unit c.args.abbreviations.now c.args.unit.now.entries_fit (option_map (λ o. n o.0) c.args.start) c.args.steps.now _ _ c.in_ok-tree.ensures c.run_all_steps.ensures.run
 
 pub returns-clause-growing : goal.returns-clause-growing
 returns-clause-growing g c =
