@@ -4,13 +4,9 @@
 #[cfg(test)]
 mod attribute;
 #[cfg(test)]
-mod callers;
-#[cfg(test)]
 mod convert;
 #[cfg(test)]
 mod counting;
-#[cfg(test)]
-mod cursor;
 #[cfg(test)]
 mod entry;
 #[cfg(test)]
@@ -19,10 +15,6 @@ mod form;
 mod header;
 #[cfg(test)]
 mod hostile;
-#[cfg(test)]
-mod long;
-#[cfg(test)]
-mod memory;
 #[cfg(test)]
 mod names;
 #[cfg(test)]
@@ -35,9 +27,3 @@ mod rows;
 mod samples;
 #[cfg(test)]
 mod shown;
-#[cfg(test)]
-mod siblings;
-#[cfg(test)]
-mod tree;
-#[cfg(test)]
-mod walked;

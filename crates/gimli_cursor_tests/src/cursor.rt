@@ -2,13 +2,14 @@ use crate::samples::{
     NESTED_STRINGS, SIBLINGS, TABLE_NESTED_STRINGS, TABLE_WITH_SIBLINGS, input, table_of, unit_of,
     whole,
 };
-use crate::shown::show_raw;
 use crate::walked::{
     Step, Stood, Walk, Way, begin, clone_of, no, null, refused, shown, stands, take,
     tries_either_way, tries_step, yes,
 };
 use gimli_base::{Abbreviations, DwAt, Error, LittleEndian, Reader, ReaderOffset};
-use gimli_units::{Attribute, DebuggingInformationEntry, EntriesCursor, UnitHeader, UnitOffset};
+use gimli_units::{
+    Attribute, AttributeValue, DebuggingInformationEntry, EntriesCursor, UnitHeader, UnitOffset,
+};
 use std::alloc::Global;
 use std::process::Abort;
 use std::test::Fail;
@@ -325,10 +326,20 @@ fn next_of<'me, R: Reader>(
     cursor.next_dfs()
 }
 
-// Tries that an attribute is another.
+// The place and the length of the text that an attribute holds, as those of the entries below do.
+fn text_of<R: Reader>(attribute: &Attribute<R>) -> Option<(u64, u64)> {
+    match attribute.raw_value() {
+        AttributeValue::String(text) => Some((text.offset_id().0, text.len().into_u64())),
+        _ => None,
+    }
+}
+
+// Tries that an attribute is another, which holds a text.
 fn tries_attribute<R: Reader>(rt: &impl Abort, attribute: &Attribute<R>, other: &Attribute<R>) {
+    let text = text_of(attribute);
+    assert!(rt; text.is_some());
     assert_eq!(rt; attribute.name(), other.name());
-    assert_eq!(rt; show_raw(attribute), show_raw(other));
+    assert_eq!(rt; text, text_of(other));
 }
 
 // Tries that an entry has the parts of another, at the depth 0.

@@ -1,5 +1,5 @@
 use Rattle.std.proofs.Common.{◌≤◌, length}
-use Rattle.gimli_units_tests.proofs.callers.+count.Given as goal
+use Rattle.gimli_cursor_tests.proofs.callers.+count.Given as goal
 
 abbrev pub decreases-count_entries : goal.decreases-count_entries
 decreases-count_entries g l = length l.node.tree.now.cursor.raw.rest.bytes
