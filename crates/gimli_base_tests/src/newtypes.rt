@@ -2,8 +2,8 @@
 
 use crate::samples::hash_of;
 use gimli_base::{
-    DebugAbbrevOffset, DebugAddrIndex, DebugStrOffset, DebugTypeSignature, DwoId,
-    LocationListsOffset, ReaderOffsetId,
+    DW_AT_APPLE_sdk, DW_AT_sibling, DebugAbbrevOffset, DebugAddrIndex, DebugStrOffset,
+    DebugTypeSignature, DwoId, LocationListsOffset, ReaderOffsetId,
 };
 use std::fmt::Debug;
 use std::hash::Hash;
@@ -30,6 +30,7 @@ fn compare_by_their_number(rt: HostRuntime) {
         tries_order(&rt, DebugAbbrevOffset(low), DebugAbbrevOffset(high));
         tries_order(&rt, DebugStrOffset(low), DebugStrOffset(high));
     }
+    tries_order(&rt, DW_AT_sibling, DW_AT_APPLE_sdk);
     tries_order(&rt, DebugAddrIndex(7u32), DebugAddrIndex(u32::MAX));
     tries_order(&rt, LocationListsOffset(7usize), LocationListsOffset(8));
 }

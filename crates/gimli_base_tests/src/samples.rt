@@ -1,26 +1,23 @@
 //! The readers that the tests try, and what they ask of them.
 
-use gimli_base::{EndianSlice, Endianity, Error, Reader, ReaderOffset, ReaderOffsetId, WholeSlice};
+use gimli_base::{EndianSlice, Endianity, Error, Reader, ReaderOffsetId, WholeSlice};
 use std::hash::{DefaultHasher, Hash, Hasher};
 use std::process::Abort;
 
-/// The first place of most readers of the tests.
-pub(crate) const FIRST_PLACE: u64 = 100;
-
-/// A reader that keeps what is left of these bytes.
+/// A reader that keeps what is left of these bytes, from the place 100 on.
 pub(crate) fn part<E: Endianity>(bytes: &[u8], endian: E) -> EndianSlice<'_, E> {
     let _length = bytes.len();
-    EndianSlice::new_at(bytes, endian, FIRST_PLACE)
+    EndianSlice::new_at(bytes, endian, 100)
 }
 
-/// A reader that keeps these bytes and where in them it stands.
+/// A reader that keeps these bytes and where in them it stands, from the place 100 on.
 pub(crate) fn whole<'a, E: Endianity>(
     rt: &impl Abort,
     bytes: &'a [u8],
     endian: E,
 ) -> WholeSlice<'a, E> {
     assert!(rt; bytes.len() < 0x1_0000);
-    WholeSlice::new_at(bytes, endian, FIRST_PLACE)
+    WholeSlice::new_at(bytes, endian, 100)
 }
 
 /// The refusal of missing bytes at a place.
@@ -37,11 +34,6 @@ pub(crate) fn has_bytes<R: Reader>(reader: &R, bytes: &[u8]) -> bool {
         }
     }
     rest.is_empty()
-}
-
-/// How many bytes are left, and at which place.
-pub(crate) fn position<R: Reader>(reader: &R) -> (u64, u64) {
-    (reader.len().into_u64(), reader.offset_id().0)
 }
 
 /// What a hash function makes of a value.

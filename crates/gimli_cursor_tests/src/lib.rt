@@ -4,16 +4,12 @@
 #[cfg(test)]
 mod callers;
 #[cfg(test)]
-mod cursor;
+mod clones;
 #[cfg(test)]
 mod long;
 #[cfg(test)]
 mod memory;
 #[cfg(test)]
 mod samples;
-#[cfg(test)]
-mod siblings;
-#[cfg(test)]
-mod tree;
 #[cfg(test)]
 mod walked;

@@ -1,7 +1,7 @@
 use crate::samples::{input, table_of, unit_of, whole};
-use crate::walked::{Step, Way, begin, no, tries_step, yes};
+use crate::walked::{Step, Stood, Way, begin, none, tries_step, yes};
 use gimli_base::{Abbreviations, LittleEndian, Reader};
-use gimli_units::UnitHeader;
+use gimli_units::{EntriesCursor, UnitHeader};
 use std::alloc::{AllocError, Global};
 use std::process::Abort;
 use std::test::Fail;
@@ -9,8 +9,8 @@ use std::test::Fail;
 // The number of the entries, as an offset.
 const COUNT: u32 = 10_000;
 
-// Code 1: the tag 0x2e, and children. Code 2: the tag 0x34 alone. Code 3: the tag 0x2e, children, and a reference of four
-// bytes.
+// Code 1: the tag 0x2e, and children. Code 2: the tag 0x34 alone. Code 3: the tag 0x2e, children, and a reference of
+// four bytes.
 const TABLE: [u8; 18] = [
     0x01, 0x2e, 0x01, 0x00, 0x00, 0x02, 0x34, 0x00, 0x00, 0x00, 0x03, 0x2e, 0x01, 0x01, 0x13, 0x00,
     0x00, 0x00,
@@ -39,8 +39,8 @@ fn goes_down<R: Reader>(
     unit: &UnitHeader<R>,
     table: &Abbreviations<Global>,
     way: Way,
-) -> Result<(), Fail> {
-    let mut cursor = begin(alloc, unit, table, way, None)?;
+) {
+    let mut cursor = begin(alloc, unit, table, way);
     for number in 0..COUNT {
         let place = (11 + u64::from(number), number as isize);
         let next = (place.0 + 1, place.1 + 1);
@@ -48,9 +48,19 @@ fn goes_down<R: Reader>(
         tries_step(rt, &mut cursor, Step::Dfs, wanted);
     }
     let end = 11 + 2 * u64::from(COUNT);
-    let wanted = no((end - 1, 1), (end, 0), 2 * COUNT as usize);
+    let wanted = none(None, (end - 1, 1), (end, 0), 2 * COUNT as usize);
     tries_step(rt, &mut cursor, Step::Dfs, wanted);
-    Ok(())
+}
+
+// Tries the first entry of a unit, and its sibling.
+fn tries_two<R: Reader>(
+    rt: &impl Abort,
+    mut cursor: EntriesCursor<'_, R, Global>,
+    first: Stood,
+    wanted: Stood,
+) {
+    tries_step(rt, &mut cursor, Step::Entry, first);
+    tries_step(rt, &mut cursor, Step::Sibling, wanted);
 }
 
 // Tries to pass a whole list from its first entry on; where the cursor then stands is given.
@@ -60,13 +70,10 @@ fn passes_all<R: Reader>(
     unit: &UnitHeader<R>,
     table: &Abbreviations<Global>,
     (way, end, reads): (Way, u64, usize),
-) -> Result<(), Fail> {
-    let mut cursor = begin(alloc, unit, table, way, None)?;
+) {
     let first = yes((11, 0), PARENT, (12, 1), 1);
-    tries_step(rt, &mut cursor, Step::Entry, first);
-    let wanted = no((11, 0), (end, 0), reads);
-    tries_step(rt, &mut cursor, Step::Sibling, wanted);
-    Ok(())
+    let wanted = none(None, (11, 0), (end, 0), reads);
+    tries_two(rt, begin(alloc, unit, table, way), first, wanted);
 }
 
 fn tries_chain<R: Reader>(rt: &impl Abort, alloc: Global, entries: R) -> Result<(), Fail> {
@@ -74,9 +81,9 @@ fn tries_chain<R: Reader>(rt: &impl Abort, alloc: Global, entries: R) -> Result<
     let unit = unit_of(rt, entries);
     let end = 11 + 2 * u64::from(COUNT);
     for way in [Way::Follows, Way::Plain] {
-        goes_down(rt, alloc, &unit, &table, way)?;
+        goes_down(rt, alloc, &unit, &table, way);
         let reads = 2 * COUNT as usize;
-        passes_all(rt, alloc, &unit, &table, (way, end, reads))?;
+        passes_all(rt, alloc, &unit, &table, (way, end, reads));
     }
     Ok(())
 }
@@ -116,25 +123,21 @@ fn goes_along<R: Reader>(
     unit: &UnitHeader<R>,
     table: &Abbreviations<Global>,
     way: Way,
-) -> Result<(), Fail> {
-    let mut cursor = begin(alloc, unit, table, way, None)?;
+) {
+    let mut cursor = begin(alloc, unit, table, way);
     let first = yes((11, 0), PARENT, (12, 1), 1);
     tries_step(rt, &mut cursor, Step::Entry, first);
+    let mut step = Step::Entry;
     for number in 0..COUNT {
-        let step = if number == 0 {
-            Step::Entry
-        } else {
-            Step::Sibling
-        };
         let place = (12 + 7 * u64::from(number), 1);
         let reads = reads_up_to(way, number);
         let wanted = yes(place, LINKED, (place.0 + 5, 2), reads);
         tries_step(rt, &mut cursor, step, wanted);
+        step = Step::Sibling;
     }
     let end = 13 + 7 * u64::from(COUNT);
-    let wanted = no((end - 1, 1), (end, 0), reads_up_to(way, COUNT));
+    let wanted = none(None, (end - 1, 1), (end, 0), reads_up_to(way, COUNT));
     tries_step(rt, &mut cursor, Step::Sibling, wanted);
-    Ok(())
 }
 
 fn tries_siblings<R: Reader>(rt: &impl Abort, alloc: Global, entries: R) -> Result<(), Fail> {
@@ -142,9 +145,9 @@ fn tries_siblings<R: Reader>(rt: &impl Abort, alloc: Global, entries: R) -> Resu
     let unit = unit_of(rt, entries);
     let end = 13 + 7 * u64::from(COUNT);
     for way in [Way::Follows, Way::Plain] {
-        goes_along(rt, alloc, &unit, &table, way)?;
+        goes_along(rt, alloc, &unit, &table, way);
         let reads = reads_up_to(way, COUNT);
-        passes_all(rt, alloc, &unit, &table, (way, end, reads))?;
+        passes_all(rt, alloc, &unit, &table, (way, end, reads));
     }
     Ok(())
 }
@@ -167,50 +170,24 @@ fn false_siblings(alloc: Global) -> Result<Vec<u8>, AllocError> {
     Ok(bytes)
 }
 
-// Tries to follow each of the false references.
-fn follows_false_siblings<R: Reader>(
-    rt: &impl Abort,
-    alloc: Global,
-    unit: &UnitHeader<R>,
-    table: &Abbreviations<Global>,
-) -> Result<(), Fail> {
-    let mut cursor = begin(alloc, unit, table, Way::Follows, None)?;
-    for number in 0..COUNT {
-        let step = if number == 0 {
-            Step::Entry
-        } else {
-            Step::Sibling
-        };
-        let place = (11 + 5 * u64::from(number), 0);
-        let wanted = yes(place, LINKED, (place.0 + 5, 1), number as usize + 1);
-        tries_step(rt, &mut cursor, step, wanted);
-    }
-    let end = 11 + 5 * u64::from(COUNT);
-    let wanted = no((end - 5, 0), (end, 0), COUNT as usize);
-    tries_step(rt, &mut cursor, Step::Sibling, wanted);
-    Ok(())
-}
-
+// Tries to follow each of the false references, and that the first has no sibling by plain walking.
 fn tries_false_siblings<R: Reader>(rt: &impl Abort, alloc: Global, entries: R) -> Result<(), Fail> {
     let table = table_of(alloc, &TABLE)?;
     let unit = unit_of(rt, entries);
-    follows_false_siblings(rt, alloc, &unit, &table)?;
-    finds_no_sibling(rt, alloc, &unit, &table)
-}
-
-// By plain walking the first has no sibling.
-fn finds_no_sibling<R: Reader>(
-    rt: &impl Abort,
-    alloc: Global,
-    unit: &UnitHeader<R>,
-    table: &Abbreviations<Global>,
-) -> Result<(), Fail> {
-    let mut cursor = begin(alloc, unit, table, Way::Plain, None)?;
-    let first = yes((11, 0), LINKED, (16, 1), 1);
-    tries_step(rt, &mut cursor, Step::Entry, first);
+    let mut cursor = begin(alloc, &unit, &table, Way::Follows);
+    let mut step = Step::Entry;
+    for number in 0..COUNT {
+        let place = (11 + 5 * u64::from(number), 0);
+        let wanted = yes(place, LINKED, (place.0 + 5, 1), number as usize + 1);
+        tries_step(rt, &mut cursor, step, wanted);
+        step = Step::Sibling;
+    }
     let end = 11 + 5 * u64::from(COUNT);
-    let wanted = no((11, 0), (end, COUNT as isize), COUNT as usize);
+    let wanted = none(None, (end - 5, 0), (end, 0), COUNT as usize);
     tries_step(rt, &mut cursor, Step::Sibling, wanted);
+    let first = yes((11, 0), LINKED, (16, 1), 1);
+    let wanted = none(None, (11, 0), (end, COUNT as isize), COUNT as usize);
+    tries_two(rt, begin(alloc, &unit, &table, Way::Plain), first, wanted);
     Ok(())
 }
 

@@ -22,9 +22,6 @@ pub(crate) const NESTED_STRINGS: [u8; 18] = [
     0x00, 0x00,
 ];
 
-/// An entry whose sibling stands at 0x0f, a child, a null, and the sibling.
-pub(crate) const SIBLINGS: [u8; 5] = [0x01, 0x0f, 0x02, 0x00, 0x02];
-
 /// A reader of a unit's entries, whose first byte has the place 11, as it has the offset 11 in the unit.
 pub(crate) fn input<E: Endianity>(bytes: &[u8], endian: E) -> EndianSlice<'_, E> {
     let _length = bytes.len();
@@ -46,7 +43,8 @@ pub(crate) fn table_of(alloc: Global, bytes: &[u8]) -> Result<Abbreviations<Glob
     DebugAbbrev::new(bytes, LittleEndian).abbreviations(alloc, DebugAbbrevOffset(0))
 }
 
-/// The compilation unit of version 4, in the 32-bit format with addresses of 4 bytes, with these entries, the first of them at 11.
+/// The compilation unit of version 4, in the 32-bit format with addresses of 4 bytes, with these entries, the first of
+/// them at 11.
 pub(crate) fn unit_of<R: Reader>(rt: &impl Abort, entries: R) -> UnitHeader<R> {
     let zero = R::Offset::from_u8(0);
     let unit_length = R::Offset::from_u8(7)

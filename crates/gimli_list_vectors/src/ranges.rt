@@ -3,13 +3,15 @@
 ghost use Rattle.std.specs.Prelude.{IsTrue};
 ghost use Rattle.gimli_base.specs.Reading.{is_size};
 
-use crate::cases::Case;
-use crate::lines::write_refusal;
-use gimli_base::{DebugAddr, DebugAddrBase, RangeListsOffset, Reader, ReaderOffset, Result};
+use crate::calls::{Start, raw_start_of, start_of};
+use gimli_base::{
+    DebugAddr, DebugAddrBase, Encoding, RangeListsOffset, Reader, ReaderOffset, Result,
+};
 use gimli_lists::{
     DebugRanges, DebugRngLists, RangeLists, RawRngListEntry, RawRngListIter, RngListIter,
 };
 use std::io::{self, Write};
+use test_tables::{Case, write_refusal};
 
 // The lists of a section, which is that of the version; the other is empty.
 fn lists_of<R: Reader>(version: u16, section: R) -> RangeLists<R> {
@@ -22,41 +24,101 @@ fn lists_of<R: Reader>(version: u16, section: R) -> RangeLists<R> {
     }
 }
 
-// Both iterators over the list of a case.
+// The entries of a list as they are written.
+fn raw_ranges<R: Reader>(section: R, encoding: Encoding, offset: u64) -> Result<RawRngListIter<R>> {
+    let lists = lists_of(encoding.version, section);
+    lists.raw_ranges(RangeListsOffset(R::Offset::from_u64(offset)?), encoding)
+}
+
+// The ranges of a list.
+fn ranges<R: Reader>(start: Start, section: R, addresses: R) -> Result<RngListIter<R>>
+    requires { IsTrue (is_size start.encoding.address_size) }
+{
+    let lists = lists_of(start.encoding.version, section);
+    let offset = RangeListsOffset(R::Offset::from_u64(start.offset)?);
+    let table = DebugAddrBase(R::Offset::from_u64(start.table)?);
+    let addr = DebugAddr::from(addresses);
+    lists.ranges(offset, start.encoding, start.base, &addr, table)
+}
+
+// Both iterators over a list.
 fn iterators<R: Reader>(
-    case: &Case,
+    start: Start,
     section: R,
     addresses: R,
 ) -> Result<(RawRngListIter<R>, RngListIter<R>)>
-    requires { IsTrue (is_size case.now.encoding.address_size) }
+    requires { IsTrue (is_size start.encoding.address_size) }
 {
-    let lists = lists_of(case.encoding.version, section);
-    let offset = RangeListsOffset(R::Offset::from_u64(case.offset)?);
-    let table = DebugAddrBase(R::Offset::from_u64(case.addr_base)?);
-    let addr = DebugAddr::from(addresses);
-    let raw = lists.raw_ranges(offset, case.encoding)?;
-    let ranges = lists.ranges(offset, case.encoding, case.base, &addr, table)?;
+    let raw = raw_ranges(section.copy(), start.encoding, start.offset)?;
+    let ranges = ranges(start, section, addresses)?;
     Ok((raw, ranges))
 }
 
-/// Writes the entries of the list as they are written, and its ranges, each with the refusals where they come.
+/// Writes the entries of the list of a case as they are written, and its ranges, with the refusals where they come.
 pub(crate) fn write_ranges_of<R: Reader, W: Write>(
     out: &mut W,
     case: &Case,
     section: R,
     addresses: R,
-) -> io::Result<()>
-    requires { IsTrue (is_size case.now.encoding.address_size) }
-{
-    match iterators(case, section, addresses) {
+) -> io::Result<()> {
+    let Some(start) = start_of(case) else {
+        return write!(out, "no list");
+    };
+    match iterators(start, section, addresses) {
         Ok((raw, ranges)) => {
             write!(out, "raw")?;
             write_entries(out, raw)?;
-            write!(out, "; ranges")?;
+            write!(out, "\nranges")?;
             write_ranges(out, ranges)
         }
         Err(error) => write_refusal(out, error),
     }
+}
+
+/// Writes the entries alone, whatever the size of an address.
+pub(crate) fn write_raw_ranges_of<R: Reader, W: Write>(
+    out: &mut W,
+    case: &Case,
+    section: R,
+) -> io::Result<()> {
+    let Some((encoding, offset)) = raw_start_of(case) else {
+        return write!(out, "no list");
+    };
+    match raw_ranges(section, encoding, offset) {
+        Ok(raw) => {
+            write!(out, "raw")?;
+            write_entries(out, raw)
+        }
+        Err(error) => write_refusal(out, error),
+    }
+}
+
+/// Writes how many ranges and how many refusals the list of a case answers.
+pub(crate) fn write_range_count<R: Reader, W: Write>(
+    out: &mut W,
+    case: &Case,
+    section: R,
+    addresses: R,
+) -> io::Result<()> {
+    let Some(start) = start_of(case) else {
+        return write!(out, "no list");
+    };
+    match ranges(start, section, addresses) {
+        Ok(ranges) => write_count(out, ranges),
+        Err(error) => write_refusal(out, error),
+    }
+}
+
+fn write_count<R: Reader, W: Write>(out: &mut W, ranges: RngListIter<R>) -> io::Result<()> {
+    let mut count = 0u64;
+    let mut refused = 0u64;
+    for answer in ranges {
+        match answer {
+            Ok(_) => count = count.saturating_add(1),
+            Err(_) => refused = refused.saturating_add(1),
+        }
+    }
+    write!(out, "{count} ranges, {refused} refusals")
 }
 
 fn write_entries<R: Reader, W: Write>(out: &mut W, entries: RawRngListIter<R>) -> io::Result<()> {

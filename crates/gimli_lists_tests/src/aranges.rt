@@ -1,93 +1,25 @@
 //! Sets of ranges of addresses.
 
-use crate::samples::next_of;
-use gimli_base::{DebugArangesOffset, Encoding, Error, Format, Reader, ReaderOffset, Result};
+use crate::samples::{FIRST_PLACE, Part, has_bytes, next_of, part, whole};
+use gimli_base::{Error, LittleEndian, Reader, Result, RunTimeEndian, Section, SectionId};
 use gimli_lists::{
     ArangeEntry, ArangeEntryIter, ArangeHeader, ArangeHeaderIter, DebugAranges, Range,
 };
-use std::alloc::{AllocError, Global};
 use std::process::Abort;
+use std::test::Fail;
 
-mod copies;
-mod entries;
-mod headers;
-mod refusals;
-mod section;
+// A set whose addresses have one byte, with the tuples (1, 2), (3, 4), (0xfe, 1), (0xfd, 3) and (9, 1).
+const TURNS: [u8; 22] = [
+    0x12, 0, 0, 0, 2, 0, 1, 2, 3, 4, 1, 0, 1, 2, 3, 4, 0xfe, 1, 0xfd, 3, 9, 1,
+];
 
-// What a header shows: where its set begins, the number in its length field, the offset of its unit, and how it is read.
-#[derive(Clone, Copy, Debug)]
-struct Shown {
-    offset: u8,
-    length: u64,
-    info: u64,
-    encoding: Encoding,
-}
+// Two equal sets whose addresses have one byte, with the tuples (1, 2) and (3, 4).
+const TWO_SETS: [u8; 32] = [
+    0x0c, 0, 0, 0, 2, 0, 1, 2, 3, 4, 1, 0, 1, 2, 3, 4, 0x0c, 0, 0, 0, 2, 0, 1, 2, 3, 4, 1, 0, 1, 2,
+    3, 4,
+];
 
-// How the bytes of a set of version 2 are read.
-fn encoding(format: Format, address_size: u8) -> Encoding {
-    Encoding {
-        format,
-        version: 2,
-        address_size,
-    }
-}
-
-// Tries what a header shows.
-fn tries_header<R: Reader>(rt: &impl Abort, header: &ArangeHeader<R>, shown: Shown) {
-    assert_eq!(rt; header.offset().0.into_u64(), u64::from(shown.offset));
-    assert_eq!(rt; header.length().into_u64(), shown.length);
-    assert_eq!(rt; header.debug_info_offset().0.into_u64(), shown.info);
-    assert_eq!(rt; header.encoding(), shown.encoding);
-}
-
-// An entry as numbers: where its range begins and ends, and its length.
-type Numbers = (u64, u64, u64);
-
-// The numbers of an entry.
-fn numbers(rt: &impl Abort, entry: &ArangeEntry) -> Numbers {
-    let Range { begin, end } = entry.range();
-    assert_eq!(rt; entry.address(), begin);
-    (begin, end, entry.length())
-}
-
-// Tries the ranges that are left: their numbers or refusals, and then none, by the call and by the iterator.
-fn tries_entries<R: Reader>(
-    rt: &impl Abort,
-    entries: &ArangeEntryIter<R>,
-    wanted: &[Result<Numbers>],
-) {
-    let mut by_call = entries.copy();
-    let mut by_iterator = entries.copy();
-    for answer in wanted {
-        tries_entry(rt, &mut by_call, &mut by_iterator, *answer);
-    }
-    for _ in 0..3u8 {
-        tries_no_entry(rt, &mut by_call);
-        assert!(rt; next_of(&mut by_iterator).is_none());
-    }
-}
-
-// Tries the next range, by the call and by the iterator.
-fn tries_entry<R: Reader>(
-    rt: &impl Abort,
-    by_call: &mut ArangeEntryIter<R>,
-    by_iterator: &mut ArangeEntryIter<R>,
-    wanted: Result<Numbers>,
-) {
-    let found = by_call.next();
-    let item = next_of(by_iterator).expect(rt, "no item");
-    assert_eq!(rt; item, found.map(|entry| entry.expect(rt, "no entry")));
-    assert_eq!(rt; item.map(|entry| numbers(rt, &entry)), wanted);
-}
-
-// Tries that no entry is left.
-fn tries_no_entry<R: Reader>(rt: &impl Abort, entries: &mut ArangeEntryIter<R>) {
-    assert_eq!(rt; entries.next(), Ok(None));
-    assert_eq!(rt; entries.next_raw(), Ok(None));
-}
-
-// The next raw entry. It is asked for in a function of its own, as what follows is, since a proof carries what is known of
-// each call in the function: so a test that makes many calls is proved sooner.
+// The next raw entry.
 fn raw_entry_of<R: Reader>(rt: &impl Abort, entries: &mut ArangeEntryIter<R>) -> ArangeEntry {
     let found = entries.next_raw().expect(rt, "refused");
     found.expect(rt, "no raw entry")
@@ -105,149 +37,154 @@ fn header_of<R: Reader>(rt: &impl Abort, headers: &mut ArangeHeaderIter<R>) -> A
     found.expect(rt, "no set")
 }
 
-// The next set, by the iterator.
-fn item_of<R: Reader>(rt: &impl Abort, headers: &mut ArangeHeaderIter<R>) -> ArangeHeader<R> {
-    let item = next_of(headers).expect(rt, "no set");
-    item.expect(rt, "refused")
+// The first set of a section.
+fn first_set<R: Reader>(rt: &impl Abort, reader: R) -> ArangeHeader<R> {
+    header_of(rt, &mut DebugAranges::from(reader).headers())
 }
 
-// The set at an offset.
-fn header_at<R: Reader>(section: &DebugAranges<R>, offset: u8) -> Result<ArangeHeader<R>> {
-    section.header(DebugArangesOffset(R::Offset::from_u8(offset)))
+// Tries the range of an entry.
+fn tries_range(rt: &impl Abort, entry: &ArangeEntry, begin: u64, end: u64) {
+    assert_eq!(rt; entry.range(), Range { begin, end });
 }
 
-// Tries the raw entries that are left: where each begins, and its length; and then none.
-fn tries_raw_entries<R: Reader>(
-    rt: &impl Abort,
+// What a raw entry stands for.
+fn convert<R: Reader>(
     entries: &ArangeEntryIter<R>,
-    wanted: &[(u64, u64)],
-) {
-    let mut entries = entries.copy();
-    for (begin, length) in wanted {
-        let entry = raw_entry_of(rt, &mut entries);
-        assert_eq!(rt; numbers(rt, &entry), (*begin, 0, *length));
-    }
-    for _ in 0..3u8 {
-        tries_no_entry(rt, &mut entries);
-    }
+    raw: ArangeEntry,
+) -> Result<Option<ArangeEntry>> {
+    entries.convert_raw(raw)
 }
 
-// Tries that no set is left.
-fn tries_end<R: Reader + PartialEq>(rt: &impl Abort, mut headers: ArangeHeaderIter<R>) {
-    for _ in 0..3u8 {
-        assert_eq!(rt; headers.next(), Ok(None));
-        assert!(rt; next_of(&mut headers).is_none());
-    }
+// Tries raw entries and ranges in turn: each call goes on where the other stopped.
+fn tries_turns<R: Reader>(rt: &impl Abort, mut entries: ArangeEntryIter<R>) {
+    let raw = raw_entry_of(rt, &mut entries);
+    tries_range(rt, &raw, 1, 0);
+    let found = entry_of(rt, &mut entries);
+    tries_range(rt, &found, 3, 7);
+    let second = raw_entry_of(rt, &mut entries);
+    assert_eq!(rt; (second.address(), second.length()), (0xfe, 1));
+    let third = raw_entry_of(rt, &mut entries);
+    // what a raw entry stands for does not depend on the place
+    let converted = convert(&entries, raw).expect(rt, "refused");
+    tries_range(rt, &converted.expect(rt, "no range"), 1, 3);
+    assert_eq!(rt; convert(&entries, second), Ok(None));
+    assert_eq!(rt; convert(&entries, third), Err(Error::AddressOverflow));
+    // and leaves the place: a range whose end is given is converted again
+    assert_eq!(rt; convert(&entries, found.copy()), Ok(Some(found)));
+    let last = entry_of(rt, &mut entries);
+    tries_range(rt, &last, 9, 10);
+    tries_no_entry(rt, &mut entries);
 }
 
-// The only set of a section, by the call, by the iterator, and by its offset.
-fn only_set<R: Reader + PartialEq>(rt: &impl Abort, reader: R) -> ArangeHeader<R> {
-    let section = DebugAranges::from(reader);
-    let header = only_by_call(rt, section.headers());
-    assert_eq!(rt; only_by_iterator(rt, section.headers()), header);
-    let found = header_at(&section, 0);
-    assert_eq!(rt; found.expect(rt, "refused"), header);
-    header
+// Tries that no entry is left, by each call.
+fn tries_no_entry<R: Reader>(rt: &impl Abort, entries: &mut ArangeEntryIter<R>) {
+    assert_eq!(rt; entries.next_raw(), Ok(None));
+    assert_eq!(rt; entries.next(), Ok(None));
+    assert!(rt; next_of(entries).is_none());
 }
 
-// The only set that is left, by the call.
-fn only_by_call<R: Reader + PartialEq>(
-    rt: &impl Abort,
-    mut headers: ArangeHeaderIter<R>,
-) -> ArangeHeader<R> {
-    let header = header_of(rt, &mut headers);
-    tries_end(rt, headers);
-    header
+#[test]
+fn gives_raw_entries_and_ranges_in_turn(rt: HostRuntime) {
+    tries_turns(&rt, first_set(&rt, part(&TURNS)).entries());
+    tries_turns(&rt, first_set(&rt, whole(&rt, &TURNS)).entries());
 }
 
-// The only set that is left, by the iterator.
-fn only_by_iterator<R: Reader + PartialEq>(
-    rt: &impl Abort,
-    mut headers: ArangeHeaderIter<R>,
-) -> ArangeHeader<R> {
-    let header = item_of(rt, &mut headers);
-    tries_end(rt, headers);
-    header
-}
-
-// Tries a section whose first set is refused, by the call, by the iterator, and by its offset; no set comes then.
-fn tries_refused<R: Reader + PartialEq>(rt: &impl Abort, reader: R, wanted: Error) {
-    let section = DebugAranges::from(reader);
-    refuses_by_call(rt, section.headers(), wanted);
-    refuses_by_iterator(rt, section.headers(), wanted);
-    assert_eq!(rt; header_at(&section, 0).err(), Some(wanted));
-}
-
-// Tries that the next set is refused, and that no set comes then.
-fn refuses_by_call<R: Reader + PartialEq>(
-    rt: &impl Abort,
-    mut headers: ArangeHeaderIter<R>,
-    wanted: Error,
-) {
-    assert_eq!(rt; headers.next().err(), Some(wanted));
-    tries_end(rt, headers);
-}
-
-// The same by the iterator.
-fn refuses_by_iterator<R: Reader + PartialEq>(
-    rt: &impl Abort,
-    mut headers: ArangeHeaderIter<R>,
-    wanted: Error,
-) {
-    let item = next_of(&mut headers).expect(rt, "no item");
-    assert_eq!(rt; item.err(), Some(wanted));
-    tries_end(rt, headers);
-}
-
-// Adds a number of `size` bytes, the lowest first, or the highest where `big`.
-fn push_number(
-    bytes: &mut Vec<u8>,
-    big: bool,
-    size: u8,
-    number: u64,
-) -> std::result::Result<(), AllocError> {
-    let size = usize::from(size);
-    if big {
-        for byte in number
-            .to_be_bytes()
-            .iter()
-            .skip(8usize.saturating_sub(size))
-        {
-            bytes.push(*byte)?;
-        }
-    } else {
-        for byte in number.to_le_bytes().iter().take(size) {
-            bytes.push(*byte)?;
-        }
-    }
+// Entries are ordered by where they begin, then by where they end, and then by their lengths. A raw one has the end 0.
+#[test]
+fn are_ordered_by_their_fields(rt: HostRuntime) -> std::result::Result<(), Fail> {
+    let bytes = [
+        0x10, 0, 0, 0, 2, 0, 1, 2, 3, 4, 1, 0, 1, 2, 1, 3, 2, 1, 2, 1,
+    ];
+    let header = first_set(&rt, part(&bytes));
+    let mut entries = header.entries();
+    let first = entry_of(&rt, &mut entries);
+    let second = entry_of(&rt, &mut entries);
+    let third = entry_of(&rt, &mut entries);
+    let fourth = entry_of(&rt, &mut entries);
+    assert!(rt; first < second && second < third && first < third);
+    assert!(rt; third == fourth && third <= fourth && third >= fourth && second != third);
+    let mut raw = header.entries();
+    let low = raw_entry_of(&rt, &mut raw);
+    let high = raw_entry_of(&rt, &mut raw);
+    assert!(rt; low < high && low != high && low.range() == high.range() && low < first);
+    let text = format!(in rt.alloc(); "{first:?}")?;
+    let wanted = "ArangeEntry { range: Range { begin: 1, end: 3 }, length: 2 }";
+    assert_eq!(rt; text.as_str(), wanted);
     Ok(())
 }
 
-// The bytes of a section with one set, in the 32-bit format: version 2, the unit at 0x04030201, addresses of `size` bytes,
-// 1, 2, 4 or 8, these tuples, and then these bytes.
-fn set_of(
-    alloc: Global,
-    big: bool,
-    size: u8,
-    tuples: &[(u64, u64)],
-    rest: &[u8],
-) -> std::result::Result<Vec<u8>, AllocError> {
-    let mut own = Vec::new(alloc);
-    push_number(&mut own, big, 2, 2)?;
-    push_number(&mut own, big, 4, 0x0403_0201)?;
-    own.push(size)?;
-    own.push(0)?;
-    // the first tuple of sizes 4 and 8 begins at 16
-    if size > 2 {
-        own.extend_from_slice(&[0xee; 4])?;
-    }
-    for (address, length) in tuples {
-        push_number(&mut own, big, size, *address)?;
-        push_number(&mut own, big, size, *length)?;
-    }
-    own.extend_from_slice(rest)?;
-    let mut bytes = Vec::new(alloc);
-    push_number(&mut bytes, big, 4, own.len() as u64)?;
-    bytes.extend_from_slice(&own)?;
-    Ok(bytes)
+// Tries the next set by a copy, by the call, and by the iterator, which all answer the same.
+fn tries_next_set<R: Reader + PartialEq>(rt: &impl Abort, headers: &mut ArangeHeaderIter<R>) {
+    let found = header_of(rt, &mut headers.copy());
+    let item = next_of(&mut headers.copy()).expect(rt, "no set");
+    // the steps of the copies left the source
+    let header = header_of(rt, headers);
+    assert_eq!(rt; header, found);
+    assert_eq!(rt; item, Ok(found));
+    assert_eq!(rt; header.copy(), header);
+    tries_copied_entries(rt, header.copy().entries());
+}
+
+// Tries copies of two ranges, by the call and by the iterator, and of the first of them.
+fn tries_copied_entries<R: Reader>(rt: &impl Abort, mut entries: ArangeEntryIter<R>) {
+    let item = next_of(&mut entries.copy()).expect(rt, "no item");
+    let entry = entry_of(rt, &mut entries);
+    assert_eq!(rt; item, Ok(entry.copy()));
+    tries_range(rt, &entry.copy(), 1, 3);
+    let last = entry_of(rt, &mut entries.copy());
+    tries_range(rt, &last, 3, 7);
+    assert_eq!(rt; last, entry_of(rt, &mut entries));
+    tries_no_entry(rt, &mut entries);
+}
+
+// Tries copies of a section of two equal sets, and that no set is left behind them.
+fn tries_copies<R: Reader + PartialEq>(rt: &impl Abort, reader: R) {
+    let source = DebugAranges::from(reader);
+    let section = source.copy();
+    assert!(rt; has_bytes(section.reader(), &TWO_SETS));
+    let mut headers = section.headers();
+    tries_next_set(rt, &mut headers);
+    tries_next_set(rt, &mut headers);
+    assert_eq!(rt; headers.next(), Ok(None));
+    assert!(rt; next_of(&mut headers).is_none());
+}
+
+#[test]
+fn copies_answer_what_the_sources_answer(rt: HostRuntime) {
+    tries_copies(&rt, part(&TWO_SETS));
+    tries_copies(&rt, whole(&rt, &TWO_SETS));
+}
+
+// Headers are equal where all their parts are, of the reader the bytes and the order.
+#[test]
+fn headers_are_compared_by_their_parts(rt: HostRuntime) {
+    let mut other = TWO_SETS;
+    other[13] = 3;
+    let header = first_set(&rt, part(&TWO_SETS));
+    let same = DebugAranges::new(&TWO_SETS, LittleEndian);
+    let different = DebugAranges::new(&other, LittleEndian);
+    assert!(rt; header_of(&rt, &mut same.headers()) == header);
+    assert!(rt; header_of(&rt, &mut different.headers()) != header);
+}
+
+// Tries which section it is, and what it holds.
+fn tries_section<R: Reader>(rt: &impl Abort, section: &DebugAranges<R>, first: u64) {
+    let id = <DebugAranges<R> as Section<R>>::id();
+    assert_eq!(rt; id, SectionId::DebugAranges);
+    assert!(rt; has_bytes(section.reader(), &TWO_SETS));
+    assert_eq!(rt; section.reader().offset_id().0, first);
+}
+
+#[test]
+fn is_a_section(rt: HostRuntime) {
+    tries_section(&rt, &DebugAranges::new(&TWO_SETS, RunTimeEndian::Big), 0);
+    let section = DebugAranges::from(part(&TWO_SETS));
+    tries_section(&rt, &section, FIRST_PLACE);
+    tries_section(&rt, &section.borrow(|reader| reader.copy()), FIRST_PLACE);
+}
+
+#[test]
+fn is_empty_by_default(rt: HostRuntime) {
+    let section = DebugAranges::<Part<'_>>::default();
+    assert_eq!(rt; section.headers().next(), Ok(None));
 }

@@ -1,14 +1,10 @@
-//! Tests of `gimli_lists`.
+//! Tests of `gimli_lists`, of what no row of a table can show.
 #![tactic(auto)]
 
 #[cfg(test)]
 mod aranges;
 #[cfg(test)]
-mod lists;
-#[cfg(test)]
 mod loclists;
-#[cfg(test)]
-mod pieces;
 #[cfg(test)]
 mod rnglists;
 #[cfg(test)]

@@ -1,152 +1,189 @@
-mod bad;
-mod cases;
-mod entries;
-mod offsets;
-mod split;
-mod values;
+//! Location lists.
 
-use crate::samples::{has_bytes, part, whole};
+use crate::samples::{Part, encoding, end_at_first, has_bytes, hash_of, next_of, part, whole};
 use gimli_base::{
-    DebugAddr, DebugAddrBase, Encoding, Expression, Format, LittleEndian, LocationListsOffset,
-    Reader, ReaderOffset, Result,
+    DebugAddr, DebugAddrBase, DebugAddrIndex, Encoding, EndianSlice, Error, Expression, Format,
+    LittleEndian, LocationListsOffset, Reader, ReaderOffset, ReaderOffsetId, Result, Section,
+    SectionId,
 };
-use gimli_lists::{DebugLoc, DebugLocLists, LocListIter, LocationLists, Range};
+use gimli_lists::{
+    DebugLoc, DebugLocLists, LocListIter, LocationListEntry, LocationLists, Range, RawLocListEntry,
+    RawLocListIter,
+};
 use std::process::Abort;
+use std::test::Fail;
 
-/// The encoding of a unit in the 32-bit format.
-pub(crate) fn encoding(version: u16, address_size: u8) -> Encoding {
-    Encoding {
+// Two pairs, of which the second counts from the base address before it.
+const PAIRS: [u8; 30] = [
+    0x00, 0x02, 0x01, 0x00, 0x00, 0x03, 0x01, 0x00, 0x01, 0x00, 0x30, // from 0x10200 to 0x10300
+    0xff, 0xff, 0xff, 0xff, 0x00, 0x00, 0x00, 0x02, // base address 0x2000000
+    0x00, 0x04, 0x01, 0x00, 0x00, 0x05, 0x01, 0x00, 0x01, 0x00, 0x31, // from 0x10400 to 0x10500
+];
+
+// The lists of `.debug_loc`; the other section is empty.
+fn lists_of<R: Reader>(section: R) -> LocationLists<R> {
+    let mut none = section.copy();
+    none.empty();
+    LocationLists::new(DebugLoc::from(section), DebugLocLists::from(none))
+}
+
+// The locations of the list at 0, from the base 0x1000000 on, with an empty table of addresses.
+fn locations_of<R: Reader>(lists: &LocationLists<R>, none: R) -> Result<LocListIter<R>> {
+    let zero = R::Offset::from_u8(0);
+    let (begin, base) = (LocationListsOffset(zero), DebugAddrBase(zero));
+    let table = DebugAddr::from(none);
+    let encoding = Encoding {
         format: Format::Dwarf32,
-        version,
-        address_size,
-    }
+        version: 4,
+        address_size: 4,
+    };
+    lists.locations(begin, encoding, 0x0100_0000, &table, base)
 }
 
-/// The lists of two sections.
-pub(crate) fn lists<R: Reader>(old: R, new: R) -> LocationLists<R> {
-    LocationLists::new(DebugLoc::from(old), DebugLocLists::from(new))
+// The next entry as it is written.
+fn raw_of<R: Reader>(rt: &impl Abort, locations: &mut LocListIter<R>) -> RawLocListEntry<R> {
+    let found = locations.next_raw().expect(rt, "refused");
+    found.expect(rt, "no entry")
 }
 
-/// Where the reading of a list begins: its offset, how it is encoded, the base address, and whether the file is split.
-#[derive(Clone, Copy, Debug)]
-pub(crate) struct Start {
-    /// The offset of the list.
-    pub(crate) offset: u64,
-    /// The encoding of the unit.
-    pub(crate) encoding: Encoding,
-    /// The base address.
-    pub(crate) base: u64,
-    /// Whether the file is split.
-    pub(crate) dwo: bool,
-}
-
-/// The list at 0 of a file that is not split.
-pub(crate) fn starts_with(encoding: Encoding, base: u64) -> Start {
-    Start {
-        offset: 0,
-        encoding,
-        base,
-        dwo: false,
-    }
-}
-
-/// The locations of a list, whose indexes are those of the table at `addr_base`.
-pub(crate) fn locations_from<R: Reader>(
+// Tries a location: where it begins, that 0x100 bytes are its, and its expression of a byte.
+fn tries_location<R: Reader>(
     rt: &impl Abort,
-    lists: &LocationLists<R>,
-    start: Start,
-    addr: &DebugAddr<R>,
-    addr_base: u64,
-) -> Result<LocListIter<R>> {
-    let size = start.encoding.address_size;
-    assert!(rt; size == 1 || size == 2 || size == 4 || size == 8);
-    let offset = LocationListsOffset(R::Offset::from_u64(start.offset)?);
-    let addr_base = DebugAddrBase(R::Offset::from_u64(addr_base)?);
-    if start.dwo {
-        lists.locations_dwo(offset, start.encoding, start.base, addr, addr_base)
-    } else {
-        lists.locations(offset, start.encoding, start.base, addr, addr_base)
-    }
-}
-
-/// A location that is wanted: its range, and the bytes of its expression.
-#[derive(Clone, Copy, Debug)]
-pub(crate) struct Wanted {
-    /// The range.
-    pub(crate) range: Range,
-    /// The bytes of the expression.
-    pub(crate) bytes: &'static [u8],
-}
-
-/// A location, as an answer.
-pub(crate) fn location(begin: u64, end: u64, bytes: &'static [u8]) -> Result<Wanted> {
-    let range = Range { begin, end };
-    Ok(Wanted { range, bytes })
-}
-
-/// Whether an expression has these bytes.
-pub(crate) fn says<R: Reader>(expr: &Expression<R>, bytes: &[u8]) -> bool {
-    has_bytes(&expr.0, bytes, expr.0.offset_id().0)
-}
-
-/// Tries the answers of a list in turn, and that none comes behind them.
-pub(crate) fn tries_answers<R: Reader>(
-    rt: &impl Abort,
-    locations: Result<LocListIter<R>>,
-    wanted: &[Result<Wanted>],
+    found: Option<LocationListEntry<R>>,
+    begin: u64,
+    byte: u8,
 ) {
-    let mut locations = locations.expect(rt, "the list begins behind the end of its section");
-    for (index, answer) in wanted.iter().enumerate() {
-        tries_answer(rt, &mut locations, *answer, index);
-    }
-    tries_none(rt, &mut locations);
-    tries_none(rt, &mut locations);
+    let found = found.expect(rt, "no location").copy();
+    let end = begin.saturating_add(0x100);
+    assert_eq!(rt; found.range, Range { begin, end });
+    assert!(rt; has_bytes(&found.expr.0, &[byte]));
 }
 
-// Tries the next answer of a list.
-fn tries_answer<R: Reader>(
+// What an entry stands for.
+fn converted<R: Reader>(
     rt: &impl Abort,
     locations: &mut LocListIter<R>,
-    wanted: Result<Wanted>,
-    index: usize,
-) {
-    match (locations.next(), wanted) {
-        (Ok(Some(found)), Ok(wanted)) => {
-            assert_eq!(rt; found.range, wanted.range, "at {index}");
-            assert!(rt; says(&found.expr, wanted.bytes), "at {index}");
-        }
-        (Err(error), Err(wanted)) => assert_eq!(rt; error, wanted, "at {index}"),
-        _ => assert!(rt; false, "at {index}"),
+    raw: RawLocListEntry<R>,
+) -> Option<LocationListEntry<R>> {
+    locations.convert_raw(raw).expect(rt, "refused")
+}
+
+// Tries the two calls by turns, before a new base address and behind it.
+fn tries_conversions<R: Reader>(rt: &impl Abort, locations: &mut LocListIter<R>) {
+    let first = raw_of(rt, locations);
+    let again = first.copy();
+    tries_location(rt, converted(rt, locations, first), 0x0101_0200, 0x30);
+    let base = raw_of(rt, locations);
+    assert!(rt; converted(rt, locations, base).is_none());
+    // the entry counts from the new base
+    tries_location(rt, converted(rt, locations, again), 0x0201_0200, 0x30);
+    let missing = RawLocListEntry::BaseAddressx {
+        addr: DebugAddrIndex(R::Offset::from_u8(0)),
+    };
+    let refusal = locations.convert_raw(missing).err();
+    assert_eq!(rt; refusal, Some(end_at_first()));
+    tries_last(rt, locations);
+}
+
+// Tries the last location of the two pairs, and that none is left.
+fn tries_last<R: Reader>(rt: &impl Abort, locations: &mut LocListIter<R>) {
+    let last = locations.next().expect(rt, "refused");
+    tries_location(rt, last, 0x0201_0400, 0x31);
+    assert!(rt; matches!(locations.next(), Ok(None)));
+    assert!(rt; next_of(locations).is_none());
+}
+
+#[test]
+fn converts_entries_one_by_one(rt: HostRuntime) {
+    let of_parts = lists_of(part(&PAIRS));
+    let locations = locations_of(&of_parts, part(b""));
+    tries_conversions(&rt, &mut locations.expect(&rt, "no list"));
+    let of_wholes = lists_of(whole(&rt, &PAIRS)).copy();
+    let locations = locations_of(&of_wholes, whole(&rt, b""));
+    tries_conversions(&rt, &mut locations.expect(&rt, "no list"));
+}
+
+// A location from 1 on.
+fn location<R>(end: u64, reader: R) -> LocationListEntry<R> {
+    LocationListEntry {
+        range: Range { begin: 1, end },
+        expr: Expression(reader),
     }
 }
 
-// Tries that no location comes.
-fn tries_none<R: Reader>(rt: &impl Abort, locations: &mut LocListIter<R>) {
-    assert!(rt; matches!(locations.next(), Ok(None)));
+#[test]
+fn locations_are_compared_by_their_bytes(rt: HostRuntime) -> std::result::Result<(), Fail> {
+    let found = location(2, part(&[0x30, 0x9f]));
+    let assigned = found;
+    let elsewhere = location(2, EndianSlice::new(&[0x30, 0x9f], LittleEndian));
+    for same in [assigned, found.copy(), found.clone()?, elsewhere] {
+        assert_eq!(rt; same, found);
+        assert_eq!(rt; hash_of(&same), hash_of(&found));
+    }
+    let later = location(3, part(&[0x30, 0x9f]));
+    let other = location(2, part(&[0x30, 0x9e]));
+    let shorter = location(2, part(&[0x30]));
+    for different in [later, other, shorter] {
+        assert_ne!(rt; different, found);
+        assert_ne!(rt; hash_of(&different), hash_of(&found));
+    }
+    Ok(())
 }
 
-/// Tries the answers of a list by both readers. The list lies in the section of its version, and the other is empty.
-pub(crate) fn tries_list(
-    rt: &impl Abort,
-    bytes: &[u8],
-    addr: &[u8],
-    start: Start,
-    wanted: &[Result<Wanted>],
-) {
-    let old = if start.encoding.version <= 4 {
-        bytes
-    } else {
-        b""
-    };
-    let new = if start.encoding.version <= 4 {
-        b""
-    } else {
-        bytes
-    };
-    let of_parts = lists(part(old, LittleEndian), part(new, LittleEndian));
-    let table = DebugAddr::from(part(addr, LittleEndian));
-    tries_answers(rt, locations_from(rt, &of_parts, start, &table, 0), wanted);
-    let of_wholes = lists(whole(rt, old, LittleEndian), whole(rt, new, LittleEndian));
-    let table = DebugAddr::from(whole(rt, addr, LittleEndian));
-    tries_answers(rt, locations_from(rt, &of_wholes, start, &table, 0), wanted);
+// Tries that both sections have their own bytes: an old list of one pair, and a new one of a default location.
+fn tries_sections<R: Reader>(rt: &impl Abort, of_both: &LocationLists<R>, old: &[u8], new: &[u8]) {
+    let begin = LocationListsOffset(R::Offset::from_u8(0));
+    let pairs = of_both.raw_locations(begin, encoding(4, 1));
+    match first_of(rt, pairs) {
+        RawLocListEntry::AddressOrOffsetPair { expr, .. } => assert!(rt; has_bytes(&expr.0, old)),
+        _ => assert!(rt; false, "no pair"),
+    }
+    let entries = of_both.raw_locations(begin, encoding(5, 1));
+    match first_of(rt, entries) {
+        RawLocListEntry::DefaultLocation { expr } => assert!(rt; has_bytes(&expr.0, new)),
+        _ => assert!(rt; false, "no default location"),
+    }
+}
+
+// The first entry of a list.
+fn first_of<R: Reader>(rt: &impl Abort, entries: Result<RawLocListIter<R>>) -> RawLocListEntry<R> {
+    let mut entries = entries.expect(rt, "no list");
+    let first = entries.next().expect(rt, "refused");
+    first.expect(rt, "no entry")
+}
+
+#[test]
+fn sections_are_borrowed_in_order(rt: HostRuntime) -> std::result::Result<(), Fail> {
+    let alloc = rt.alloc();
+    let owned = LocationLists::new(
+        DebugLoc::from([1, 2, 1, 0, 0x9f].to_vec(alloc)?),
+        DebugLocLists::from([5, 1, 0x30].to_vec(alloc)?),
+    );
+    let mut lengths = 0_u64;
+    let borrowed = owned.borrow(|bytes| {
+        lengths = lengths.wrapping_mul(16).wrapping_add(bytes.len() as u64);
+        EndianSlice::new(bytes, LittleEndian)
+    });
+    assert_eq!(rt; lengths, 0x53);
+    tries_sections(&rt, &borrowed, &[0x9f], &[0x30]);
+    tries_sections(&rt, &borrowed.copy(), &[0x9f], &[0x30]);
+    Ok(())
+}
+
+#[test]
+fn sections_are_kept(rt: HostRuntime) -> std::result::Result<(), Fail> {
+    let old = DebugLoc::new(&[1, 2, 0, 0], LittleEndian);
+    let new = DebugLocLists::new(&[5, 0], LittleEndian);
+    assert_eq!(rt; old.copy().reader().slice(), [1, 2, 0, 0].as_slice());
+    assert_eq!(rt; new.copy().reader().slice(), [5, 0].as_slice());
+    let of_both = LocationLists::new(old, new);
+    tries_sections(&rt, &of_both.clone()?, &[], &[]);
+    let empty: LocationLists<Part<'_>> = LocationLists::default();
+    // an empty section has its end alone
+    let end = empty.lookup_offset_id(ReaderOffsetId(0));
+    assert_eq!(rt; end, Some((SectionId::DebugLoc, 0)));
+    assert!(rt; empty.lookup_offset_id(ReaderOffsetId(1)).is_none());
+    assert_eq!(rt; <DebugLoc<Part<'_>>>::id(), SectionId::DebugLoc);
+    assert_eq!(rt; <DebugLocLists<Part<'_>>>::id(), SectionId::DebugLocLists);
+    Ok(())
 }

@@ -1,19 +1,16 @@
-use crate::readers::{reads_from, specification};
-use crate::samples::{input, version_4};
+use crate::samples::{Input, input, reads};
 use gimli_base::{DwAt, DwForm, EndianSlice, LittleEndian};
 use gimli_units::{Attribute, AttributeValue, UnitOffset};
 use std::alloc::Global;
 use std::process::Abort;
 use std::test::Fail;
 
-type Input<'a> = EndianSlice<'a, LittleEndian>;
-
 // One value of each kind, in pairs that differ in what the kind holds.
 fn pairs<'a>() -> [(AttributeValue<Input<'a>>, AttributeValue<Input<'a>>); 3] {
     [
         (
-            AttributeValue::String(input(b"foo", LittleEndian)),
-            AttributeValue::String(input(b"fop", LittleEndian)),
+            AttributeValue::String(input(b"foo")),
+            AttributeValue::String(input(b"fop")),
         ),
         (AttributeValue::Data1(5), AttributeValue::Data1(6)),
         (
@@ -32,6 +29,7 @@ fn tries_equality(
     let copied = first;
     assert_eq!(rt; copied, first);
     assert_eq!(rt; first.clone()?, first);
+    assert_eq!(rt; first.copy(), first);
     assert_ne!(rt; first, other);
     Ok(())
 }
@@ -51,12 +49,10 @@ fn values_are_equal_where_all_parts_are(rt: HostRuntime) -> Result<(), Fail> {
 fn attribute<'a>(
     rt: &impl Abort,
     alloc: Global,
-    (name, form): (u16, u16),
+    declared: (u16, u16),
     bytes: &'a [u8],
 ) -> Result<Attribute<Input<'a>>, Fail> {
-    let given = specification(name, form, 0);
-    let reader = EndianSlice::new(bytes, LittleEndian);
-    Ok(reads_from(rt, alloc, reader, version_4(), given)?.0)
+    Ok(reads(rt, alloc, declared, EndianSlice::new(bytes, LittleEndian))?)
 }
 
 #[test]
@@ -65,6 +61,7 @@ fn attributes_are_equal_where_all_parts_are(rt: HostRuntime) -> Result<(), Fail>
     let copied = first;
     assert_eq!(rt; copied, first);
     assert_eq!(rt; first.clone()?, first);
+    assert_eq!(rt; first.copy(), first);
     let others = [
         // another name
         attribute(&rt, rt.alloc(), (0x04, 0x0b), &[5])?,
@@ -81,17 +78,9 @@ fn attributes_are_equal_where_all_parts_are(rt: HostRuntime) -> Result<(), Fail>
 
 #[test]
 fn shows_its_parts(rt: HostRuntime) -> Result<(), Fail> {
-    let shown = attribute(&rt, rt.alloc(), (0x03, 0x0b), &[5])?;
-    assert_eq!(rt; shown.name(), DwAt(0x03));
-    assert_eq!(rt; shown.form(), DwForm(0x0b));
+    let shown = attribute(&rt, rt.alloc(), (0x3b, 0x0b), &[5])?;
+    assert_eq!(rt; (shown.name(), shown.form()), (DwAt(0x3b), DwForm(0x0b)));
     assert_eq!(rt; shown.raw_value(), AttributeValue::Data1(5));
-    Ok(())
-}
-
-#[test]
-fn an_indirect_attribute_has_the_declared_form(rt: HostRuntime) -> Result<(), Fail> {
-    let shown = attribute(&rt, rt.alloc(), (0x03, 0x16), &[0x0b, 5])?;
-    assert_eq!(rt; shown.form(), DwForm(0x16));
-    assert_eq!(rt; shown.raw_value(), AttributeValue::Data1(5));
+    assert_eq!(rt; shown.value(), AttributeValue::Udata(5));
     Ok(())
 }

@@ -2,8 +2,7 @@
 
 ghost use Rattle.std.proofs.Common.{rules};
 
-use crate::readers::{pass, raw_over, read, specification};
-use crate::samples::{table_of, version_4};
+use crate::samples::{pass, raw_over, read, specification, table_of};
 use gimli_base::{EndianSlice, LittleEndian, Reader, ReaderOffsetId, Result};
 use gimli_units::AttributeValue;
 use std::alloc::Global;
@@ -85,7 +84,7 @@ fn skips_of(
 ) -> std::result::Result<u64, Fail> {
     let mut given = Vec::new(alloc);
     for form in forms {
-        given.push(specification(0x2000, *form, 0))?;
+        given.push(specification(rt, 0x2000, *form))?;
     }
     let table = table_of(alloc, &[0])?;
     assert!(rt; bytes.len() < 100);
@@ -93,9 +92,9 @@ fn skips_of(
         inner: EndianSlice::new(bytes, LittleEndian),
         skips: 0,
     };
-    let mut raw = raw_over(rt, input, version_4(), &table);
+    let mut raw = raw_over(input, &table);
     pass(&mut raw, &given)?;
-    let block = read(&mut raw, specification(0x2000, 0x0a, 0))?;
+    let block = read(&mut raw, specification(rt, 0x2000, 0x0a))?;
     assert!(rt; raw.is_empty());
     match block.raw_value() {
         AttributeValue::Block(reader) => Ok(reader.skips),

@@ -1,20 +1,21 @@
 //! Units and tables that the tests read.
 
 use gimli_base::{
-    Abbreviations, DebugAbbrev, DebugAbbrevOffset, Encoding, EndianSlice, Endianity, Format,
-    LittleEndian, Reader, ReaderOffset, Result, SectionId, WholeSlice,
+    Abbreviations, AttributeSpecification, DebugAbbrev, DebugAbbrevOffset, DwAt, DwForm, Encoding,
+    EndianSlice, Format, LittleEndian, Reader, ReaderOffset, Result, SectionId,
 };
-use gimli_units::{DebuggingInformationEntry, EntriesRaw, UnitHeader, UnitSectionOffset, UnitType};
+use gimli_units::{
+    Attribute, DebuggingInformationEntry, EntriesRaw, UnitHeader, UnitOffset, UnitSectionOffset,
+    UnitType,
+};
 use std::alloc::Global;
 use std::process::Abort;
 
+/// A reader of the kind that most tests take.
+pub(crate) type Input<'a> = EndianSlice<'a, LittleEndian>;
+
 /// Code 1: the tag 0x2e, children, and the attribute 0x03 of form string.
 pub(crate) const TABLE_NESTED_STRINGS: [u8; 8] = [0x01, 0x2e, 0x01, 0x03, 0x08, 0x00, 0x00, 0x00];
-
-/// Code 1: the tag 0x2e, children, and the attribute 0x01 of form ref1. Code 2: the tag 0x34 alone.
-pub(crate) const TABLE_WITH_SIBLINGS: [u8; 13] = [
-    0x01, 0x2e, 0x01, 0x01, 0x11, 0x00, 0x00, 0x02, 0x34, 0x00, 0x00, 0x00, 0x00,
-];
 
 /// Three entries of the nested strings, each the child of the one before, and three nulls.
 pub(crate) const NESTED_STRINGS: [u8; 18] = [
@@ -22,23 +23,10 @@ pub(crate) const NESTED_STRINGS: [u8; 18] = [
     0x00, 0x00,
 ];
 
-/// An entry whose sibling stands at 0x0f, a child, a null, and the sibling.
-pub(crate) const SIBLINGS: [u8; 5] = [0x01, 0x0f, 0x02, 0x00, 0x02];
-
 /// A reader of a unit's entries, whose first byte has the place 11, as it has the offset 11 in the unit.
-pub(crate) fn input<E: Endianity>(bytes: &[u8], endian: E) -> EndianSlice<'_, E> {
+pub(crate) fn input(bytes: &[u8]) -> Input<'_> {
     let _length = bytes.len();
-    EndianSlice::new_at(bytes, endian, 11)
-}
-
-/// The same of another kind, which keeps the whole slice.
-pub(crate) fn whole<'a, E: Endianity>(
-    rt: &impl Abort,
-    bytes: &'a [u8],
-    endian: E,
-) -> WholeSlice<'a, E> {
-    assert!(rt; bytes.len() < 0x1_0000_0000);
-    WholeSlice::new_at(bytes, endian, 11)
+    EndianSlice::new_at(bytes, LittleEndian, 11)
 }
 
 /// The table with which these bytes begin.
@@ -56,20 +44,16 @@ pub(crate) fn version_4() -> Encoding {
 }
 
 /// The compilation unit of version 4 with these entries, the first of them at 11.
-pub(crate) fn unit_of<R: Reader>(rt: &impl Abort, entries: R) -> UnitHeader<R> {
-    let zero = R::Offset::from_u8(0);
-    let unit_length = R::Offset::from_u8(7)
-        .checked_add(entries.len())
-        .expect(rt, "too long");
-    let whole = R::Offset::from_u8(12).checked_add(unit_length);
-    assert!(rt; whole.is_some());
+pub(crate) fn unit_of<'a>(rt: &impl Abort, entries: Input<'a>) -> UnitHeader<Input<'a>> {
+    let unit_length = entries.len().checked_add(7).expect(rt, "too long");
+    assert!(rt; unit_length < 0x1_0000_0000);
     UnitHeader::new(
         version_4(),
         unit_length,
         UnitType::Compilation,
-        DebugAbbrevOffset(zero),
+        DebugAbbrevOffset(0),
         SectionId::DebugInfo,
-        UnitSectionOffset(zero),
+        UnitSectionOffset(0),
         entries,
     )
 }
@@ -80,6 +64,21 @@ pub(crate) fn raw_of<'abbrev, R: Reader>(
     table: &'abbrev Abbreviations<Global>,
 ) -> Result<EntriesRaw<'abbrev, R, Global>> {
     unit.entries_raw(table, None)
+}
+
+/// The first entry of these, under the table with which the declared bytes begin, and the offset behind it.
+pub(crate) fn first_of<'a>(
+    rt: &impl Abort,
+    alloc: Global,
+    declared: &[u8],
+    entries: &'a [u8],
+) -> Result<(DebuggingInformationEntry<Input<'a>, Global>, usize)> {
+    let table = table_of(alloc, declared)?;
+    let unit = unit_of(rt, input(entries));
+    let mut raw = raw_of(&unit, &table)?;
+    let mut entry = DebuggingInformationEntry::null(alloc);
+    raw.read_entry(&mut entry)?;
+    Ok((entry, raw.next_offset().0))
 }
 
 /// Reads an entry.
@@ -99,4 +98,48 @@ pub(crate) fn has_bytes<R: Reader>(reader: &R, bytes: &[u8]) -> bool {
         }
     }
     rest.is_empty()
+}
+
+/// The declaration of a form under a name; it is not implicit_const.
+pub(crate) fn specification(rt: &impl Abort, name: u16, form: u16) -> AttributeSpecification {
+    assert!(rt; form != 0x21);
+    AttributeSpecification::new(DwAt(name), DwForm(form), None)
+}
+
+/// A reader of the attributes in an input, whose first byte has the offset 0. It is a function of its own, as the calls below
+/// are, since a proof carries what is known of each call in the function: so a test that makes many calls is proved sooner.
+pub(crate) fn raw_over<'abbrev, R: Reader>(
+    input: R,
+    table: &'abbrev Abbreviations<Global>,
+) -> EntriesRaw<'abbrev, R, Global> {
+    let zero = UnitOffset(R::Offset::from_u8(0));
+    EntriesRaw::new(input, version_4(), table, zero)
+}
+
+/// Reads an attribute.
+pub(crate) fn read<R: Reader>(
+    raw: &mut EntriesRaw<'_, R, Global>,
+    specification: AttributeSpecification,
+) -> Result<Attribute<R>> {
+    raw.read_attribute(specification)
+}
+
+/// Passes attributes.
+pub(crate) fn pass<R: Reader>(
+    raw: &mut EntriesRaw<'_, R, Global>,
+    specifications: &[AttributeSpecification],
+) -> Result<()> {
+    raw.skip_attributes(specifications)
+}
+
+/// The attribute of a name and a form that is read from an input.
+pub(crate) fn reads<R: Reader>(
+    rt: &impl Abort,
+    alloc: Global,
+    (name, form): (u16, u16),
+    input: R,
+) -> Result<Attribute<R>> {
+    let table = table_of(alloc, &[0])?;
+    let mut raw = raw_over(input, &table);
+    read(&mut raw, specification(rt, name, form))
 }

@@ -1,3 +1,4 @@
+use crate::samples::MANY;
 use failing::{Failing, Refusal};
 use gimli_base::{
     Abbreviations, DebugAbbrev, DebugAbbrevOffset, Encoding, EndianSlice, Error, Format,
@@ -12,9 +13,6 @@ type Bytes<'a> = EndianSlice<'a, LittleEndian>;
 
 // The allocator of the lists below.
 type Heap<'a> = &'a Failing<Global>;
-
-// More requests than any run below makes.
-const MANY: u64 = 100;
 
 // Declarations without attributes, with one and with nine, of the codes 1, 2 and 9.
 const TABLE: [u8; 36] = [

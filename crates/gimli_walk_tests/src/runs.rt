@@ -1,13 +1,15 @@
+use crate::samples::{MANY, end_at, part};
 use failing::{Failing, Refusal};
-use gimli_base::{EndianSlice, Error, LittleEndian, ReaderOffset, ReaderOffsetId, Result};
+use gimli_base::{
+    DebugAddr, DebugAddrBase, Encoding, EndianSlice, Error, Format, LittleEndian,
+    LocationListsOffset, Reader, ReaderOffset, ReaderOffsetId, Result,
+};
 use gimli_headers::{DebugInfo, DebugTypes};
+use gimli_lists::{DebugLoc, DebugLocLists, LocationListEntry, LocationLists};
 use gimli_units::UnitHeader;
-use gimli_walk::{Run, run_type_units, run_units};
+use gimli_walk::{Run, run_locations, run_type_units, run_units};
 use std::alloc::{Allocator, Global};
 use std::process::Abort;
-
-// More requests than any run below makes.
-const MANY: u64 = 100;
 
 // Six units of version 4 without entries, of 11 bytes each, and a length field that is cut off.
 const SIX_UNITS: [u8; 68] = [
@@ -82,4 +84,43 @@ fn holds_no_type_unit_where_memory_is_refused(rt: HostRuntime) {
     let ended = run_type_units(&heap, &DebugTypes::new(&[], LittleEndian));
     assert!(rt; !ended.stopped);
     assert!(rt; ended.answers.is_empty());
+}
+
+// Two default locations, a base address that is not found, and another default location.
+const LOCATIONS: [u8; 9] = [0x05, 0x01, 0x30, 0x05, 0x00, 0x01, 0x00, 0x05, 0x00];
+
+type Locations<'a, A> = Run<Result<LocationListEntry<EndianSlice<'a, LittleEndian>>>, A>;
+
+// The answers of the list of these locations.
+fn run_list<A: Allocator + Copy>(alloc: A) -> Result<Locations<'static, A>> {
+    let reader = part(&LOCATIONS, LittleEndian);
+    let lists = LocationLists::new(DebugLoc::from(reader.copy()), DebugLocLists::from(reader));
+    let encoding = Encoding {
+        format: Format::Dwarf32,
+        version: 5,
+        address_size: 4,
+    };
+    let addr = DebugAddr::from(part(b"", LittleEndian));
+    let (offset, base) = (LocationListsOffset(0), DebugAddrBase(0));
+    run_locations(alloc, &lists, offset, encoding, 0, &addr, base, false)
+}
+
+#[test]
+fn runs_stop_where_memory_is_refused(rt: HostRuntime) {
+    // the places of the expressions, and the refusal
+    let wanted = [Ok(2), Ok(5), Err(end_at(0)), Ok(9)];
+    for number in 1..8_u64 {
+        let heap = Failing::new(rt.alloc(), Refusal::Nth(number));
+        let run = run_list(&heap).expect(&rt, "no list");
+        for (answer, row) in run.answers.iter().zip(wanted) {
+            let shown = match answer {
+                Ok(location) => Ok(location.expr.0.offset_id().0),
+                Err(error) => Err(*error),
+            };
+            assert_eq!(rt; shown, row);
+        }
+        let is_refused = number <= heap.requests();
+        assert_eq!(rt; run.stopped, is_refused);
+        assert_eq!(rt; run.answers.len() < 4, is_refused);
+    }
 }

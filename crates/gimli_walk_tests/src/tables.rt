@@ -1,10 +1,8 @@
+use crate::samples::MANY;
 use failing::{Failing, Refusal};
 use gimli_base::{Abbreviations, DebugAbbrev, DebugAbbrevOffset, Error, LittleEndian};
 use std::alloc::Allocator;
 use std::test::Fail;
-
-// More requests than any table below makes.
-const MANY: u64 = 100;
 
 // Declarations of the codes 1, 2, 9 and 3, the last with five attributes.
 const TABLE: [u8; 39] = [

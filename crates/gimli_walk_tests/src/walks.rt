@@ -1,24 +1,12 @@
+use crate::samples::{
+    MANY, NO_ENTRIES, TABLE_NESTED_STRINGS, TABLE_WITH_SIBLINGS, THREE_NESTED, THREE_NESTED_TEXT,
+};
 use failing::{Failing, Refusal};
-use gimli_walk::{Mode, run_words, walk_text};
+use gimli_walk::{CursorStep, Mode, TreeStep, run_words, walk_text};
 use std::alloc::Global;
 use std::process::Abort;
 
-// More requests than any run below makes.
-const MANY: u64 = 100;
-
 const MEMORY_LINE: &[u8] = b"error 24\n";
-
-// One declaration, of code 1: tag 0x2e, children, and a name that is a string.
-const TABLE_NESTED_STRINGS: [u8; 8] = [0x01, 0x2e, 0x01, 0x03, 0x08, 0x00, 0x00, 0x00];
-
-// A unit of three entries, each below the one before it, and the three nulls that close their lists.
-const THREE_NESTED: [u8; 29] = [
-    0x19, 0x00, 0x00, 0x00, 0x04, 0x00, 0x00, 0x00, 0x00, 0x00, 0x04, 0x01, 0x66, 0x6f, 0x6f, 0x00,
-    0x01, 0x66, 0x6f, 0x6f, 0x00, 0x01, 0x66, 0x6f, 0x6f, 0x00, 0x00, 0x00, 0x00,
-];
-
-const THREE_NESTED_TEXT: &str =
-    "b 0 2e 1\n10 1 2e 1\n15 2 2e 1\n1a 3 0 0\n1b 2 0 0\n1c 1 0 0\nend\n";
 
 // Declarations without attributes, with one and with nine, of the codes 1, 2 and 9.
 const TABLE_GROWING: [u8; 37] = [
@@ -35,6 +23,43 @@ const GROWING: [u8; 25] = [
 
 const GROWING_TEXT: &str = "b 0 11 1\nc 1 34 0\ne 1 5 0\n18 1 0 0\nend\n";
 
+// A unit of an entry whose sibling stands at 0x0f, a child, a null, and the sibling.
+const SIBLINGS: [u8; 16] = [
+    0x0c, 0x00, 0x00, 0x00, 0x04, 0x00, 0x00, 0x00, 0x00, 0x00, 0x04, 0x01, 0x0f, 0x02, 0x00, 0x02,
+];
+
+// A unit of an entry whose reference leads past the end, and a child.
+const OPEN_LIST: [u8; 14] = [
+    0x0a, 0x00, 0x00, 0x00, 0x04, 0x00, 0x00, 0x00, 0x00, 0x00, 0x04, 0x01, 0x40, 0x02,
+];
+
+// A table whose code 1 is declared twice.
+const TWICE: [u8; 11] = [
+    0x01, 0x2e, 0x01, 0x00, 0x00, 0x01, 0x34, 0x00, 0x00, 0x00, 0x00,
+];
+
+// The steps of a cursor, and of a tree, as short as letters.
+const D: CursorStep = CursorStep::NextDfs;
+
+const E: CursorStep = CursorStep::NextEntry;
+
+const S: CursorStep = CursorStep::NextSibling;
+
+const R: TreeStep = TreeStep::Root;
+
+const N: TreeStep = TreeStep::Next;
+
+const I: TreeStep = TreeStep::Enter;
+
+const O: TreeStep = TreeStep::Leave;
+
+// The nested strings, with a code at 0x10 that is not declared.
+fn unknown_code() -> [u8; 29] {
+    let mut info = THREE_NESTED;
+    info[0x10] = 0x07;
+    info
+}
+
 // Whether a text is whole lines from the front of another, not all of them, and then that memory was refused.
 fn is_cut_for_memory(text: &[u8], whole: &[u8]) -> bool {
     match text.strip_suffix(MEMORY_LINE) {
@@ -47,21 +72,17 @@ fn is_cut_for_memory(text: &[u8], whole: &[u8]) -> bool {
     }
 }
 
-// Tries the rows of these sections where memory is refused, and answers whether it was.
+// Tries a walk over these sections where memory is refused, and answers whether it was.
 fn tries_refusal(
     rt: &impl Abort,
     alloc: Global,
-    sections: (&[u8], &[u8]),
+    (mode, sections): (Mode<'_>, (&[u8], &[u8])),
     wanted: (&str, u8),
-    refused: Refusal,
+    (first, refused): (u64, Refusal),
 ) -> bool {
-    let first = match refused {
-        Refusal::Never => MANY,
-        Refusal::Nth(number) | Refusal::From(number) => number,
-    };
     let heap = Failing::new(alloc, refused);
     let mut out = Vec::new(alloc);
-    let answer = walk_text(&heap, Mode::Rows, sections.0, sections.1, &mut out);
+    let answer = walk_text(&heap, mode, sections.0, sections.1, &mut out);
     let text = wanted.0.as_bytes();
     if heap.requests() < first {
         assert_eq!(rt; answer, Ok(wanted.1), "at {refused:?}");
@@ -77,12 +98,12 @@ fn tries_refusal(
 fn tries_each_refusal(
     rt: &impl Abort,
     alloc: Global,
-    sections: (&[u8], &[u8]),
+    walk: (Mode<'_>, (&[u8], &[u8])),
     wanted: (&str, u8),
 ) -> u64 {
     for number in 1..MANY {
-        let alone = tries_refusal(rt, alloc, sections, wanted, Refusal::Nth(number));
-        let first = tries_refusal(rt, alloc, sections, wanted, Refusal::From(number));
+        let alone = tries_refusal(rt, alloc, walk, wanted, (number, Refusal::Nth(number)));
+        let first = tries_refusal(rt, alloc, walk, wanted, (number, Refusal::From(number)));
         assert_eq!(rt; alone, first);
         if !alone {
             return number - 1;
@@ -91,10 +112,12 @@ fn tries_each_refusal(
     MANY
 }
 
+// Sections, steps, and what is written with its status, whether references are followed or not.
+type Case<'a> = (&'a [u8], &'a [u8], &'a [CursorStep], &'a str, u8);
+
 #[test]
 fn writes_whole_lines_where_memory_is_refused(rt: HostRuntime) {
-    let mut unknown_code = THREE_NESTED;
-    unknown_code[0x10] = 0x07;
+    let unknown_code = unknown_code();
     let cases: [(&[u8], &[u8], &str, u8); 4] = [
         (&THREE_NESTED, &TABLE_NESTED_STRINGS, THREE_NESTED_TEXT, 0),
         (&GROWING, &TABLE_GROWING, GROWING_TEXT, 0),
@@ -104,24 +127,18 @@ fn writes_whole_lines_where_memory_is_refused(rt: HostRuntime) {
             "b 0 2e 1\nerror 13 10\n",
             1,
         ),
-        // a code that is declared twice
-        (
-            &THREE_NESTED,
-            &[
-                0x01, 0x2e, 0x01, 0x00, 0x00, 0x01, 0x34, 0x00, 0x00, 0x00, 0x00,
-            ],
-            "error 23\n",
-            1,
-        ),
+        (&THREE_NESTED, &TWICE, "error 23\n", 1),
     ];
     for (info, abbrev, text, status) in cases {
-        let requests = tries_each_refusal(&rt, rt.alloc(), (info, abbrev), (text, status));
+        let walk: (Mode<'_>, (&[u8], &[u8])) = (Mode::Rows, (info, abbrev));
+        let requests = tries_each_refusal(&rt, rt.alloc(), walk, (text, status));
         assert!(rt; 0 < requests && requests < MANY, "at {text}");
     }
 }
 
 #[test]
 fn writes_as_always_where_no_memory_is_needed(rt: HostRuntime) {
+    let nulls: [u8; 13] = [0x09, 0, 0, 0, 0x04, 0, 0, 0, 0, 0, 0x04, 0x00, 0x00];
     let cases: [(&[u8], &[u8], &str, u8); 4] = [
         (&[], &TABLE_NESTED_STRINGS, "no unit\n", 1),
         (
@@ -132,44 +149,133 @@ fn writes_as_always_where_no_memory_is_needed(rt: HostRuntime) {
         ),
         (&THREE_NESTED, &[], "error 1\n", 1),
         // nulls, and no declarations
-        (
-            &[0x09, 0, 0, 0, 0x04, 0, 0, 0, 0, 0, 0x04, 0x00, 0x00],
-            &[0x00],
-            "b 0 0 0\nc -1 0 0\nend\n",
-            0,
-        ),
+        (&nulls, &[0x00], "b 0 0 0\nc -1 0 0\nend\n", 0),
     ];
     for (info, abbrev, text, status) in cases {
-        let refused = tries_refusal(
-            &rt,
-            rt.alloc(),
-            (info, abbrev),
-            (text, status),
-            Refusal::From(1),
-        );
+        let walk: (Mode<'_>, (&[u8], &[u8])) = (Mode::Rows, (info, abbrev));
+        let refusal = (1, Refusal::From(1));
+        let refused = tries_refusal(&rt, rt.alloc(), walk, (text, status), refusal);
         assert!(rt; !refused, "at {text}");
     }
 }
 
-#[test]
-fn says_that_memory_is_refused(rt: HostRuntime) {
-    let heap = Failing::new(rt.alloc(), Refusal::From(1));
-    let mut out = Vec::new(rt.alloc());
-    let mut err = Vec::new(rt.alloc());
+// Tries the words of a command where every request is refused: they answer this status, and write this text.
+fn tries_words_without_memory(rt: &impl Abort, alloc: Global, words: &[&str], wanted: (u8, &[u8])) {
+    let heap = Failing::new(alloc, Refusal::From(1));
+    let mut out = Vec::new(alloc);
+    let mut err = Vec::new(alloc);
     let status = run_words(
         &heap,
-        &["rows", "info", "abbrev"],
+        words,
         |name: &str| -> Option<Vec<u8>> {
             if name == "info" {
-                Vec::from_slice(rt.alloc(), &THREE_NESTED).ok()
+                Vec::from_slice(alloc, &THREE_NESTED).ok()
             } else {
-                Vec::from_slice(rt.alloc(), &TABLE_NESTED_STRINGS).ok()
+                Vec::from_slice(alloc, &TABLE_NESTED_STRINGS).ok()
             }
         },
         &mut out,
         &mut err,
     );
-    assert_eq!(rt; status, 1);
-    assert_eq!(rt; out.as_slice(), MEMORY_LINE);
+    assert_eq!(rt; status, wanted.0);
+    assert_eq!(rt; out.as_slice(), wanted.1);
     assert!(rt; err.is_empty());
+}
+
+#[test]
+fn says_that_memory_is_refused(rt: HostRuntime) {
+    let words = ["rows", "info", "abbrev"];
+    tries_words_without_memory(&rt, rt.alloc(), &words, (1, MEMORY_LINE));
+}
+
+#[test]
+fn words_end_without_one_where_memory_for_the_steps_is_refused(rt: HostRuntime) {
+    for command in ["cursor", "plain"] {
+        let words = [command, "info", "abbrev", "e"];
+        tries_words_without_memory(&rt, rt.alloc(), &words, (3, b""));
+    }
+}
+
+#[test]
+fn a_walk_writes_whole_lines_where_memory_is_refused(rt: HostRuntime) {
+    let unknown_code = unknown_code();
+    let cases: [Case<'_>; 5] = [
+        (
+            &THREE_NESTED,
+            &TABLE_NESTED_STRINGS,
+            &[D, D, D, D, S, E],
+            "yes b 0 2e 1\nyes 10 1 2e 1\nyes 15 2 2e 1\nno 1c 1 0 0\nno 1c 1 0 0\nno 1c 1 0 0\n",
+            0,
+        ),
+        (
+            &SIBLINGS,
+            &TABLE_WITH_SIBLINGS,
+            &[E, S],
+            "yes b 0 2e 1\nyes f 0 34 0\n",
+            0,
+        ),
+        (
+            &OPEN_LIST,
+            &TABLE_WITH_SIBLINGS,
+            &[E, S],
+            "yes b 0 2e 1\nno b 0 0 0\n",
+            0,
+        ),
+        (
+            &unknown_code,
+            &TABLE_NESTED_STRINGS,
+            &[E, E, E],
+            "yes b 0 2e 1\nerror 13 10 1 0 0\nno 10 1 0 0\n",
+            1,
+        ),
+        (&THREE_NESTED, &TWICE, &[E], "error 23\n", 1),
+    ];
+    for (info, abbrev, steps, text, status) in cases {
+        for mode in [Mode::Cursor(steps), Mode::Plain(steps)] {
+            let walk = (mode, (info, abbrev));
+            let requests = tries_each_refusal(&rt, rt.alloc(), walk, (text, status));
+            assert!(rt; 0 < requests && requests < MANY, "at {text}");
+        }
+    }
+}
+
+#[test]
+fn a_walk_of_a_tree_writes_whole_lines_where_memory_is_refused(rt: HostRuntime) {
+    let down = [R, I, N, I, N, O, N];
+    let text = "node b 0 2e 1\nentered\nnode 10 1 2e 1\nentered\nnode 15 2 2e 1\nleft\nend\n";
+    let sections: (&[u8], &[u8]) = (&THREE_NESTED, &TABLE_NESTED_STRINGS);
+    let walk = (Mode::Tree(&down), sections);
+    let requests = tries_each_refusal(&rt, rt.alloc(), walk, (text, 0));
+    assert!(rt; 3 < requests && requests < MANY);
+    let beside = [R, I, N];
+    let sections: (&[u8], &[u8]) = (&SIBLINGS, &TABLE_WITH_SIBLINGS);
+    let walk = (Mode::Tree(&beside), sections);
+    let text = "node b 0 2e 1\nentered\nnode d 1 34 0\n";
+    let requests = tries_each_refusal(&rt, rt.alloc(), walk, (text, 0));
+    assert!(rt; 0 < requests && requests < MANY);
+}
+
+#[test]
+fn a_walk_writes_as_always_where_no_memory_is_needed(rt: HostRuntime) {
+    let cases: [Case<'_>; 5] = [
+        (&[], &TABLE_NESTED_STRINGS, &[E], "no unit\n", 1),
+        (
+            &[0x01, 0x00, 0x00, 0x00, 0x04],
+            &TABLE_NESTED_STRINGS,
+            &[D],
+            "error 1\n",
+            1,
+        ),
+        (&THREE_NESTED, &[], &[S], "error 1\n", 1),
+        (&NO_ENTRIES, &[0x00], &[], "", 0),
+        (&THREE_NESTED, &[0x00], &[], "", 0),
+    ];
+    for (info, abbrev, steps, text, status) in cases {
+        for mode in [Mode::Cursor(steps), Mode::Plain(steps)] {
+            let walk = (mode, (info, abbrev));
+            let refusal = (1, Refusal::From(1));
+            let refused = tries_refusal(&rt, rt.alloc(), walk, (text, status), refusal);
+            assert!(rt; !refused, "at {text}");
+        }
+    }
 }
