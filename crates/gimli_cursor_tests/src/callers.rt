@@ -1,13 +1,11 @@
 //! Loops over entries, as a user of the library writes them.
 
-ghost use Rattle.std.specs.Prelude.{◌≤◌, length};
-
 use crate::samples::{
     NESTED_STRINGS, TABLE_NESTED_STRINGS, TABLE_WITH_SIBLINGS, input, table_of, unit_of, whole,
 };
 use gimli_base::{Abbreviations, LittleEndian, Reader};
-use gimli_units::{EntriesTreeNode, UnitHeader};
-use std::alloc::{Allocator, Global};
+use gimli_units::UnitHeader;
+use std::alloc::Global;
 use std::test::Fail;
 
 // How many entries of a unit have children.
@@ -46,35 +44,29 @@ fn count_parents_below_the_root<R: Reader>(
     Ok(count)
 }
 
-// How many entries the tree of a node has, the node itself among them.
-#[cycle(count)]
-fn count_entries<R: Reader, A: Allocator>(
-    node: EntriesTreeNode<'_, '_, R, A>,
-) -> gimli_base::Result<u64>
-    ensures further { length node.exit.0.now.cursor.raw.rest.bytes ≤ length node.entry.tree.now.cursor.raw.rest.bytes }
-{
-    let EntriesTreeNode { tree } = node;
-    let mut count = 1u64;
-    if !tree.entry().has_children() {
-        return Ok(count);
-    }
-    let depth = tree.next_depth();
-    'children: while tree.go_to_next(depth)? {
-        let child = EntriesTreeNode { tree: &mut *tree };
-        count = count.wrapping_add(count_entries(child)?);
-    }
-    Ok(count)
-}
-
 // How many entries the tree of a unit has.
 fn count_entries_of<R: Reader>(
     alloc: Global,
     unit: &UnitHeader<R>,
     table: &Abbreviations<Global>,
 ) -> gimli_base::Result<u64> {
-    let mut tree = unit.entries_tree(alloc, table, None)?;
-    tree.go_to_root()?;
-    count_entries(EntriesTreeNode { tree: &mut tree })
+    let tree = unit.entries_tree(alloc, table, None)?;
+    let mut walker = tree.walk(alloc);
+    walker.root()?;
+    walker.enter()?;
+    let mut count = 1u64;
+    for _ in 0..u64::MAX {
+        if walker.entered() == 0 {
+            break;
+        }
+        if walker.next()? {
+            count = count.wrapping_add(1);
+            walker.enter()?;
+        } else {
+            walker.leave();
+        }
+    }
+    Ok(count)
 }
 
 #[test]

@@ -2,3 +2,4 @@ pub mod Header
 pub mod Units
 pub mod UnitReads
 pub mod UnitSteps
+pub mod OpenRows

@@ -10,11 +10,12 @@ ghost use Rattle.gimli_base.specs.Offset.{answer_of};
 ghost use Rattle.gimli_base.specs.View.{View};
 ghost use Rattle.gimli_units.specs.Unit.{header_size, size_of_header};
 ghost use Rattle.gimli_headers.specs.Units.{UnitsPlace, next_unit, header_at, transposed, units_ahead, units_of, answered, Tiles, IsHeaderAt};
+ghost use Rattle.gimli_units.specs.UnitHeld.{unit_view};
 
 use crate::parse::parse_unit_header;
 use crate::units::next_header;
 use gimli_base::{EndianSlice, Endianity, Reader, ReaderOffset, Result, Section, SectionId};
-use gimli_units::{DebugInfoOffset, HasUnit, UnitHeader, UnitSectionOffset};
+use gimli_units::{DebugInfoOffset, UnitHeader, UnitSectionOffset};
 use std::fmt::Debug;
 use std::marker::Model;
 
@@ -84,8 +85,8 @@ impl<R: Reader> DebugInfo<R> {
     /// Refusals: `UnexpectedEof`, also where the offset lies behind the section's end, and those of `next` of the units.
     #[tactic(auto, unfolding(crate::specs::Units::header_at))]
     pub fn header_from_offset(&self, offset: DebugInfoOffset<R::Offset>) -> Result<UnitHeader<R>>
-        ensures value { answer_of ⟦<UnitHeader<R> as HasUnit>⟧.unit result ≡ header_at R.Offset.limit InfoSection (R.Offset.number offset.0) (⟦<DebugInfo<R> as Section<R>>⟧.content self.now) }
-        ensures size { IfOk result (λ u. size_of_header (⟦<UnitHeader<R> as HasUnit>⟧.unit u) ≡ header_size (⟦<UnitHeader<R> as HasUnit>⟧.unit u)) }
+        ensures value { answer_of unit_view result ≡ header_at R.Offset.limit InfoSection (R.Offset.number offset.0) (⟦<DebugInfo<R> as Section<R>>⟧.content self.now) }
+        ensures size { IfOk result (λ u. size_of_header (unit_view u) ≡ header_size (unit_view u)) }
     {
         let mut input = self.section.copy();
         input.skip(offset.0)?;
@@ -141,9 +142,9 @@ impl<R: Reader> DebugInfoUnitHeadersIter<R> {
     /// Refusals: `UnexpectedEof`, `UnknownReservedLength`, `UnknownVersion`, `UnknownUnitType`,
     /// `UnsupportedAddressSize`, `UnsupportedOffset`; nothing is left then.
     pub fn next(&mut self) -> Result<Option<UnitHeader<R>>>
-        ensures value { (answer_of (option_map ⟦<UnitHeader<R> as HasUnit>⟧.unit) result, self.new) ≡ next_unit R.Offset.limit InfoSection self.old }
-        ensures ahead { units_ahead R.Offset.limit InfoSection self.old ≡ answered (answer_of (option_map ⟦<UnitHeader<R> as HasUnit>⟧.unit) result) (units_ahead R.Offset.limit InfoSection self.new) }
-        ensures size { IfOk result (λ unit. IfSome unit (λ u. size_of_header (⟦<UnitHeader<R> as HasUnit>⟧.unit u) ≡ header_size (⟦<UnitHeader<R> as HasUnit>⟧.unit u))) }
+        ensures value { (answer_of (option_map unit_view) result, self.new) ≡ next_unit R.Offset.limit InfoSection self.old }
+        ensures ahead { units_ahead R.Offset.limit InfoSection self.old ≡ answered (answer_of (option_map unit_view) result) (units_ahead R.Offset.limit InfoSection self.new) }
+        ensures size { IfOk result (λ unit. IfSome unit (λ u. size_of_header (unit_view u) ≡ header_size (unit_view u))) }
         ensures takes { MatchResult result (λ unit. OnSome unit (length self.new.rest.bytes < length self.old.rest.bytes)) (λ _. length self.new.rest.bytes < length self.old.rest.bytes) }
     {
         next_header(&mut self.input, &mut self.offset, SectionId::DebugInfo)
@@ -153,7 +154,7 @@ impl<R: Reader> DebugInfoUnitHeadersIter<R> {
 impl<R: Reader> Iterator for DebugInfoUnitHeadersIter<R> {
     type Item = Result<UnitHeader<R>>;
 
-    ghost next_gives = { λ s r t. (answer_of (option_map ⟦<UnitHeader<R> as HasUnit>⟧.unit) (transposed r), t) ≡ next_unit R.Offset.limit InfoSection s };
+    ghost next_gives = { λ s r t. (answer_of (option_map unit_view) (transposed r), t) ≡ next_unit R.Offset.limit InfoSection s };
 
     ghost remaining = { λ s. at_most (length s.rest.bytes) };
 

@@ -10,10 +10,11 @@ ghost use Rattle.gimli_base.specs.Offset.{answer_of};
 ghost use Rattle.gimli_base.specs.View.{View};
 ghost use Rattle.gimli_units.specs.Unit.{header_size, size_of_header};
 ghost use Rattle.gimli_headers.specs.Units.{UnitsPlace, next_unit, transposed, units_ahead, units_of, answered, Tiles, IsHeaderAt};
+ghost use Rattle.gimli_units.specs.UnitHeld.{unit_view};
 
 use crate::units::next_header;
 use gimli_base::{EndianSlice, Endianity, Reader, ReaderOffset, Result, Section, SectionId};
-use gimli_units::{HasUnit, UnitHeader, UnitSectionOffset};
+use gimli_units::{UnitHeader, UnitSectionOffset};
 use std::fmt::Debug;
 use std::marker::Model;
 
@@ -123,9 +124,9 @@ impl<R: Reader> DebugTypesUnitHeadersIter<R> {
     /// Refusals: `UnexpectedEof`, `UnknownReservedLength`, `UnknownVersion`, `UnknownUnitType`,
     /// `UnsupportedAddressSize`, `UnsupportedOffset`; nothing is left then.
     pub fn next(&mut self) -> Result<Option<UnitHeader<R>>>
-        ensures value { (answer_of (option_map ⟦<UnitHeader<R> as HasUnit>⟧.unit) result, self.new) ≡ next_unit R.Offset.limit TypesSection self.old }
-        ensures ahead { units_ahead R.Offset.limit TypesSection self.old ≡ answered (answer_of (option_map ⟦<UnitHeader<R> as HasUnit>⟧.unit) result) (units_ahead R.Offset.limit TypesSection self.new) }
-        ensures size { IfOk result (λ unit. IfSome unit (λ u. size_of_header (⟦<UnitHeader<R> as HasUnit>⟧.unit u) ≡ header_size (⟦<UnitHeader<R> as HasUnit>⟧.unit u))) }
+        ensures value { (answer_of (option_map unit_view) result, self.new) ≡ next_unit R.Offset.limit TypesSection self.old }
+        ensures ahead { units_ahead R.Offset.limit TypesSection self.old ≡ answered (answer_of (option_map unit_view) result) (units_ahead R.Offset.limit TypesSection self.new) }
+        ensures size { IfOk result (λ unit. IfSome unit (λ u. size_of_header (unit_view u) ≡ header_size (unit_view u))) }
         ensures takes { MatchResult result (λ unit. OnSome unit (length self.new.rest.bytes < length self.old.rest.bytes)) (λ _. length self.new.rest.bytes < length self.old.rest.bytes) }
     {
         next_header(&mut self.input, &mut self.offset, SectionId::DebugTypes)
@@ -135,7 +136,7 @@ impl<R: Reader> DebugTypesUnitHeadersIter<R> {
 impl<R: Reader> Iterator for DebugTypesUnitHeadersIter<R> {
     type Item = Result<UnitHeader<R>>;
 
-    ghost next_gives = { λ s r t. (answer_of (option_map ⟦<UnitHeader<R> as HasUnit>⟧.unit) (transposed r), t) ≡ next_unit R.Offset.limit TypesSection s };
+    ghost next_gives = { λ s r t. (answer_of (option_map unit_view) (transposed r), t) ≡ next_unit R.Offset.limit TypesSection s };
 
     ghost remaining = { λ s. at_most (length s.rest.bytes) };
 

@@ -16,13 +16,14 @@ ghost use Rattle.gimli_headers.specs.Header.{
 };
 ghost use Rattle.gimli_units.specs.Unit.{header_size, size_of_header};
 ghost use Rattle.gimli_units.specs.UnitKind.{map_type};
+ghost use Rattle.gimli_units.specs.UnitHeld.{unit_view};
 
 use gimli_base::{
     DW_UT_compile, DW_UT_partial, DW_UT_skeleton, DW_UT_split_compile, DW_UT_split_type,
     DW_UT_type, DebugAbbrevOffset, DebugTypeSignature, DwUt, DwoId, Encoding, Error, Format,
     Reader, Result, SectionId,
 };
-use gimli_units::{HasUnit, UnitHeader, UnitOffset, UnitSectionOffset, UnitType};
+use gimli_units::{UnitHeader, UnitOffset, UnitSectionOffset, UnitType};
 
 // What every header says.
 #[derive(Clone, Copy)]
@@ -150,8 +151,8 @@ pub(crate) fn parse_unit_header<R: Reader>(
     section: SectionId,
     unit_offset: UnitSectionOffset<R::Offset>,
 ) -> Result<UnitHeader<R>>
-    ensures value { read (answer_of ⟦<UnitHeader<R> as HasUnit>⟧.unit result) (R.view input.new) ≡ unit_at R.Offset.limit section (R.Offset.number unit_offset.0) (R.view input.old) }
-    ensures size { IfOk result (λ u. size_of_header (⟦<UnitHeader<R> as HasUnit>⟧.unit u) ≡ header_size (⟦<UnitHeader<R> as HasUnit>⟧.unit u)) }
+    ensures value { read (answer_of unit_view result) (R.view input.new) ≡ unit_at R.Offset.limit section (R.Offset.number unit_offset.0) (R.view input.old) }
+    ensures size { IfOk result (λ u. size_of_header (unit_view u) ≡ header_size (unit_view u)) }
 {
     let (unit_length, format) = input.read_initial_length()?;
     let mut rest = input.split(unit_length)?;

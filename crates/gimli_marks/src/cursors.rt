@@ -197,7 +197,7 @@ fn with_unit<R: Reader>(
             all
         }
         Walk::Tree => match unit.entries_tree(alloc, &table, None) {
-            Ok(tree) => with_tree(sum, tree),
+            Ok(tree) => with_tree(alloc, sum, tree),
             Err(error) => refused(sum, error),
         },
     }

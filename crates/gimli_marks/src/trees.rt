@@ -6,66 +6,56 @@ use crate::cursors::with_entry;
 use crate::mixed;
 use crate::units::refused;
 use gimli_base::{Reader, Result};
-use gimli_units::{EntriesTree, EntriesTreeIter, EntriesTreeNode};
+use gimli_units::{EntriesTree, EntriesTreeWalker};
 use std::alloc::Global;
 
-// The checksum with a node's depth and entry, and the depth of the list in which the walk goes on: that of its children, where
-// it has any.
+// The checksum with the depth and the entry of the node that a walk stands on, which is entered.
 #[inline(always)]
-fn with_node<R: Reader>(
-    sum: u64,
-    depth: isize,
-    node: EntriesTreeNode<'_, '_, R, Global>,
-) -> (u64, isize) {
-    let all = with_entry(mixed(sum, depth.unsigned_abs() as u64), node.entry());
-    let children = node.children();
-    (all, if children.open { children.depth } else { depth })
+fn with_node<R: Reader>(sum: u64, walker: &mut EntriesTreeWalker<'_, R, Global>) -> Result<u64> {
+    let all = match walker.entry() {
+        Some(entry) => with_entry(mixed(sum, entry.depth().unsigned_abs() as u64), entry),
+        None => sum,
+    };
+    walker.enter()?;
+    Ok(all)
 }
 
-// The next node of the list of this depth; behind its last the walk goes on in the list above.
+// The next node of the innermost list; behind its last the walk goes on in the list around it.
 #[inline(always)]
-fn next_node<R: Reader>(
-    sum: u64,
-    depth: isize,
-    tree: &mut EntriesTree<'_, R, Global>,
-) -> Result<(u64, isize)> {
-    let mut list = EntriesTreeIter {
-        tree,
-        depth,
-        open: true,
-    };
-    match list.next()? {
-        Some(node) => Ok(with_node(sum, depth, node)),
-        None => Ok((sum, depth.saturating_sub(1))),
+fn next_node<R: Reader>(sum: u64, walker: &mut EntriesTreeWalker<'_, R, Global>) -> Result<u64> {
+    if walker.next()? {
+        with_node(sum, walker)
+    } else {
+        walker.leave();
+        Ok(sum)
     }
 }
 
 // The root and its first child.
-fn first_nodes<R: Reader>(sum: u64, tree: &mut EntriesTree<'_, R, Global>) -> Result<(u64, isize)> {
-    let (all, depth) = with_node(sum, 0, tree.root()?);
-    if depth > 0 {
-        next_node(all, depth, tree)
-    } else {
-        Ok((all, depth))
-    }
+fn first_nodes<R: Reader>(sum: u64, walker: &mut EntriesTreeWalker<'_, R, Global>) -> Result<u64> {
+    walker.root()?;
+    let all = with_node(sum, walker)?;
+    next_node(all, walker)
 }
 
 /// The checksum with all nodes of a tree: the depth, the offset and the tag of each.
 #[inline(never)]
-pub(crate) fn with_tree<R: Reader>(sum: u64, mut tree: EntriesTree<'_, R, Global>) -> u64 {
-    let (mut all, mut depth) = match first_nodes(sum, &mut tree) {
+pub(crate) fn with_tree<R: Reader>(
+    alloc: Global,
+    sum: u64,
+    tree: EntriesTree<'_, R, Global>,
+) -> u64 {
+    let mut walker = tree.walk(alloc);
+    let mut all = match first_nodes(sum, &mut walker) {
         Ok(first) => first,
         Err(error) => return refused(sum, error),
     };
     for _ in 0..u64::MAX {
-        if depth <= 0 {
+        if walker.entered() == 0 {
             break;
         }
-        match next_node(all, depth, &mut tree) {
-            Ok((sum, next)) => {
-                all = sum;
-                depth = next;
-            }
+        match next_node(all, &mut walker) {
+            Ok(next) => all = next,
             Err(error) => return refused(all, error),
         }
     }

@@ -10,7 +10,7 @@ use Rattle.gimli_base.specs.Reading.{Reads, eof, skip_at}
 use Rattle.gimli_units.specs.declared.attribute.Attribute.{Attribute}
 use Rattle.gimli_base.specs.declared.constants.DwTag.{DwTag}
 use Rattle.gimli_units.specs.Value.{map_value, map_attribute}
-use Rattle.gimli_units.specs.Entry.{Entry, Attr, null_entry, is_null, entry_of, first_of}
+use Rattle.gimli_units.specs.Entry.{Entry, Attr, null_entry, is_null, entry_of_parts, first_of}
 use Rattle.gimli_units.specs.Kind.{kind_of, reference, parent, sibling_of}
 use Rattle.gimli_units.specs.RawPlace.{RawPlace, next_offset_of}
 use Rattle.gimli_units.specs.Honest.{within, target}
@@ -36,10 +36,10 @@ leads_to f g None = None
 
 -- where the reference of an entry with children leads
 pub target_of : {R O : Type 0} → (f : R → View) (g : O → ℕ) (tag : DwTag) (flag : Bool) (attrs : List (Attribute R O)) (o : Option (Attribute R O))
-    → is_null (entry_of f g tag flag attrs) ≡ false → flag ≡ true → o ≡ first_of 1 attrs
-    → leads_to f g o ≡ target (kind_of (entry_of f g tag flag attrs))
+    → is_null (entry_of_parts f g tag flag attrs) ≡ false → flag ≡ true → o ≡ first_of 1 attrs
+    → leads_to f g o ≡ target (kind_of (entry_of_parts f g tag flag attrs))
 target_of {R} {O} f g tag flag attrs o null children is =
-    let e : Entry = entry_of f g tag flag attrs in
+    let e : Entry = entry_of_parts f g tag flag attrs in
     let kind : kind_of e ≡ parent (sibling_of e.attributes) = rw (null, children) refl in
     let first : first_of 1 e.attributes ≡ option_map (map_attribute f g) o = first_of-map f g 1 attrs ∙ ap (option_map (map_attribute f g)) (sym is) in
     cases o ∙ ap from (sym first) ∙ ap target (sym kind)

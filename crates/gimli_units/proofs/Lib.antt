@@ -3,11 +3,12 @@ pub mod Bounds
 pub mod Chains
 pub mod CursorSteps
 pub mod Onward
-mod Flagless
+pub mod Flagless
 pub mod Seeking
 pub mod Walking
 pub mod Splits
-mod Jumps
+pub mod Jumps
 mod Memory
 pub mod TreeSteps
 mod SkipTurns
+pub mod WalkerSteps

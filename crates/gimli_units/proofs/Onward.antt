@@ -28,7 +28,7 @@ pub record Onward (start here : CursorView) : Type 0 where
   pub fits : length start.raw.rest.bytes ≤ start.raw.end
   pub sound : IsSound here
 
-same_unit : (c : CursorView) → IsSameUnit c c
+pub same_unit : (c : CursorView) → IsSameUnit c c
 same_unit c = record { encoding = refl; abbreviations = refl; end = refl; follows = refl }
 
 pub onward_start : (c : CursorView) → IsSound c → Onward c c

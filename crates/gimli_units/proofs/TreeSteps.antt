@@ -14,10 +14,10 @@ use Rattle.gimli_units.specs.RawPlace.{RawPlace, next_offset_of, below_flag, dep
 use Rattle.gimli_units.specs.Rows.{Row, Ahead}
 use Rattle.gimli_units.specs.Unit.{UnitView, whole_length, header_size, in_bounds, range_from, entries_in, entries_from, some_entry}
 use Rattle.gimli_units.specs.CursorPlace.{Moved, is_entry, has_depth, arrive, skip_until, seek, first_of_rows}
-use Rattle.gimli_units.specs.CursorMoves.{CursorView, next_of, rows_of, place_of, IsTrueEntry, IsSound}
+use Rattle.gimli_units.specs.CursorMoves.{CursorView, next_of, rows_of, place_of, IsHonestFor, IsTrueEntry, IsSound}
 use Rattle.gimli_units.specs.CursorRead.{after_entry, after_refusal, HasRead, an_entry, the_end, a_refusal, HasSought, Stands}
 use Rattle.gimli_units.specs.CursorStart.{before_first}
-use Rattle.gimli_units.specs.TreePlace.{Lists, list_end, a_fault, rooted, to_root, found_in, to_next}
+use Rattle.gimli_units.specs.TreePlace.{TreeMoved, Lists, list_end, a_fault, rooted, to_root, found_in, to_next}
 use Rattle.gimli_units.specs.TreeMoves.{TreeView, before_root, IsTree, list_of, in_lists, begun, gone_on, HasBegun, HasGoneOn}
 use Rattle.gimli_units.proofs.CursorSteps.{rows_entry, rows_refusal, rows_over}
 use Rattle.gimli_units.proofs.Onward.{Onward, onward_start, onward_read, true_entry, unless_then}
@@ -156,6 +156,7 @@ module _ (limit : ℕ) (t : TreeView) (s : IsTree t) where
             yes = λ k. (true_one is, entry);
             place = λ k. rw same (refl, s.depth);
             refused = λ x fails. absurd (cc);
+            memory = λ k. absurd (cc);
             reads = ap (λ (x : CursorView). x.reads) same;
           }
       cases (the_end none is same) true_one = let least = s.some in absurd (omega (arith, least, none))
@@ -178,6 +179,7 @@ module _ (limit : ℕ) (t : TreeView) (s : IsTree t) where
         refused = λ x fails.
             let one : NoEntryAtGivenOffset (next_offset_of t.start) ≡ x = cc in
             rw (← one) (record { is = λ fine. null_refused e w reads null_e; memory = λ k. absurd (cc); before = start_before });
+        memory = λ k. absurd (cc);
         reads = refl;
       })
   null_read outcome c b (the_end none is same) holds null = let least = s.some in absurd (omega (arith, least, none))
@@ -203,6 +205,7 @@ module _ (limit : ℕ) (t : TreeView) (s : IsTree t) where
         refused = λ y h.
             let two : x ≡ y = cc in
             rw (← two) (record { is = λ fine. fault_refused x (why fine); memory = memory; before = start_before });
+        memory = λ k. refl;
         reads = refl;
       })
 
@@ -288,3 +291,9 @@ module _ (limit : ℕ) (d : ℤ) (t : TreeView) (s : IsTree t) (outcome : Result
     past = λ is entry. let before = s.sound.past entry in let after = (h.yes is).0.after in omega (arith, before, after);
     inside = λ is. let y = h.yes is in no_less c.entry c.raw.depth d y.1 (sound.behind y.1 ∙ ap (depth_after c.entry) y.2);
   }
+
+-- an open list that is at its end, or a closed one, answers so
+pub end_told : (limit : ℕ) (old new : TreeView) (depth : ℤ) (is_open : Bool) → (is_open ≡ true → HasGoneOn limit depth old (Ok false) new) → IsHonestFor limit depth old.cursor
+    → list_end ≡ (to_next old.start.end (in_lists limit old (list_of is_open depth ∷ []))).told
+end_told limit old new depth true gone honest = ap (λ (m : TreeMoved). m.told) ((gone refl).goes honest [])
+end_told limit old new depth false gone honest = closed_end limit old depth false old.start.end refl

@@ -1,6 +1,9 @@
 -- Turns of the walk in depth-first order: each null that is passed leaves what is sought.
-use Rattle.std.proofs.Common.{◌≡◌, ℕ, ◌<◌, ℤ, Bool, true, false, length, Result, Ok, Err, refl, sym, ◌∙◌, arith, inl, inr}
+use Rattle.std.proofs.Common.{◌≡◌, ℕ, ◌+◌, ◌<◌, ℤ, Bool, true, false, length, Option, Some, None, Result, Ok, Err, refl, sym, ◌∙◌, arith, inl, inr}
+use Rattle.std.specs.Prelude.{if◌then◌else◌, ◌==◌, OnErr}
+use Rattle.std.proofs.lemmas.Bool.{ne_eqb}
 use Rattle.std.proofs.lemmas.Bool.Decides.{eqb_tells}
+use Rattle.gimli_base.specs.Later.{IsLater-none}
 use Rattle.gimli_base.specs.declared.error.Error.{Error}
 use Rattle.gimli_base.specs.View.{View}
 use Rattle.gimli_base.specs.Reading.{Reads, UnlessMemory}
@@ -10,10 +13,11 @@ use Rattle.gimli_units.specs.EntryReads.{entry_at-shorter}
 use Rattle.gimli_units.specs.RawPlace.{RawPlace, next_offset_of}
 use Rattle.gimli_units.specs.Rows.{Row}
 use Rattle.gimli_units.specs.CursorPlace.{is_entry, next_in_depth_first_order, next_of_depth, seek}
-use Rattle.gimli_units.specs.CursorMoves.{CursorView, next_of, rows_of, place_of, last_row, Goes, IsPlaceAhead, IsReadOnce, IsSound}
-use Rattle.gimli_units.specs.CursorRead.{after_entry, after_refusal, after_end, HasRead, an_entry, the_end, a_refusal}
-use Rattle.gimli_units.proofs.CursorSteps.{rows_entry, rows_end, rows_refusal, rows_over}
-use Rattle.gimli_units.proofs.Onward.{Onward, onward_start, onward_read, read_once}
+use Rattle.gimli_units.specs.CursorMoves.{CursorView, next_of, rows_of, place_of, last_row, followed_to, Goes, IsPlaceAhead, IsReadOnce, IsSound, one_if_left}
+use Rattle.gimli_units.specs.CursorRead.{after_entry, after_refusal, after_end, HasRead, an_entry, the_end, a_refusal, HasSought}
+use Rattle.gimli_units.proofs.CursorSteps.{read_goes, rows_entry, rows_end, rows_refusal, rows_over}
+use Rattle.gimli_units.specs.CursorLent.{HasReadOn, HasWalked, HasWalkedOver}
+use Rattle.gimli_units.proofs.Onward.{Onward, same_unit, onward_start, onward_read, read_once, true_entry, true_refusal, true_shorter, no_entry, unless_then}
 
 module _ (limit : ℕ) where
   -- where a cursor stands is a place ahead of it
@@ -113,6 +117,44 @@ module _ (limit : ℕ) where
   read_shorter here outcome new (the_end none is same) holds = let x : ◌≡◌ {A = Result Bool Error} (Ok false) (Ok true) = sym is ∙ holds in absurd (cc)
   read_shorter here outcome new (a_refusal x some is same why memory) holds = let y : ◌≡◌ {A = Result Bool Error} (Err x) (Ok true) = sym is ∙ holds in absurd (cc)
 
+  -- an entry that was read ends the walk
+  pub has_walked_to : (start here : CursorView) (outcome : Result Bool Error) (new : CursorView) → Walking start here → HasRead limit here outcome new → outcome ≡ Ok true → is_null new.entry ≡ false
+      → HasWalked limit start (Ok true) new
+  has_walked_to start here outcome new k h holds entry =
+      let on = onward_read limit start here outcome new k.onward h in
+      let is_true = true_entry limit start here outcome new k.onward h holds in
+      let once = read_once limit here outcome new h in
+      record {
+        moves = walked_to start here outcome new k h holds entry;
+        true_entry = λ yes. (is_true, entry);
+        refused = λ e fails. absurd (cc);
+        once = (rw holds at once) ∙ k.once;
+        shorter = λ yes. true_shorter limit start new is_true on.unit;
+        none = λ no. absurd (cc);
+        more = on.more;
+        few = on.few;
+        further = on.further;
+        unit = on.unit;
+      }
+
+  -- and so does the end, or a refusal
+  pub has_walked_out : (start here : CursorView) (outcome : Result Bool Error) (new : CursorView) → Walking start here → HasRead limit here outcome new → (outcome ≡ Ok true → ⊥)
+      → HasWalked limit start outcome new
+  has_walked_out start here outcome new k h never =
+      let on = onward_read limit start here outcome new k.onward h in
+      record {
+        moves = walked_out start here outcome new k h never;
+        true_entry = λ yes. absurd (never yes);
+        refused = λ e fails. (true_refusal limit start here outcome new k.onward h e fails, k.places _ _ (refused_place is_entry here outcome new h e fails));
+        once = unless_then outcome (read_once limit here outcome new h) (λ o. o ∙ k.once);
+        shorter = λ yes. absurd (never yes);
+        none = λ no. rw (no_entry limit here outcome new h never) refl;
+        more = on.more;
+        few = on.few;
+        further = on.further;
+        unit = on.unit;
+      }
+
 -- from an entry its depth is sought
 pub sibling_sought : (limit : ℕ) (c : CursorView) → is_null c.entry ≡ false
     → seek c.raw.end c.depth c.offset (rows_of limit c.raw) ≡ next_of_depth c.raw.end (place_of limit c)
@@ -123,3 +165,84 @@ sibling_sought limit c entry = rw entry refl
 pub no_sibling : (limit : ℕ) (c : CursorView) → is_null c.entry ≡ true → Goes limit (next_of_depth c.raw.end) c (Ok false) c
 unfolding next_of_depth
 no_sibling limit c null = rw null refl
+
+-- from an entry the search for its depth is the step
+pub has_walked_over : (limit : ℕ) (c : CursorView) (outcome : Result Bool Error) (new : CursorView) → is_null c.entry ≡ false → HasSought limit c.depth c.offset c outcome new
+    → HasWalkedOver limit c outcome new
+has_walked_over limit c outcome new entry s = record {
+  moves = λ honest. unless_then outcome (s.found honest) (λ k. k ∙ sibling_sought limit c entry);
+  idle = λ null. absurd (cc);
+  true_entry = s.yes;
+  refused = s.refused;
+  place = s.place;
+  taken = λ t leads. s.there t leads refl;
+  one_read = λ t leads. s.once t leads refl;
+  refused_there = λ e fails t leads. s.refused_there e fails t leads refl;
+  not_found = λ no some. s.no no;
+  counted = λ some never. s.counted never;
+  plain = s.plain;
+  shorter = λ yes. true_shorter limit c new (s.yes yes).0 s.unit;
+  none = λ no. (s.no no).0;
+  more = s.more;
+  few = s.few;
+  further = s.further;
+  unit = s.unit;
+}
+
+-- without a current entry no reference is followed
+none_followed : (c : CursorView) (t : ℕ) → is_null c.entry ≡ true → followed_to c ≡ Some t → ⊥
+none_followed c t null leads = none c.follows (rw null at leads)
+  where
+    none : (b : Bool) → ◌≡◌ {A = Option ℕ} (if b then None else None) (Some t) → ⊥
+    none true h = cc
+    none false h = cc
+
+-- without a current entry nothing is done
+pub has_stayed : (limit : ℕ) (c : CursorView) → is_null c.entry ≡ true → HasWalkedOver limit c (Ok false) c
+has_stayed limit c null = record {
+  moves = λ honest. no_sibling limit c null;
+  idle = λ k. (refl, refl);
+  true_entry = λ yes. absurd (cc);
+  refused = λ e fails. absurd (cc);
+  place = λ e fails. absurd (cc);
+  taken = λ t leads. absurd (none_followed c t null leads);
+  one_read = λ t leads. absurd (none_followed c t null leads);
+  refused_there = λ e fails. absurd (cc);
+  not_found = λ no some. absurd (cc);
+  counted = λ some. absurd (cc);
+  plain = λ k. refl;
+  shorter = λ yes. absurd (cc);
+  none = λ no. null;
+  more = omega arith;
+  few = omega arith;
+  further = IsLater-none c.raw.rest;
+  unit = same_unit c;
+}
+
+-- one read is a step to the next entry
+pub has_read_on : (limit : ℕ) (c : CursorView) (outcome : Result Bool Error) (new : CursorView) → IsSound c → HasRead limit c outcome new → HasReadOn limit c outcome new
+has_read_on limit c outcome new sound h =
+    let start = onward_start c sound in
+    let on = onward_read limit c c outcome new start h in
+    record {
+      moves = read_goes limit c outcome new h;
+      true_entry = true_entry limit c c outcome new start h;
+      refused = true_refusal limit c c outcome new start h;
+      offset = refused_offset h;
+      reads = one_read h;
+      once = read_once limit c outcome new h;
+      none = λ no. rw (no_entry limit c outcome new h (λ yes. let x : ◌≡◌ {A = Result Bool Error} (Ok false) (Ok true) = sym no ∙ yes in cc)) refl;
+      few = on.few;
+      further = on.further;
+      unit = on.unit;
+    }
+  where
+    refused_offset : HasRead limit c outcome new → OnErr outcome (new.offset ≡ next_offset_of c.raw)
+    refused_offset (an_entry e w some reads is same) = rw is tt
+    refused_offset (the_end none is same) = rw is tt
+    refused_offset (a_refusal x some is same why memory) = rw (is, same) refl
+
+    one_read : HasRead limit c outcome new → new.reads ≡ c.reads + one_if_left c.raw.rest
+    one_read (an_entry e w some reads is same) = let k : (length c.raw.rest.bytes == 0) ≡ false = ne_eqb (length c.raw.rest.bytes) 0 some in rw (same, k) refl
+    one_read (the_end none is same) = rw (same, none) (omega arith)
+    one_read (a_refusal x some is same why memory) = let k : (length c.raw.rest.bytes == 0) ≡ false = ne_eqb (length c.raw.rest.bytes) 0 some in rw (same, k) refl

@@ -1,5 +1,5 @@
 -- What the steps that lend an entry answer, and what they leave once it is no longer borrowed (DWARF 5, 2.3).
-use Rattle.std.specs.Prelude.{◌≡◌, ℕ, ◌+◌, ◌<◌, ◌≤◌, Bool, true, false, is_some, length, Option, Some, IfSome, Result, Ok, Err, IfOk}
+use Rattle.std.specs.Prelude.{◌≡◌, ℕ, ◌+◌, ◌<◌, ◌≤◌, Bool, true, false, is_some, length, Option, Some, IfSome, Result, Ok, Err, IfOk, OnErr}
 use Rattle.std.specs.Option.{option_map}
 use Rattle.std.specs.Borrow.{Fml, RattleType, Bor, MutBor}
 use Rattle.std.specs.Io.BufRead.{Rests}
@@ -9,9 +9,24 @@ use Rattle.gimli_base.specs.View.{View}
 use Rattle.gimli_base.specs.Reading.{UnlessMemory}
 use Rattle.gimli_units.specs.declared.entry.DebuggingInformationEntry.{DebuggingInformationEntry}
 use Rattle.gimli_units.specs.Entry.{entry_of, is_null}
-use Rattle.gimli_units.specs.CursorPlace.{some_of, is_entry, has_depth, next_in_depth_first_order, next_of_depth, first_of_rows}
+use Rattle.gimli_units.specs.RawPlace.{next_offset_of}
+use Rattle.gimli_units.specs.CursorPlace.{some_of, is_entry, has_depth, next_row, next_in_depth_first_order, next_of_depth, first_of_rows}
 use Rattle.gimli_units.specs.CursorMoves.{CursorView, Goes, IsHonestFor, followed_to, view_from, rows_from, one_if_left, IsTrueEntry, IsRefused, IsAheadOf, IsNotFound, IsReadOnce, AreFewReads, IsFurther, IsSameUnit}
 use Rattle.gimli_units.specs.CursorRead.{Stands}
+
+-- A step to the next entry, a null too: the place moves as the definition says, unless memory is refused; and whatever the references that were
+-- followed before, what is answered is true. One entry is read where bytes are left.
+pub record HasReadOn (limit : ℕ) (old : CursorView) (outcome : Result Bool Error) (new : CursorView) : Type 0 where
+  pub moves : UnlessMemory outcome (Goes limit (next_row old.raw.end) old outcome new)
+  pub true_entry : outcome ≡ Ok true → IsTrueEntry limit old new
+  pub refused : (e : Error) → outcome ≡ Err e → IsRefused limit old e new
+  pub offset : OnErr outcome (new.offset ≡ next_offset_of old.raw)
+  pub reads : new.reads ≡ old.reads + one_if_left old.raw.rest
+  pub once : UnlessMemory outcome (IsReadOnce limit old new)
+  pub none : outcome ≡ Ok false → is_null new.entry ≡ true
+  pub few : AreFewReads old new
+  pub further : IsFurther old new
+  pub unit : IsSameUnit old new
 
 -- A step to the next entry that is no null: the place moves as the definition says, unless memory is refused; and whatever the
 -- references that were followed before, what is answered is true.
@@ -51,7 +66,7 @@ pub record HasWalkedOver (limit : ℕ) (old : CursorView) (outcome : Result Bool
 -- the entry that is lent is the current one, with its offset and depth
 abbrev pub IsLent : {R A O : Type 0} → (R → View) → (O → ℕ) → Result (Option (Bor (DebuggingInformationEntry R A O))) Error → CursorView → Type 0
 IsLent f g result new =
-    IfOk result (λ o. (option_map (λ e. entry_of f g e.now.tag e.now.has_children e.now.attrs.items) o ≡ some_of new.entry) × IfSome o (λ e. (g e.now.offset.0 ≡ new.offset) × (e.now.depth ≡ new.depth)))
+    IfOk result (λ o. (option_map (λ e. entry_of f g e.now) o ≡ some_of new.entry) × IfSome o (λ e. (g e.now.offset.0 ≡ new.offset) × (e.now.depth ≡ new.depth)))
 
 -- once the entry that is lent is no longer borrowed, a step of this kind was made, and the entry was the current one
 abbrev pub LendsEntry : {R A O : Type 0} → (row : RattleType) → (row.Denot → CursorView) → (R → View) → (O → ℕ) → (CursorView → Result Bool Error → CursorView → Type 0)

@@ -7,7 +7,8 @@ use Rattle.gimli_base.specs.View.{View, cut}
 use Rattle.gimli_base.specs.Reading.{Reads}
 use Rattle.gimli_base.specs.Table.{found}
 use Rattle.gimli_base.specs.Later.{IsLater}
-use Rattle.gimli_units.specs.Entry.{Entry, entry_at, abbreviation_at, takes_memory, null_entry, is_null}
+use Rattle.gimli_units.specs.declared.entry.DebuggingInformationEntry.{DebuggingInformationEntry}
+use Rattle.gimli_units.specs.Entry.{Entry, entry_of, entry_at, abbreviation_at, takes_memory, null_entry, is_null}
 use Rattle.gimli_units.specs.RawPlace.{RawPlace, next_offset_of, depth_after}
 use Rattle.gimli_units.specs.Rows.{Row, Ahead, ahead_at}
 use Rattle.gimli_units.specs.Honest.{usable, IsHonest, AreHonestUntil}
@@ -22,6 +23,10 @@ pub record CursorView : Type 0 where
   pub depth : ℤ
   pub follows : Bool
   pub reads : ℕ
+
+-- a cursor that code holds: its reader, the entry that was read last, whether it follows references, and its reads
+abbrev pub cursor_held : {R A O : Type 0} → (R → View) → (O → ℕ) → RawPlace → DebuggingInformationEntry R A O → Bool → ℕ → CursorView
+cursor_held f g raw e follows reads = record { raw = raw; entry = entry_of f g e; offset = g e.offset.0; depth = e.depth; follows = follows; reads = reads }
 
 -- the next entry of a reader's unit
 abbrev pub next_of : ℕ → RawPlace → View → Reads Entry

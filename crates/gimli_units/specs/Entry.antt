@@ -8,6 +8,7 @@ use Rattle.gimli_base.specs.View.{View}
 use Rattle.gimli_base.specs.Reading.{Reads, ◌>>=◌, made, uleb_at}
 use Rattle.gimli_base.specs.Abbreviations.{Specification, Declaration, Map}
 use Rattle.gimli_units.specs.declared.attribute.Attribute.{Attribute}
+use Rattle.gimli_units.specs.declared.entry.DebuggingInformationEntry.{DebuggingInformationEntry}
 use Rattle.gimli_units.specs.Value.{map_attribute}
 use Rattle.gimli_units.specs.Form.{value_at}
 
@@ -38,9 +39,13 @@ null_entry = record { tag = record { 0 = 0 }; has_children = false; attributes =
 abbrev pub is_null : Entry → Bool
 is_null e = e.tag.0 == 0
 
--- an entry that code holds, by what its readers and offsets stand for
-abbrev pub entry_of : {R O : Type 0} → (R → View) → (O → ℕ) → DwTag → Bool → List (Attribute R O) → Entry
-entry_of f g tag has_children attrs = record { tag = tag; has_children = has_children; attributes = map (map_attribute f g) attrs }
+-- an entry of these parts, by what their readers and offsets stand for
+abbrev pub entry_of_parts : {R O : Type 0} → (R → View) → (O → ℕ) → DwTag → Bool → List (Attribute R O) → Entry
+entry_of_parts f g tag has_children attrs = record { tag = tag; has_children = has_children; attributes = map (map_attribute f g) attrs }
+
+-- an entry that code holds, likewise
+abbrev pub entry_of : {R A O : Type 0} → (R → View) → (O → ℕ) → DebuggingInformationEntry R A O → Entry
+entry_of f g e = entry_of_parts f g e.tag e.has_children e.attrs.items
 
 -- the first attribute of a name
 abbrev pub first_of : {R O : Type 0} → ℕ → List (Attribute R O) → Option (Attribute R O)

@@ -20,9 +20,17 @@ pub mod CursorStart
 pub mod CursorLaw
 pub mod TreePlace
 pub mod TreeMoves
+pub mod TreeWalker
 pub mod PlaceLaw
 pub mod TreeLaw
 pub mod NormalValue
 pub mod PassLaw
 pub mod PassReads
 pub mod WidthLaw
+pub mod UnitHeld
+pub mod UnitRows
+pub mod FirstFalse
+pub mod HonestShift
+pub mod RowLaw
+pub mod LeastFalse
+pub mod StartLaw

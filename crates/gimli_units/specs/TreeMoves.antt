@@ -11,7 +11,7 @@ use Rattle.gimli_units.specs.RawPlace.{RawPlace, next_offset_of}
 use Rattle.gimli_units.specs.Unit.{UnitView, entries_from, some_entry}
 use Rattle.gimli_units.specs.CursorMoves.{CursorView, next_of, rows_of, takes_memory_at, place_of, followed_to, IsAheadOf, IsHonestFor, IsTrueEntry, IsSameUnit, IsFurther, IsSound}
 use Rattle.gimli_units.specs.CursorPlace.{has_depth, first_of_rows}
-use Rattle.gimli_units.specs.CursorRead.{HasSought}
+use Rattle.gimli_units.specs.CursorRead.{HasSought, after_refusal}
 use Rattle.gimli_units.specs.CursorStart.{before_first}
 use Rattle.gimli_units.specs.TreePlace.{Node, Lists, TreePlace, Told, a_node, list_end, a_fault, TreeMoved, to_root, to_next}
 
@@ -97,6 +97,7 @@ pub record HasBegun (limit : ℕ) (old : TreeView) (outcome : Result (Unit {0}) 
   pub yes : outcome ≡ Ok tt → IsTrueEntry limit (before_first true old.start) new.cursor × (is_null new.cursor.entry ≡ false)
   pub place : outcome ≡ Ok tt → (new.cursor.offset ≡ next_offset_of old.start) × (new.cursor.depth ≡ pos 0)
   pub refused : (e : Error) → outcome ≡ Err e → IsNoRoot limit old.start e
+  pub memory : outcome ≡ Err OutOfMemory → new.cursor ≡ after_refusal (before_first true old.start)
   pub reads : new.cursor.reads ≡ 1
 
 -- The tree stands inside a list of this depth: what is read next is no less deep.

@@ -3,10 +3,9 @@
 ghost use Rattle.std.specs.Prelude.{◌≡◌, ◌+◌, ◌-◌, ◌<◌, Option, Some, None, IfSome, if◌then◌else◌};
 ghost use Rattle.std.specs.Option.{option_map};
 ghost use Rattle.gimli_units.specs.Unit.{in_bounds, is_debug_info, is_debug_types, within_unit};
+ghost use Rattle.gimli_units.specs.UnitHeld.{unit_view};
 
-use crate::{
-    DebugInfoOffset, DebugTypesOffset, HasUnit, UnitHeader, UnitOffset, UnitSectionOffset,
-};
+use crate::{DebugInfoOffset, DebugTypesOffset, UnitHeader, UnitOffset, UnitSectionOffset};
 use gimli_base::{Reader, ReaderOffset, SectionId};
 
 impl<T: ReaderOffset> DebugInfoOffset<T> {
@@ -15,7 +14,7 @@ impl<T: ReaderOffset> DebugInfoOffset<T> {
         &self,
         unit: &UnitHeader<R>,
     ) -> Option<UnitSectionOffset<T>>
-        ensures { option_map (λ o. T.number o.0) result ≡ (if is_debug_info (⟦<UnitHeader<R> as HasUnit>⟧.unit unit.now).section then Some (T.number self.now.0) else None) }
+        ensures { option_map (λ o. T.number o.0) result ≡ (if is_debug_info (unit_view unit.now).section then Some (T.number self.now.0) else None) }
     {
         match unit.section() {
             SectionId::DebugInfo => Some(UnitSectionOffset(self.0)),
@@ -28,8 +27,8 @@ impl<T: ReaderOffset> DebugInfoOffset<T> {
         &self,
         unit: &UnitHeader<R>,
     ) -> Option<UnitOffset<T>>
-        ensures value { option_map (λ o. T.number o.0) result ≡ (if is_debug_info (⟦<UnitHeader<R> as HasUnit>⟧.unit unit.now).section then within_unit (⟦<UnitHeader<R> as HasUnit>⟧.unit unit.now) (T.number self.now.0) else None) }
-        ensures back { IfSome result (λ o. (⟦<UnitHeader<R> as HasUnit>⟧.unit unit.now).offset + T.number o.0 ≡ T.number self.now.0) }
+        ensures value { option_map (λ o. T.number o.0) result ≡ (if is_debug_info (unit_view unit.now).section then within_unit (unit_view unit.now) (T.number self.now.0) else None) }
+        ensures back { IfSome result (λ o. (unit_view unit.now).offset + T.number o.0 ≡ T.number self.now.0) }
     {
         self.to_unit_section_offset(unit)?.to_unit_offset(unit)
     }
@@ -41,7 +40,7 @@ impl<T: ReaderOffset> DebugTypesOffset<T> {
         &self,
         unit: &UnitHeader<R>,
     ) -> Option<UnitSectionOffset<T>>
-        ensures { option_map (λ o. T.number o.0) result ≡ (if is_debug_types (⟦<UnitHeader<R> as HasUnit>⟧.unit unit.now).section then Some (T.number self.now.0) else None) }
+        ensures { option_map (λ o. T.number o.0) result ≡ (if is_debug_types (unit_view unit.now).section then Some (T.number self.now.0) else None) }
     {
         match unit.section() {
             SectionId::DebugTypes => Some(UnitSectionOffset(self.0)),
@@ -54,8 +53,8 @@ impl<T: ReaderOffset> DebugTypesOffset<T> {
         &self,
         unit: &UnitHeader<R>,
     ) -> Option<UnitOffset<T>>
-        ensures value { option_map (λ o. T.number o.0) result ≡ (if is_debug_types (⟦<UnitHeader<R> as HasUnit>⟧.unit unit.now).section then within_unit (⟦<UnitHeader<R> as HasUnit>⟧.unit unit.now) (T.number self.now.0) else None) }
-        ensures back { IfSome result (λ o. (⟦<UnitHeader<R> as HasUnit>⟧.unit unit.now).offset + T.number o.0 ≡ T.number self.now.0) }
+        ensures value { option_map (λ o. T.number o.0) result ≡ (if is_debug_types (unit_view unit.now).section then within_unit (unit_view unit.now) (T.number self.now.0) else None) }
+        ensures back { IfSome result (λ o. (unit_view unit.now).offset + T.number o.0 ≡ T.number self.now.0) }
     {
         let in_section = self.to_unit_section_offset(unit)?;
         in_section.to_unit_offset(unit)
@@ -68,8 +67,8 @@ impl<T: ReaderOffset> UnitSectionOffset<T> {
         &self,
         unit: &UnitHeader<R>,
     ) -> Option<UnitOffset<T>>
-        ensures value { option_map (λ o. T.number o.0) result ≡ within_unit (⟦<UnitHeader<R> as HasUnit>⟧.unit unit.now) (T.number self.now.0) }
-        ensures back { IfSome result (λ o. (⟦<UnitHeader<R> as HasUnit>⟧.unit unit.now).offset + T.number o.0 ≡ T.number self.now.0) }
+        ensures value { option_map (λ o. T.number o.0) result ≡ within_unit (unit_view unit.now) (T.number self.now.0) }
+        ensures back { IfSome result (λ o. (unit_view unit.now).offset + T.number o.0 ≡ T.number self.now.0) }
     {
         let offset = UnitOffset(self.0.checked_sub(unit.offset().0)?);
         if unit.is_in_bounds(offset) {
@@ -84,7 +83,7 @@ impl<T: ReaderOffset> UnitSectionOffset<T> {
         &self,
         unit: &UnitHeader<R>,
     ) -> Option<DebugInfoOffset<T>>
-        ensures { option_map (λ o. T.number o.0) result ≡ (if is_debug_info (⟦<UnitHeader<R> as HasUnit>⟧.unit unit.now).section then Some (T.number self.now.0) else None) }
+        ensures { option_map (λ o. T.number o.0) result ≡ (if is_debug_info (unit_view unit.now).section then Some (T.number self.now.0) else None) }
     {
         match unit.section() {
             SectionId::DebugInfo => Some(DebugInfoOffset(self.0)),
@@ -97,7 +96,7 @@ impl<T: ReaderOffset> UnitSectionOffset<T> {
         &self,
         unit: &UnitHeader<R>,
     ) -> Option<DebugTypesOffset<T>>
-        ensures { option_map (λ o. T.number o.0) result ≡ (if is_debug_types (⟦<UnitHeader<R> as HasUnit>⟧.unit unit.now).section then Some (T.number self.now.0) else None) }
+        ensures { option_map (λ o. T.number o.0) result ≡ (if is_debug_types (unit_view unit.now).section then Some (T.number self.now.0) else None) }
     {
         match unit.section() {
             SectionId::DebugTypes => Some(DebugTypesOffset(self.0)),
@@ -109,7 +108,7 @@ impl<T: ReaderOffset> UnitSectionOffset<T> {
 impl<T: ReaderOffset> UnitOffset<T> {
     /// Whether the offset is that of a byte of the unit's entries.
     pub fn is_in_bounds<R: Reader<Offset = T>>(&self, unit: &UnitHeader<R>) -> bool
-        ensures { result ≡ in_bounds (⟦<UnitHeader<R> as HasUnit>⟧.unit unit.now) (T.number self.now.0) }
+        ensures { result ≡ in_bounds (unit_view unit.now) (T.number self.now.0) }
     {
         unit.is_in_bounds(*self)
     }
@@ -119,8 +118,8 @@ impl<T: ReaderOffset> UnitOffset<T> {
         &self,
         unit: &UnitHeader<R>,
     ) -> UnitSectionOffset<T>
-        requires { (⟦<UnitHeader<R> as HasUnit>⟧.unit unit.now).offset + T.number self.now.0 < T.limit }
-        ensures { T.number result.0 ≡ (⟦<UnitHeader<R> as HasUnit>⟧.unit unit.now).offset + T.number self.now.0 }
+        requires { (unit_view unit.now).offset + T.number self.now.0 < T.limit }
+        ensures { T.number result.0 ≡ (unit_view unit.now).offset + T.number self.now.0 }
     {
         UnitSectionOffset(unit.offset().0.checked_add(self.0).unwrap())
     }
@@ -130,8 +129,8 @@ impl<T: ReaderOffset> UnitOffset<T> {
         &self,
         unit: &UnitHeader<R>,
     ) -> Option<DebugInfoOffset<T>>
-        requires { (⟦<UnitHeader<R> as HasUnit>⟧.unit unit.now).offset + T.number self.now.0 < T.limit }
-        ensures { option_map (λ o. T.number o.0) result ≡ (if is_debug_info (⟦<UnitHeader<R> as HasUnit>⟧.unit unit.now).section then Some ((⟦<UnitHeader<R> as HasUnit>⟧.unit unit.now).offset + T.number self.now.0) else None) }
+        requires { (unit_view unit.now).offset + T.number self.now.0 < T.limit }
+        ensures { option_map (λ o. T.number o.0) result ≡ (if is_debug_info (unit_view unit.now).section then Some ((unit_view unit.now).offset + T.number self.now.0) else None) }
     {
         self.to_unit_section_offset(unit).to_debug_info_offset(unit)
     }
@@ -141,8 +140,8 @@ impl<T: ReaderOffset> UnitOffset<T> {
         &self,
         unit: &UnitHeader<R>,
     ) -> Option<DebugTypesOffset<T>>
-        requires { (⟦<UnitHeader<R> as HasUnit>⟧.unit unit.now).offset + T.number self.now.0 < T.limit }
-        ensures { option_map (λ o. T.number o.0) result ≡ (if is_debug_types (⟦<UnitHeader<R> as HasUnit>⟧.unit unit.now).section then Some ((⟦<UnitHeader<R> as HasUnit>⟧.unit unit.now).offset + T.number self.now.0) else None) }
+        requires { (unit_view unit.now).offset + T.number self.now.0 < T.limit }
+        ensures { option_map (λ o. T.number o.0) result ≡ (if is_debug_types (unit_view unit.now).section then Some ((unit_view unit.now).offset + T.number self.now.0) else None) }
     {
         self.to_unit_section_offset(unit)
             .to_debug_types_offset(unit)

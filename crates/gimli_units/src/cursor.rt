@@ -1,17 +1,16 @@
 //! Cursors over the entries of a unit.
 
-ghost use Rattle.std.specs.Prelude.{◌≡◌, ℕ, ◌+◌, ◌-◌, ◌<◌, ◌≤◌, ◌^◌, length, unsigned_abs, Ok, Err, Some, false, true, not, pos, IfOk, IfErr, IfSome, IsOk, OnErr, OnOk, []};
+ghost use Rattle.std.specs.Prelude.{◌≡◌, ◌+◌, ◌-◌, ◌<◌, ◌≤◌, ◌^◌, length, unsigned_abs, Ok, Err, Some, false, true, not, IfOk, IfErr, IfSome, IsOk, []};
 ghost use Rattle.std.specs.Ordering.{int_eq};
 ghost use Rattle.std.specs.Option.{option_map};
-ghost use Rattle.gimli_base.specs.declared.error.Error.{Error as SpecError};
 ghost use Rattle.gimli_base.specs.declared.error.Error.TheVariants.{OutOfMemory};
-ghost use Rattle.gimli_base.specs.Reading.{UnlessMemory};
-ghost use Rattle.gimli_units.specs.Entry.{entry_of, is_null, null_entry};
-ghost use Rattle.gimli_units.specs.RawPlace.{RawPlace, next_offset_of, depth_after};
-ghost use Rattle.gimli_units.specs.CursorPlace.{next_row, next_in_depth_first_order, next_of_depth, first_of_rows, some_of, is_entry, has_depth};
-ghost use Rattle.gimli_units.specs.CursorMoves.{CursorView, Goes, IsHonestFor, followed_to, rows_from, view_from, IsSameUnit, IsTrueEntry, IsRefused, IsNotFound, IsAheadOf, IsFurther, AreFewReads, IsReadOnce, one_if_left, StandsBehind, IsSound};
+ghost use Rattle.gimli_units.specs.Entry.{entry_of, is_null};
+ghost use Rattle.gimli_units.specs.RawPlace.{next_offset_of};
+ghost use Rattle.gimli_units.specs.CursorPlace.{some_of, has_depth};
+ghost use Rattle.gimli_units.specs.CursorMoves.{CursorView, cursor_held, Goes, IsSound};
 ghost use Rattle.gimli_units.specs.CursorStart.{before_first};
-ghost use Rattle.gimli_units.specs.CursorRead.{HasRead, HasSought, Stands, following, reference_for};
+ghost use Rattle.gimli_units.specs.CursorLent.{HasReadOn, HasWalked, HasWalkedOver};
+ghost use Rattle.gimli_units.specs.CursorRead.{HasRead, HasSought, following, reference_for};
 
 use crate::{DebuggingInformationEntry, EntriesRaw, UnitOffset};
 use gimli_base::{Reader, ReaderOffset, Result};
@@ -36,9 +35,9 @@ pub struct EntriesCursor<'abbrev, R: Reader, A: Allocator> {
 impl<'abbrev, R: Reader, A: Allocator> Model for EntriesCursor<'abbrev, R, A> {
     ghost Value = { CursorView };
 
-    ghost view = { λ c. record { raw = c.raw; entry = entry_of R.view R.Offset.number c.entry.tag c.entry.has_children c.entry.attrs.items; offset = R.Offset.number c.entry.offset.0; depth = c.entry.depth; follows = c.follows; reads = c.reads } };
+    ghost view = { λ c. cursor_held R.view R.Offset.number c.raw c.entry c.follows c.reads };
 
-    ghost invariant = { λ c. IsSound (record { raw = c.raw; entry = entry_of R.view R.Offset.number c.entry.tag c.entry.has_children c.entry.attrs.items; offset = R.Offset.number c.entry.offset.0; depth = c.entry.depth; follows = c.follows; reads = c.reads }) };
+    ghost invariant = { λ c. IsSound (cursor_held R.view R.Offset.number c.raw c.entry c.follows c.reads) };
 }
 
 impl<'abbrev, R: Reader, A: Allocator + Copy> EntriesCursor<'abbrev, R, A> {
@@ -76,7 +75,7 @@ impl<'abbrev, R: Reader, A: Allocator> EntriesCursor<'abbrev, R, A> {
     /// The entry that the cursor stands on, if it is on one and not on a null.
     #[inline]
     pub fn current(&self) -> Option<&DebuggingInformationEntry<R, A>>
-        ensures entry { option_map (λ e. entry_of R.view R.Offset.number e.now.tag e.now.has_children e.now.attrs.items) result ≡ some_of self.now.entry }
+        ensures entry { option_map (λ e. entry_of R.view R.Offset.number e.now) result ≡ some_of self.now.entry }
         ensures offset { IfSome result (λ e. R.Offset.number e.now.offset.0 ≡ self.now.offset) }
         ensures depth { IfSome result (λ e. e.now.depth ≡ self.now.depth) }
     {
@@ -138,7 +137,7 @@ impl<'abbrev, R: Reader, A: Allocator> EntriesCursor<'abbrev, R, A> {
     // The entry or the null that was read last.
     #[inline]
     pub(crate) fn last(&self) -> &DebuggingInformationEntry<R, A>
-        ensures entry { entry_of R.view R.Offset.number result.now.tag result.now.has_children result.now.attrs.items ≡ self.now.entry }
+        ensures entry { entry_of R.view R.Offset.number result.now ≡ self.now.entry }
         ensures offset { R.Offset.number result.now.offset.0 ≡ self.now.offset }
         ensures depth { result.now.depth ≡ self.now.depth }
         ensures sound { IsSound self.now }
@@ -220,32 +219,14 @@ impl<'abbrev, R: Reader, A: Allocator> EntriesCursor<'abbrev, R, A> {
     /// depth of what was refused.
     #[inline(always)]
     pub fn next_entry(&mut self) -> Result<bool>
-        ensures moves { UnlessMemory result (Goes R.Offset.limit (next_row self.old.raw.end) self.old result self.new) }
-        ensures true_entry { result ≡ Ok true → IsTrueEntry R.Offset.limit self.old self.new }
-        ensures refused { (e : SpecError) → result ≡ Err e → IsRefused R.Offset.limit self.old e self.new }
-        ensures offset { OnErr result (self.new.offset ≡ next_offset_of self.old.raw) }
-        ensures reads { self.new.reads ≡ self.old.reads + one_if_left self.old.raw.rest }
-        ensures once { UnlessMemory result (IsReadOnce R.Offset.limit self.old self.new) }
-        ensures none { result ≡ Ok false → is_null self.new.entry ≡ true }
-        ensures few { AreFewReads self.old self.new }
-        ensures further { IsFurther self.old self.new }
-        ensures unit { IsSameUnit self.old self.new }
+        ensures { HasReadOn R.Offset.limit self.old result self.new }
     {
         self.read_next()
     }
 
     // Reads on to the next entry that is no null. Answers whether there is one.
     pub(crate) fn walk_on(&mut self) -> Result<bool>
-        ensures moves { UnlessMemory result (Goes R.Offset.limit (next_in_depth_first_order self.old.raw.end) self.old result self.new) }
-        ensures true_entry { result ≡ Ok true → IsTrueEntry R.Offset.limit self.old self.new × (is_null self.new.entry ≡ false) }
-        ensures refused { (e : SpecError) → result ≡ Err e → IsRefused R.Offset.limit self.old e self.new × IsAheadOf R.Offset.limit is_entry self.old self.new }
-        ensures once { UnlessMemory result (IsReadOnce R.Offset.limit self.old self.new) }
-        ensures shorter { result ≡ Ok true → length self.new.raw.rest.bytes < length self.old.raw.rest.bytes }
-        ensures none { result ≡ Ok false → is_null self.new.entry ≡ true }
-        ensures more { self.old.reads ≤ self.new.reads }
-        ensures few { AreFewReads self.old self.new }
-        ensures further { IsFurther self.old self.new }
-        ensures unit { IsSameUnit self.old self.new }
+        ensures { HasWalked R.Offset.limit self.old result self.new }
     {
         let _ = &self.raw;
         'walk: while self.read_next()? {
@@ -258,23 +239,7 @@ impl<'abbrev, R: Reader, A: Allocator> EntriesCursor<'abbrev, R, A> {
 
     // Goes to the next sibling of the current entry, if there is one. Answers whether there was one.
     pub(crate) fn walk_over(&mut self) -> Result<bool>
-        ensures moves { (self.old.follows ≡ true → IsHonestFor R.Offset.limit self.old.depth self.old) → UnlessMemory result (Goes R.Offset.limit (next_of_depth self.old.raw.end) self.old result self.new) }
-        ensures idle { is_null self.old.entry ≡ true → (result ≡ Ok false) × (self.new ≡ self.old) }
-        ensures true_entry { result ≡ Ok true → IsTrueEntry R.Offset.limit self.old self.new × (is_null self.new.entry ≡ false) × (self.new.depth ≡ self.old.depth) }
-        ensures refused { (e : SpecError) → result ≡ Err e → IsRefused R.Offset.limit self.old e self.new }
-        ensures place { (e : SpecError) → result ≡ Err e → (self.old.follows ≡ true → IsHonestFor R.Offset.limit self.old.depth self.old) → IsAheadOf R.Offset.limit (has_depth self.old.depth) self.old self.new }
-        ensures taken { (t : ℕ) → followed_to self.old ≡ Some t → Stands R.Offset.limit result self.new (first_of_rows self.old.raw.end self.old.depth self.old.offset (rows_from R.Offset.limit self.old.raw t self.old.depth)) }
-        ensures one_read { (t : ℕ) → followed_to self.old ≡ Some t → self.new.reads ≡ self.old.reads + one_if_left (view_from self.old.raw t) }
-        ensures refused_there { (e : SpecError) → result ≡ Err e → (t : ℕ) → followed_to self.old ≡ Some t → (self.new.offset ≡ t) × (self.new.depth ≡ self.old.depth) }
-        ensures not_found { result ≡ Ok false → is_null self.old.entry ≡ false → IsNotFound R.Offset.limit self.old.depth self.old.offset self.old self.new }
-        ensures counted { is_null self.old.entry ≡ false → (result ≡ Ok false → ⊥) → self.old.reads < self.new.reads }
-        ensures plain { self.old.follows ≡ false → UnlessMemory result (IsReadOnce R.Offset.limit self.old self.new) }
-        ensures shorter { result ≡ Ok true → length self.new.raw.rest.bytes < length self.old.raw.rest.bytes }
-        ensures none { result ≡ Ok false → is_null self.new.entry ≡ true }
-        ensures more { self.old.reads ≤ self.new.reads }
-        ensures few { AreFewReads self.old self.new }
-        ensures further { IsFurther self.old self.new }
-        ensures unit { IsSameUnit self.old self.new }
+        ensures { HasWalkedOver R.Offset.limit self.old result self.new }
     {
         if !self.is_on_entry() {
             return Ok(false);

@@ -55,7 +55,7 @@ impl<R: Reader, A: Allocator> DebuggingInformationEntry<R, A> {
 
     /// A null, at offset 0 and depth 0.
     pub fn null(alloc: A) -> Self
-        ensures null { entry_of R.view R.Offset.number result.tag result.has_children result.attrs.items ≡ null_entry }
+        ensures null { entry_of R.view R.Offset.number result ≡ null_entry }
         ensures offset { R.Offset.number result.offset.0 ≡ 0 }
         ensures depth { result.depth ≡ pos 0 }
     {
@@ -71,7 +71,7 @@ impl<R: Reader, A: Allocator> DebuggingInformationEntry<R, A> {
     /// Makes it a null; offset and depth stay.
     #[inline]
     pub fn set_null(&mut self)
-        ensures null { entry_of R.view R.Offset.number self.new.tag self.new.has_children self.new.attrs.items ≡ null_entry }
+        ensures null { entry_of R.view R.Offset.number self.new ≡ null_entry }
         ensures offset { self.new.offset ≡ self.old.offset }
         ensures depth { self.new.depth ≡ self.old.depth }
     {
@@ -83,7 +83,7 @@ impl<R: Reader, A: Allocator> DebuggingInformationEntry<R, A> {
     /// Whether it is a null: its tag is 0.
     #[inline]
     pub fn is_null(&self) -> bool
-        ensures { result ≡ is_null (entry_of R.view R.Offset.number self.now.tag self.now.has_children self.now.attrs.items) }
+        ensures { result ≡ is_null (entry_of R.view R.Offset.number self.now) }
     {
         self.tag == DW_TAG_null
     }
@@ -144,7 +144,7 @@ impl<R: Reader, A: Allocator> DebuggingInformationEntry<R, A> {
 
     // Where the sibling reference leads, if there are children and the first reference is an offset in the unit.
     pub(crate) fn sibling(&self) -> Option<UnitOffset<R::Offset>>
-        ensures { option_map (λ o. R.Offset.number o.0) result ≡ target (kind_of (entry_of R.view R.Offset.number self.now.tag self.now.has_children self.now.attrs.items)) }
+        ensures { option_map (λ o. R.Offset.number o.0) result ≡ target (kind_of (entry_of R.view R.Offset.number self.now)) }
     {
         if self.is_null() || !self.has_children {
             return None;
@@ -173,7 +173,7 @@ impl<R: Reader, A: Allocator> DebuggingInformationEntry<R, A> {
 impl<R: Reader, A: Allocator + Copy> DebuggingInformationEntry<R, A> {
     /// An equal entry. Refusal: `OutOfMemory`, only where it has attributes.
     pub fn try_clone(&self, alloc: A) -> Result<Self>
-        ensures value { IfOk result (λ e. entry_of R.view R.Offset.number e.tag e.has_children e.attrs.items ≡ entry_of R.view R.Offset.number self.now.tag self.now.has_children self.now.attrs.items) }
+        ensures value { IfOk result (λ e. entry_of R.view R.Offset.number e ≡ entry_of R.view R.Offset.number self.now) }
         ensures offset { IfOk result (λ e. e.offset ≡ self.now.offset) }
         ensures depth { IfOk result (λ e. e.depth ≡ self.now.depth) }
         ensures refusal { IfErr result (λ e. e ≡ OutOfMemory) }

@@ -72,6 +72,7 @@ impl<R: Reader> HasUnit for UnitHeader<R> {
 }
 
 impl<R: Reader> UnitHeader<R> {
+    ghost use Rattle.gimli_units.specs.UnitHeld.{unit_view};
     ghost use Rattle.gimli_units.specs.Unit.{UnitView, whole_length, header_size, in_bounds, range_from, entries_of, entries_from, range_of, range_to, debug_info_offset, debug_types_offset, size_of_header, unit_entry_at, takes_memory_in};
 
     /// A header of these parts. The whole length, which is 4 or 12 and `unit_length`, has to fit the reader's offsets,
@@ -87,7 +88,7 @@ impl<R: Reader> UnitHeader<R> {
     ) -> Self
         requires length_fits { initial_length_size_of encoding.format + R.Offset.number unit_length < R.Offset.limit }
         requires entries_fit { length (R.view entries_buf).bytes ≤ initial_length_size_of encoding.format + R.Offset.number unit_length }
-        ensures { ⟦<UnitHeader<R> as HasUnit>⟧.unit result ≡ record { encoding = encoding; unit_length = R.Offset.number unit_length; kind = map_type R.Offset.number unit_type; abbreviations = R.Offset.number debug_abbrev_offset.0; section = section; offset = R.Offset.number unit_offset.0; entries = R.view entries_buf } }
+        ensures { unit_view result ≡ record { encoding = encoding; unit_length = R.Offset.number unit_length; kind = map_type R.Offset.number unit_type; abbreviations = R.Offset.number debug_abbrev_offset.0; section = section; offset = R.Offset.number unit_offset.0; entries = R.view entries_buf } }
     {
         UnitHeader {
             encoding,
@@ -102,7 +103,7 @@ impl<R: Reader> UnitHeader<R> {
 
     /// The same header, its reader copied.
     pub fn copy(&self) -> Self
-        ensures { ⟦<UnitHeader<R> as HasUnit>⟧.unit result ≡ ⟦<UnitHeader<R> as HasUnit>⟧.unit self.now }
+        ensures { unit_view result ≡ unit_view self.now }
     {
         UnitHeader {
             encoding: self.encoding,
@@ -117,42 +118,42 @@ impl<R: Reader> UnitHeader<R> {
 
     /// The section that the unit lies in.
     pub fn section(&self) -> SectionId
-        ensures { result ≡ (⟦<UnitHeader<R> as HasUnit>⟧.unit self.now).section }
+        ensures { result ≡ (unit_view self.now).section }
     {
         self.section
     }
 
     /// Where the unit begins in its section.
     pub fn offset(&self) -> UnitSectionOffset<R::Offset>
-        ensures { R.Offset.number result.0 ≡ (⟦<UnitHeader<R> as HasUnit>⟧.unit self.now).offset }
+        ensures { R.Offset.number result.0 ≡ (unit_view self.now).offset }
     {
         self.unit_offset
     }
 
     /// The number in the length field, which does not count the field itself.
     pub fn unit_length(&self) -> R::Offset
-        ensures { R.Offset.number result ≡ (⟦<UnitHeader<R> as HasUnit>⟧.unit self.now).unit_length }
+        ensures { R.Offset.number result ≡ (unit_view self.now).unit_length }
     {
         self.unit_length
     }
 
     /// How the bytes of the unit are read.
     pub fn encoding(&self) -> Encoding
-        ensures { result ≡ (⟦<UnitHeader<R> as HasUnit>⟧.unit self.now).encoding }
+        ensures { result ≡ (unit_view self.now).encoding }
     {
         self.encoding
     }
 
     /// The type of the unit.
     pub fn type_(&self) -> UnitType<R::Offset>
-        ensures { map_type R.Offset.number result ≡ (⟦<UnitHeader<R> as HasUnit>⟧.unit self.now).kind }
+        ensures { map_type R.Offset.number result ≡ (unit_view self.now).kind }
     {
         self.unit_type
     }
 
     /// The version of DWARF.
     pub fn version(&self) -> u16
-        ensures { result ≡ (⟦<UnitHeader<R> as HasUnit>⟧.unit self.now).encoding.version }
+        ensures { result ≡ (unit_view self.now).encoding.version }
     {
         let encoding = self.encoding;
         encoding.version
@@ -160,7 +161,7 @@ impl<R: Reader> UnitHeader<R> {
 
     /// The number of bytes of an address.
     pub fn address_size(&self) -> u8
-        ensures { result ≡ (⟦<UnitHeader<R> as HasUnit>⟧.unit self.now).encoding.address_size }
+        ensures { result ≡ (unit_view self.now).encoding.address_size }
     {
         let encoding = self.encoding;
         encoding.address_size
@@ -168,7 +169,7 @@ impl<R: Reader> UnitHeader<R> {
 
     /// The format, which gives the width of lengths and offsets.
     pub fn format(&self) -> Format
-        ensures { result ≡ (⟦<UnitHeader<R> as HasUnit>⟧.unit self.now).encoding.format }
+        ensures { result ≡ (unit_view self.now).encoding.format }
     {
         let encoding = self.encoding;
         encoding.format
@@ -176,7 +177,7 @@ impl<R: Reader> UnitHeader<R> {
 
     /// Where the unit begins in `.debug_info`, if it lies there.
     pub fn debug_info_offset(&self) -> Option<DebugInfoOffset<R::Offset>>
-        ensures { option_map (λ o. R.Offset.number o.0) result ≡ debug_info_offset (⟦<UnitHeader<R> as HasUnit>⟧.unit self.now) }
+        ensures { option_map (λ o. R.Offset.number o.0) result ≡ debug_info_offset (unit_view self.now) }
     {
         match self.section {
             SectionId::DebugInfo => Some(DebugInfoOffset(self.unit_offset.0)),
@@ -186,7 +187,7 @@ impl<R: Reader> UnitHeader<R> {
 
     /// Where the unit begins in `.debug_types`, if it lies there.
     pub fn debug_types_offset(&self) -> Option<DebugTypesOffset<R::Offset>>
-        ensures { option_map (λ o. R.Offset.number o.0) result ≡ debug_types_offset (⟦<UnitHeader<R> as HasUnit>⟧.unit self.now) }
+        ensures { option_map (λ o. R.Offset.number o.0) result ≡ debug_types_offset (unit_view self.now) }
     {
         match self.section {
             SectionId::DebugTypes => Some(DebugTypesOffset(self.unit_offset.0)),
@@ -196,7 +197,7 @@ impl<R: Reader> UnitHeader<R> {
 
     /// The number of bytes of the header by its format, version and type.
     pub fn size_of_header(&self) -> usize
-        ensures { result ≡ size_of_header (⟦<UnitHeader<R> as HasUnit>⟧.unit self.now) }
+        ensures { result ≡ size_of_header (unit_view self.now) }
     {
         let format = self.encoding.format;
         let field = usize::from(format.initial_length_size());
@@ -213,22 +214,22 @@ impl<R: Reader> UnitHeader<R> {
     /// Whether an address stands for none: it is all ones in the unit's size of addresses, or one less. The size has to
     /// be 1, 2, 4 or 8.
     pub fn is_tombstone_address(&self, address: u64) -> bool
-        requires { IsTrue (is_size (⟦<UnitHeader<R> as HasUnit>⟧.unit self.now).encoding.address_size) }
-        ensures { IsTrue result ↔ (min_tombstone (⟦<UnitHeader<R> as HasUnit>⟧.unit self.now).encoding.address_size ≤ address) }
+        requires { IsTrue (is_size (unit_view self.now).encoding.address_size) }
+        ensures { IsTrue result ↔ (min_tombstone (unit_view self.now).encoding.address_size ≤ address) }
     {
         address >= u64::min_tombstone(self.encoding.address_size)
     }
 
     /// Where the unit's abbreviations begin in `.debug_abbrev`.
     pub fn debug_abbrev_offset(&self) -> DebugAbbrevOffset<R::Offset>
-        ensures { R.Offset.number result.0 ≡ (⟦<UnitHeader<R> as HasUnit>⟧.unit self.now).abbreviations }
+        ensures { R.Offset.number result.0 ≡ (unit_view self.now).abbreviations }
     {
         self.debug_abbrev_offset
     }
 
     /// The number of bytes of the unit, the length field included.
     pub fn length_including_self(&self) -> R::Offset
-        ensures { R.Offset.number result ≡ whole_length (⟦<UnitHeader<R> as HasUnit>⟧.unit self.now) }
+        ensures { R.Offset.number result ≡ whole_length (unit_view self.now) }
     {
         R::Offset::from_u8(self.encoding.format.initial_length_size())
             .checked_add(self.unit_length)
@@ -237,7 +238,7 @@ impl<R: Reader> UnitHeader<R> {
 
     /// The number of bytes before the entries.
     pub fn header_size(&self) -> R::Offset
-        ensures { R.Offset.number result ≡ header_size (⟦<UnitHeader<R> as HasUnit>⟧.unit self.now) }
+        ensures { R.Offset.number result ≡ header_size (unit_view self.now) }
     {
         self.length_including_self()
             .checked_sub(self.entries_buf.len())
@@ -246,7 +247,7 @@ impl<R: Reader> UnitHeader<R> {
 
     /// The offset of the first entry.
     pub fn root_offset(&self) -> UnitOffset<R::Offset>
-        ensures { R.Offset.number result.0 ≡ header_size (⟦<UnitHeader<R> as HasUnit>⟧.unit self.now) }
+        ensures { R.Offset.number result.0 ≡ header_size (unit_view self.now) }
     {
         UnitOffset(self.header_size())
     }
@@ -259,14 +260,14 @@ impl<R: Reader> UnitHeader<R> {
         alloc: A,
         debug_abbrev: &DebugAbbrev<R>,
     ) -> Result<Abbreviations<A>>
-        ensures { UnlessMemory result (answer_of found result ≡ map_at (⟦<UnitHeader<R> as HasUnit>⟧.unit self.now).abbreviations (⟦<DebugAbbrev<R> as Section<R>>⟧.content debug_abbrev.now)) }
+        ensures { UnlessMemory result (answer_of found result ≡ map_at (unit_view self.now).abbreviations (⟦<DebugAbbrev<R> as Section<R>>⟧.content debug_abbrev.now)) }
     {
         debug_abbrev.abbreviations(alloc, self.debug_abbrev_offset)
     }
 
     // Whether an offset is that of an entry's byte: not before the first, and before the end.
     pub(crate) fn is_in_bounds(&self, offset: UnitOffset<R::Offset>) -> bool
-        ensures { result ≡ in_bounds (⟦<UnitHeader<R> as HasUnit>⟧.unit self.now) (R.Offset.number offset.0) }
+        ensures { result ≡ in_bounds (unit_view self.now) (R.Offset.number offset.0) }
     {
         let number = offset.0.into_u64();
         let start = self.header_size().into_u64();
@@ -277,7 +278,7 @@ impl<R: Reader> UnitHeader<R> {
     /// The bytes from an offset to the unit's end. Refusal: `OffsetOutOfBounds`.
     #[tactic(auto, unfolding(crate::specs::Unit::range_from, gimli_base::specs::Reading::skip_at))]
     pub fn range_from(&self, idx: RangeFrom<UnitOffset<R::Offset>>) -> Result<R>
-        ensures { answer_of R.view result ≡ range_from (⟦<UnitHeader<R> as HasUnit>⟧.unit self.now) (R.Offset.number idx.start.0) }
+        ensures { answer_of R.view result ≡ range_from (unit_view self.now) (R.Offset.number idx.start.0) }
     {
         if !self.is_in_bounds(idx.start) {
             return Err(Error::OffsetOutOfBounds(idx.start.0.into_u64()));
@@ -293,7 +294,7 @@ impl<R: Reader> UnitHeader<R> {
     #[tactic(auto, unfolding(crate::specs::Unit::range_of, crate::specs::Unit::range_from, gimli_base::specs::Reading::truncate_at))]
     pub fn range(&self, idx: Range<UnitOffset<R::Offset>>) -> Result<R>
         requires { R.Offset.number idx.start.0 ≤ R.Offset.number idx.end.0 }
-        ensures { answer_of R.view result ≡ range_of (⟦<UnitHeader<R> as HasUnit>⟧.unit self.now) (R.Offset.number idx.start.0) (R.Offset.number idx.end.0) }
+        ensures { answer_of R.view result ≡ range_of (unit_view self.now) (R.Offset.number idx.start.0) (R.Offset.number idx.end.0) }
     {
         let start = idx.start;
         let end = idx.end;
@@ -308,7 +309,7 @@ impl<R: Reader> UnitHeader<R> {
     /// The bytes from the first entry to the one before an offset. Refusal: `OffsetOutOfBounds`.
     #[tactic(auto, unfolding(crate::specs::Unit::range_to, gimli_base::specs::Reading::truncate_at))]
     pub fn range_to(&self, idx: RangeTo<UnitOffset<R::Offset>>) -> Result<R>
-        ensures { answer_of R.view result ≡ range_to (⟦<UnitHeader<R> as HasUnit>⟧.unit self.now) (R.Offset.number idx.end.0) }
+        ensures { answer_of R.view result ≡ range_to (unit_view self.now) (R.Offset.number idx.end.0) }
     {
         if !self.is_in_bounds(idx.end) {
             return Err(Error::OffsetOutOfBounds(idx.end.0.into_u64()));
@@ -330,8 +331,8 @@ impl<R: Reader> UnitHeader<R> {
         abbreviations: &Abbreviations<A>,
         offset: UnitOffset<R::Offset>,
     ) -> Result<DebuggingInformationEntry<R, A>>
-        ensures value { UnlessMemory result (answer_of (λ e. entry_of R.view R.Offset.number e.tag e.has_children e.attrs.items) result ≡ unit_entry_at R.Offset.limit (⟦<UnitHeader<R> as HasUnit>⟧.unit self.now) (found abbreviations.now) (R.Offset.number offset.0)) }
-        ensures without_memory { takes_memory_in (found abbreviations.now) (range_from (⟦<UnitHeader<R> as HasUnit>⟧.unit self.now) (R.Offset.number offset.0)) ≡ false → answer_of (λ e. entry_of R.view R.Offset.number e.tag e.has_children e.attrs.items) result ≡ unit_entry_at R.Offset.limit (⟦<UnitHeader<R> as HasUnit>⟧.unit self.now) (found abbreviations.now) (R.Offset.number offset.0) }
+        ensures value { UnlessMemory result (answer_of (entry_of R.view R.Offset.number) result ≡ unit_entry_at R.Offset.limit (unit_view self.now) (found abbreviations.now) (R.Offset.number offset.0)) }
+        ensures without_memory { takes_memory_in (found abbreviations.now) (range_from (unit_view self.now) (R.Offset.number offset.0)) ≡ false → answer_of (entry_of R.view R.Offset.number) result ≡ unit_entry_at R.Offset.limit (unit_view self.now) (found abbreviations.now) (R.Offset.number offset.0) }
         ensures offset { IfOk result (λ e. R.Offset.number e.offset.0 ≡ R.Offset.number offset.0) }
         ensures depth { IfOk result (λ e. e.depth ≡ pos 0) }
     {
@@ -352,7 +353,7 @@ impl<R: Reader> UnitHeader<R> {
         abbreviations: &'abbrev Abbreviations<A>,
         offset: Option<UnitOffset<R::Offset>>,
     ) -> Result<EntriesRaw<'abbrev, R, A>>
-        ensures { result ≡ entries_from (⟦<UnitHeader<R> as HasUnit>⟧.unit self.now) abbreviations.now (option_map (λ o. R.Offset.number o.0) offset) }
+        ensures { result ≡ entries_from (unit_view self.now) abbreviations.now (option_map (λ o. R.Offset.number o.0) offset) }
     {
         let start = offset.unwrap_or(self.root_offset());
         let input = self.range_from(start..)?;
@@ -366,7 +367,7 @@ impl<R: Reader> UnitHeader<R> {
         alloc: A,
         abbreviations: &'abbrev Abbreviations<A>,
     ) -> EntriesCursor<'abbrev, R, A>
-        ensures { result ≡ cursor_of (⟦<UnitHeader<R> as HasUnit>⟧.unit self.now) abbreviations.now true }
+        ensures { result ≡ cursor_of (unit_view self.now) abbreviations.now true }
     {
         EntriesCursor::new(alloc, self.all_entries(abbreviations), true)
     }
@@ -378,7 +379,7 @@ impl<R: Reader> UnitHeader<R> {
         abbreviations: &'abbrev Abbreviations<A>,
         offset: UnitOffset<R::Offset>,
     ) -> Result<EntriesCursor<'abbrev, R, A>>
-        ensures { result ≡ cursor_from (⟦<UnitHeader<R> as HasUnit>⟧.unit self.now) abbreviations.now true (R.Offset.number offset.0) }
+        ensures { result ≡ cursor_from (unit_view self.now) abbreviations.now true (R.Offset.number offset.0) }
     {
         let raw = self.entries_raw(abbreviations, Some(offset))?;
         Ok(EntriesCursor::new(alloc, raw, true))
@@ -390,7 +391,7 @@ impl<R: Reader> UnitHeader<R> {
         alloc: A,
         abbreviations: &'abbrev Abbreviations<A>,
     ) -> EntriesCursor<'abbrev, R, A>
-        ensures { result ≡ cursor_of (⟦<UnitHeader<R> as HasUnit>⟧.unit self.now) abbreviations.now false }
+        ensures { result ≡ cursor_of (unit_view self.now) abbreviations.now false }
     {
         EntriesCursor::new(alloc, self.all_entries(abbreviations), false)
     }
@@ -402,7 +403,7 @@ impl<R: Reader> UnitHeader<R> {
         abbreviations: &'abbrev Abbreviations<A>,
         offset: UnitOffset<R::Offset>,
     ) -> Result<EntriesCursor<'abbrev, R, A>>
-        ensures { result ≡ cursor_from (⟦<UnitHeader<R> as HasUnit>⟧.unit self.now) abbreviations.now false (R.Offset.number offset.0) }
+        ensures { result ≡ cursor_from (unit_view self.now) abbreviations.now false (R.Offset.number offset.0) }
     {
         let raw = self.entries_raw(abbreviations, Some(offset))?;
         Ok(EntriesCursor::new(alloc, raw, false))
@@ -413,7 +414,7 @@ impl<R: Reader> UnitHeader<R> {
         &self,
         abbreviations: &'abbrev Abbreviations<A>,
     ) -> EntriesRaw<'abbrev, R, A>
-        ensures { result ≡ entries_of (⟦<UnitHeader<R> as HasUnit>⟧.unit self.now) abbreviations.now }
+        ensures { result ≡ entries_of (unit_view self.now) abbreviations.now }
     {
         let input = self.entries_buf.copy();
         EntriesRaw::new(input, self.encoding, abbreviations, self.root_offset())

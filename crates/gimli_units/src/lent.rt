@@ -15,7 +15,17 @@ impl<'abbrev, R: Reader, A: Allocator> EntriesCursor<'abbrev, R, A> {
     ///
     /// Refusals: those of `next_entry`.
     pub fn next_dfs(&mut self) -> Result<Option<&DebuggingInformationEntry<R, A>>>
-        ensures* leaves { sem 𝓛 (LendsEntry (the_row (record { mir = named 0; lft = [] }) R.row A.row R.Endian.row R.Offset.row R.Endian.Kept.row (record { view = R.view }) (record { debug_output = R.debug_output }) (record { big = R.Endian.big; kept = R.Endian.kept; order = R.Endian.order }) (record { debug_output = R.Endian.debug_output }) (record { eq = R.Endian.eq }) (record { number = R.Offset.number; limit = R.Offset.limit }) (record { debug_output = R.Offset.debug_output }) (record { eq = R.Offset.eq }) (record { cmp = R.Offset.cmp }) (record { partial_cmp = R.Offset.partial_cmp }) A.Allocator) (λ c. c) R.view R.Offset.number (HasWalked R.Offset.limit) self.entry result) }
+        ensures* leaves { let row = the_row (record { mir = named 0; lft = [] }) R.row A.row
+            R.Endian.row R.Offset.row R.Endian.Kept.row (record { view = R.view })
+            (record { debug_output = R.debug_output })
+            (record { big = R.Endian.big; kept = R.Endian.kept; order = R.Endian.order })
+            (record { debug_output = R.Endian.debug_output }) (record { eq = R.Endian.eq })
+            (record { number = R.Offset.number; limit = R.Offset.limit })
+            (record { debug_output = R.Offset.debug_output }) (record { eq = R.Offset.eq })
+            (record { cmp = R.Offset.cmp }) (record { partial_cmp = R.Offset.partial_cmp })
+            A.Allocator in
+            let step = HasWalked R.Offset.limit in
+            sem 𝓛 (LendsEntry row (λ c. c) R.view R.Offset.number step self.entry result) }
     {
         self.walk_on()?;
         Ok(self.current())
@@ -31,7 +41,17 @@ impl<'abbrev, R: Reader, A: Allocator> EntriesCursor<'abbrev, R, A> {
     ///
     /// Refusals: those of `next_entry`.
     pub fn next_sibling(&mut self) -> Result<Option<&DebuggingInformationEntry<R, A>>>
-        ensures* leaves { sem 𝓛 (LendsEntry (the_row (record { mir = named 0; lft = [] }) R.row A.row R.Endian.row R.Offset.row R.Endian.Kept.row (record { view = R.view }) (record { debug_output = R.debug_output }) (record { big = R.Endian.big; kept = R.Endian.kept; order = R.Endian.order }) (record { debug_output = R.Endian.debug_output }) (record { eq = R.Endian.eq }) (record { number = R.Offset.number; limit = R.Offset.limit }) (record { debug_output = R.Offset.debug_output }) (record { eq = R.Offset.eq }) (record { cmp = R.Offset.cmp }) (record { partial_cmp = R.Offset.partial_cmp }) A.Allocator) (λ c. c) R.view R.Offset.number (HasWalkedOver R.Offset.limit) self.entry result) }
+        ensures* leaves { let row = the_row (record { mir = named 0; lft = [] }) R.row A.row
+            R.Endian.row R.Offset.row R.Endian.Kept.row (record { view = R.view })
+            (record { debug_output = R.debug_output })
+            (record { big = R.Endian.big; kept = R.Endian.kept; order = R.Endian.order })
+            (record { debug_output = R.Endian.debug_output }) (record { eq = R.Endian.eq })
+            (record { number = R.Offset.number; limit = R.Offset.limit })
+            (record { debug_output = R.Offset.debug_output }) (record { eq = R.Offset.eq })
+            (record { cmp = R.Offset.cmp }) (record { partial_cmp = R.Offset.partial_cmp })
+            A.Allocator in
+            let step = HasWalkedOver R.Offset.limit in
+            sem 𝓛 (LendsEntry row (λ c. c) R.view R.Offset.number step self.entry result) }
     {
         self.walk_over()?;
         Ok(self.current())

@@ -13,6 +13,7 @@ mod offset;
 mod raw;
 mod skip;
 mod tree;
+mod tree_walker;
 mod unit_type;
 mod value;
 
@@ -23,5 +24,6 @@ pub use header::{HasUnit, UnitHeader};
 pub use offset::{DebugInfoOffset, DebugTypesOffset, UnitOffset, UnitSectionOffset};
 pub use raw::EntriesRaw;
 pub use tree::{EntriesTree, EntriesTreeIter, EntriesTreeNode};
+pub use tree_walker::EntriesTreeWalker;
 pub use unit_type::UnitType;
 pub use value::AttributeValue;

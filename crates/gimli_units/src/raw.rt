@@ -179,13 +179,19 @@ impl<'abbrev, R: Reader, A: Allocator> EntriesRaw<'abbrev, R, A> {
     #[inline(always)]
     #[tactic(auto, unfolding(crate::specs::Entry::entry_at))]
     pub fn read_entry(&mut self, entry: &mut DebuggingInformationEntry<R, A>) -> Result<bool>
-        ensures value { UnlessMemory result (read (filled (entry_of R.view R.Offset.number entry.new.tag entry.new.has_children entry.new.attrs.items) result) self.new.rest ≡ entry_at R.Offset.limit self.old.encoding (found self.old.abbreviations) self.old.rest) }
-        ensures without_memory { takes_memory (abbreviation_at (found self.old.abbreviations) self.old.rest) ≡ false → read (filled (entry_of R.view R.Offset.number entry.new.tag entry.new.has_children entry.new.attrs.items) result) self.new.rest ≡ entry_at R.Offset.limit self.old.encoding (found self.old.abbreviations) self.old.rest }
-        ensures some { IfOk result (λ some. some ≡ not (is_null (entry_of R.view R.Offset.number entry.new.tag entry.new.has_children entry.new.attrs.items))) }
+        ensures value { let e = entry_of R.view R.Offset.number entry.new in
+            let declared = found self.old.abbreviations in
+            UnlessMemory result (read (filled e result) self.new.rest
+            ≡ entry_at R.Offset.limit self.old.encoding declared self.old.rest) }
+        ensures without_memory { let e = entry_of R.view R.Offset.number entry.new in
+            let declared = found self.old.abbreviations in
+            takes_memory (abbreviation_at declared self.old.rest) ≡ false → read (filled e result) self.new.rest
+            ≡ entry_at R.Offset.limit self.old.encoding declared self.old.rest }
+        ensures some { IfOk result (λ some. some ≡ not (is_null (entry_of R.view R.Offset.number entry.new))) }
         ensures offset { R.Offset.number entry.new.offset.0 ≡ next_offset_of self.old }
         ensures entry_depth { entry.new.depth ≡ self.old.depth }
-        ensures depth { OnOk result (self.new.depth ≡ depth_after (entry_of R.view R.Offset.number entry.new.tag entry.new.has_children entry.new.attrs.items) self.old.depth) }
-        ensures null { OnErr result (entry_of R.view R.Offset.number entry.new.tag entry.new.has_children entry.new.attrs.items ≡ null_entry) }
+        ensures depth { OnOk result (self.new.depth ≡ depth_after (entry_of R.view R.Offset.number entry.new) self.old.depth) }
+        ensures null { OnErr result (entry_of R.view R.Offset.number entry.new ≡ null_entry) }
         ensures same { self.new ≡ record self.old { rest = self.new.rest; depth = self.new.depth } }
         ensures kept { OnErr result (self.new ≡ self.old) }
     {

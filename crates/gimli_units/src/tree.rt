@@ -11,10 +11,9 @@ ghost use Rattle.gimli_units.specs.CursorPlace.{first_of_rows};
 ghost use Rattle.gimli_units.specs.CursorMoves.{CursorView, rows_of, rows_from, view_from, followed_to, one_if_left, IsHonestFor, IsTrueEntry, IsRefused, IsOver, AreFewReads};
 ghost use Rattle.gimli_units.specs.TreePlace.{children_of, to_root, to_next, found_in};
 ghost use Rattle.gimli_units.specs.TreeMoves.{TreeView, node_at, list_of, on_node, in_lists, before_root, tree_from, told_root, told_next, IsTree, IsNoRoot, HasBegun, IsRefusedWithin, HasGoneOn, IsInside};
+ghost use Rattle.gimli_units.specs.UnitHeld.{unit_view};
 
-use crate::{
-    DebuggingInformationEntry, EntriesCursor, EntriesRaw, HasUnit, UnitHeader, UnitOffset,
-};
+use crate::{DebuggingInformationEntry, EntriesCursor, EntriesRaw, UnitHeader, UnitOffset};
 use gimli_base::{Abbreviations, Error, Reader, ReaderOffset, Result};
 use std::alloc::Allocator;
 use std::marker::Model;
@@ -52,7 +51,7 @@ impl<R: Reader> UnitHeader<R> {
         abbreviations: &'abbrev Abbreviations<A>,
         offset: Option<UnitOffset<R::Offset>>,
     ) -> Result<EntriesTree<'abbrev, R, A>>
-        ensures { result ≡ tree_from (⟦<UnitHeader<R> as HasUnit>⟧.unit self.now) abbreviations.now (option_map (λ o. R.Offset.number o.0) offset) }
+        ensures { result ≡ tree_from (unit_view self.now) abbreviations.now (option_map (λ o. R.Offset.number o.0) offset) }
     {
         let start = self.entries_raw(abbreviations, offset)?;
         Ok(EntriesTree::new(alloc, start))
@@ -99,7 +98,7 @@ impl<'abbrev, R: Reader, A: Allocator> EntriesTree<'abbrev, R, A> {
     /// The entry that was read last, a null where there is none.
     #[inline]
     pub fn entry(&self) -> &DebuggingInformationEntry<R, A>
-        ensures entry { entry_of R.view R.Offset.number result.now.tag result.now.has_children result.now.attrs.items ≡ self.now.cursor.entry }
+        ensures entry { entry_of R.view R.Offset.number result.now ≡ self.now.cursor.entry }
         ensures offset { R.Offset.number result.now.offset.0 ≡ self.now.cursor.offset }
         ensures depth { result.now.depth ≡ self.now.cursor.depth }
     {
@@ -119,7 +118,8 @@ impl<'abbrev, R: Reader, A: Allocator> EntriesTree<'abbrev, R, A> {
 
     /// Goes to the root, as `root` does, without lending the tree.
     pub fn go_to_root(&mut self) -> Result<()>
-        ensures { HasBegun R.Offset.limit self.old result self.new }
+        ensures begun { HasBegun R.Offset.limit self.old result self.new }
+        ensures tree { IsTree self.new }
     {
         let start = self.start.copy();
         self.cursor.restart(start);
@@ -135,7 +135,8 @@ impl<'abbrev, R: Reader, A: Allocator> EntriesTree<'abbrev, R, A> {
     /// least of its type. Answers false at a null of that depth, and at the end of the bytes.
     pub fn go_to_next(&mut self, depth: isize) -> Result<bool>
         requires { unsigned_abs depth < 2 ^ 63 }
-        ensures { HasGoneOn R.Offset.limit depth self.old result self.new }
+        ensures gone_on { HasGoneOn R.Offset.limit depth self.old result self.new }
+        ensures tree { IsTree self.new }
     {
         let offset = self.cursor.offset();
         let found = self.cursor.seek(offset, depth);
@@ -148,8 +149,8 @@ impl<'abbrev, R: Reader, A: Allocator> EntriesTree<'abbrev, R, A> {
 #[derive(Drop)]
 #[derive_where(Debug)]
 pub struct EntriesTreeNode<'abbrev, 'tree, R: Reader, A: Allocator> {
-    /// The tree, which stands on the node's entry.
-    pub tree: &'tree mut EntriesTree<'abbrev, R, A>,
+    // the tree, which stands on the node's entry
+    tree: &'tree mut EntriesTree<'abbrev, R, A>,
 }
 
 /// The children of a node of a tree, one behind the other. Whatever was left unread below one does not change which comes
@@ -157,12 +158,12 @@ pub struct EntriesTreeNode<'abbrev, 'tree, R: Reader, A: Allocator> {
 #[derive(Drop)]
 #[derive_where(Debug)]
 pub struct EntriesTreeIter<'abbrev, 'tree, R: Reader, A: Allocator> {
-    /// The tree, which stands on the entry that was read last.
-    pub tree: &'tree mut EntriesTree<'abbrev, R, A>,
-    /// The depth of the children.
-    pub depth: isize,
-    /// Whether the list is open: it is closed behind its last child, and from the first where no children follow.
-    pub open: bool,
+    // the tree, which stands on the entry that was read last
+    tree: &'tree mut EntriesTree<'abbrev, R, A>,
+    // the depth of the children
+    depth: isize,
+    // whether the list is open: it is closed behind its last child, and from the first where no children follow
+    open: bool,
 }
 
 impl<'abbrev, R: Reader, A: Allocator> EntriesTree<'abbrev, R, A> {
@@ -187,7 +188,7 @@ impl<'abbrev, 'tree, R: Reader, A: Allocator> EntriesTreeNode<'abbrev, 'tree, R,
     /// The entry.
     #[inline]
     pub fn entry(&self) -> &DebuggingInformationEntry<R, A>
-        ensures entry { entry_of R.view R.Offset.number result.now.tag result.now.has_children result.now.attrs.items ≡ self.now.tree.now.cursor.entry }
+        ensures entry { entry_of R.view R.Offset.number result.now ≡ self.now.tree.now.cursor.entry }
         ensures offset { R.Offset.number result.now.offset.0 ≡ self.now.tree.now.cursor.offset }
         ensures depth { result.now.depth ≡ self.now.tree.now.cursor.depth }
     {
@@ -210,6 +211,8 @@ impl<'abbrev, 'tree, R: Reader, A: Allocator> EntriesTreeNode<'abbrev, 'tree, R,
         ensures open { result.open ≡ self.entry.tree.now.cursor.entry.has_children }
         ensures children { is_null self.entry.tree.now.cursor.entry ≡ false → list_of result.open result.depth ≡ children_of (node_at self.entry.tree.now) }
         ensures inside { is_null self.entry.tree.now.cursor.entry ≡ false → result.open ≡ true → IsInside result.depth result.tree.now }
+        ensures shallow { unsigned_abs result.depth < 2 ^ 63 }
+        ensures tree { IsTree result.tree.now }
     {
         let open = self.tree.entry().has_children();
         let depth = self.tree.next_depth();
@@ -230,6 +233,55 @@ impl<'abbrev, 'tree, R: Reader, A: Allocator> EntriesTreeIter<'abbrev, 'tree, R,
     {
         let tree = &*self.tree;
         tree.reads()
+    }
+
+    /// Goes to the next child, as `next` does, without lending it: `entry` and `node` are then the child's. Answers false at
+    /// the null that closes the list, at the end of the bytes, and always when the list is closed.
+    ///
+    /// Refusals: those of `EntriesRaw::read_entry`. Every list of the tree is then at its end, until `root` is asked for.
+    pub fn advance(&mut self) -> Result<bool>
+        ensures same_reference { self.new.tree.ghost_name ≡ self.old.tree.ghost_name }
+        ensures gone_on { self.old.open ≡ true → unsigned_abs self.old.depth < 2 ^ 63 → HasGoneOn R.Offset.limit self.old.depth self.old.tree.now result self.new.tree.now }
+        ensures moved { (result ≡ Ok false → ⊥) → (self.old.open ≡ true) × HasGoneOn R.Offset.limit self.old.depth self.old.tree.now result self.new.tree.now }
+        ensures depth { self.new.depth ≡ self.old.depth }
+        ensures opened { result ≡ Ok true → self.new.open ≡ true }
+        ensures closes { result ≡ Ok false → self.new.open ≡ false }
+        ensures stays { OnErr result (self.new.open ≡ true) }
+        ensures closed { self.old.open ≡ false → (result ≡ Ok false) × (self.new.tree.now ≡ self.old.tree.now) }
+        ensures over { IsOver self.old.tree.now.cursor → result ≡ Ok false }
+    {
+        if !self.open {
+            return Ok(false);
+        }
+        if self.depth == isize::MIN {
+            self.open = false;
+            return Ok(false);
+        }
+        let found = self.tree.go_to_next(self.depth)?;
+        if !found {
+            self.open = false;
+            return Ok(false);
+        }
+        Ok(true)
+    }
+
+    /// The entry that was read last: behind an `advance` that answered true, the child.
+    pub fn entry(&self) -> &DebuggingInformationEntry<R, A>
+        ensures entry { entry_of R.view R.Offset.number result.now ≡ self.now.tree.now.cursor.entry }
+        ensures offset { R.Offset.number result.now.offset.0 ≡ self.now.tree.now.cursor.offset }
+        ensures depth { result.now.depth ≡ self.now.tree.now.cursor.depth }
+    {
+        let tree = &*self.tree;
+        tree.entry()
+    }
+
+    /// The node that the tree stands on: behind an `advance` that answered true, the child.
+    pub fn node<'me>(&'me mut self) -> EntriesTreeNode<'abbrev, 'me, R, A>
+        ensures tree { result.tree.now ≡ self.old.tree.now }
+    {
+        EntriesTreeNode {
+            tree: &mut *self.tree,
+        }
     }
 
     /// The next child: the next entry of the list's depth, before the null that closes the list. Answers none there, at the
@@ -254,19 +306,9 @@ impl<'abbrev, 'tree, R: Reader, A: Allocator> EntriesTreeIter<'abbrev, 'tree, R,
         ensures closed { self.old.open ≡ false → result ≡ Ok None }
         ensures over { IsOver self.old.tree.now.cursor → result ≡ Ok None }
     {
-        if !self.open {
+        if !self.advance()? {
             return Ok(None);
         }
-        if self.depth == isize::MIN {
-            return Ok(None);
-        }
-        let found = self.tree.go_to_next(self.depth)?;
-        if !found {
-            self.open = false;
-            return Ok(None);
-        }
-        Ok(Some(EntriesTreeNode {
-            tree: &mut *self.tree,
-        }))
+        Ok(Some(self.node()))
     }
 }

@@ -1,31 +1,26 @@
 -- The lines of a run, as a text.
-use Rattle.std.proofs.Common.{◌≡◌, ℕ, pos, ◌++◌, Bool, true, false, List, [], ◌∷◌, length, map, take, Option, None, Result, Ok, Err, refl, sym, ap, ◌∙◌, inl}
-use Rattle.std.specs.Prelude.{if◌then◌else◌, IfOk}
-use Rattle.std.specs.List.{list_any}
-use Rattle.std.specs.Result.{is_err}
+use Rattle.std.proofs.Common.{◌≡◌, ℕ, ◌≤◌, ◌++◌, Bool, true, false, List, [], ◌∷◌, length, map, take, Option, None, Result, Ok, Err, refl, sym, ap, ◌∙◌, inl}
+use Rattle.std.specs.Prelude.{IfOk}
+use Rattle.std.specs.List.{concat}
+use Rattle.std.specs.Io.KnownBytes.{Appends}
 use Rattle.std.proofs.lemmas.List.{length-map, map-append}
 use Rattle.gimli_base.specs.declared.error.Error.{Error}
 use Rattle.gimli_base.specs.View.{View}
 use Rattle.gimli_base.specs.Abbreviations.{Map}
 use Rattle.gimli_units.specs.Unit.{UnitView, whole_length}
 use Rattle.gimli_walk.specs.declared.cursor.CursorStep.{CursorStep}
-use Rattle.gimli_walk.specs.declared.cursor.CursorAnswer.{CursorAnswer}
-use Rattle.gimli_walk.specs.Runs.{IsFront}
-use Rattle.gimli_walk.specs.Lines.{WroteRun}
-use Rattle.gimli_walk.specs.Cursors.{Answer, seen, start_of, unit_rows_at, answers_at, answers_text, answer_line, status_of, run_answers, HoldsFrom, RunsAs, IsStopped, IsCut}
-use Rattle.gimli_walk.proofs.CursorTruth.{answers_length}
-use Rattle.gimli_walk.specs.Text.{Wrote, all_lines, some_lines}
-
--- whether an answer is a refusal, by the code's answers
-pub any_seen : {R A O : Type 0} → (f : R → View) (g : O → ℕ) (xs : List (CursorAnswer R A O))
-    → list_any (λ a. is_err a.outcome) xs ≡ list_any (λ a. is_err a.outcome) (map (seen {A = A} f g) xs)
-any_seen f g [] = refl
-any_seen {A = A} f g (x ∷ xs) = cases (is_err x.outcome) refl (any_seen {A = A} f g xs)
-  where
-    cases : (b : Bool) → is_err x.outcome ≡ b → list_any (λ a. is_err a.outcome) xs ≡ list_any (λ a. is_err a.outcome) (map (seen {A = A} f g) xs)
-        → list_any (λ a. is_err a.outcome) (x ∷ xs) ≡ list_any (λ a. is_err a.outcome) (map (seen {A = A} f g) (x ∷ xs))
-    cases true h more = rw h refl
-    cases false h more = rw h more
+use Rattle.gimli_base.specs.Table.{Table, found}
+use Rattle.gimli_units.specs.CursorMoves.{CursorView}
+use Rattle.gimli_units.specs.CursorStart.{cursor_of}
+use Rattle.gimli_walk.specs.Runs.{run_of, IsRunOf, RunsAs}
+use Rattle.gimli_walk.specs.Lines.{WroteRun, memory_line}
+use Rattle.gimli_walk.specs.CursorTurns.{HasRun}
+use Rattle.gimli_walk.specs.Sinks.{ToldSteps}
+use Rattle.gimli_units.specs.UnitRows.{IsHonestAt}
+use Rattle.gimli_walk.specs.Cursors.{Answer, answers_at, answers_text, answer_line, status_of, run_answers, any_sibling, HoldsFrom, IsStopped, IsCut}
+use Rattle.gimli_walk.specs.Text.{Wrote, all_lines, some_lines, WroteSteps, WroteTrue}
+use Rattle.gimli_walk.proofs.WrittenLines.{Appends-trans}
+use Rattle.gimli_walk.proofs.AnswerTruth.{run_from}
 
 pub take_front : {T : Type 0} → (xs ys : List T) → take (length xs) (xs ++ ys) ≡ xs
 take_front [] [] = refl
@@ -36,27 +31,27 @@ take_front (x ∷ xs) ys = ap (λ l. x ∷ l) (take_front xs ys)
 pub stops_by : {X Y : Type 0} → (f : X → Y) (items : List X) (stopped : Bool) (steps : ℕ) → IsStopped stopped (length items) steps → IsStopped stopped (length (map f items)) steps
 stops_by f items stopped steps h = rw (length-map items f) h
 
-pub is_cut : {X Y : Type 0} → (f : X → Y) (items : List X) (stopped : Bool) (steps : ℕ) → IsStopped stopped (length items) steps → IsCut stopped (length (map f items)) steps
-is_cut f items true steps h = inl (stops_by f items true steps h)
-is_cut f items false steps h = stops_by f items false steps h
+pub is_cut : (stopped : Bool) (count steps : ℕ) → IsStopped stopped count steps → IsCut stopped count steps
+is_cut true count steps h = inl h
+is_cut false count steps h = h
 
 -- the lines of a run are those of all answers, or some from the front
-pub run_wrote : {X : Type 0} → (line : X → List ℕ) (status_by : List X → ℕ) (old new : Option (List ℕ)) (xs all : List X) (stopped : Bool) (steps status : ℕ) → IsFront xs all
-    → (stopped ≡ false → xs ≡ all) → length all ≡ steps → IsStopped stopped (length xs) steps → WroteRun old new (record { lines = map line xs; status = status_by xs }) stopped status
+pub run_wrote : {X : Type 0} → (line : X → List ℕ) (status_by : List X → ℕ) (old new : Option (List ℕ)) (xs all : List X) (stopped : Bool) (status : ℕ) → IsRunOf (run_of xs stopped) all
+    → WroteRun old new (record { lines = map line xs; status = status_by xs }) stopped status
     → Wrote old new (record { lines = map line all; status = status_by all }) status
-run_wrote line status_by old new xs all false steps status front whole count stop h = rw (← whole refl) (all_lines h.0 h.1)
-run_wrote {X} line status_by old new xs all true steps status (rest, is) whole count stop h =
+run_wrote line status_by old new xs all false status run h = rw (← run.whole refl) (all_lines h.0 h.1)
+run_wrote {X} line status_by old new xs all true status run h =
+    let rest = run.front.0 in
     let lines : take (length xs) (map line all) ≡ map line xs =
-    ap (λ (l : List X). take (length xs) (map line l)) is ∙ ap (take (length xs)) (map-append line xs rest)
+    ap (λ (l : List X). take (length xs) (map line l)) run.front.1 ∙ ap (take (length xs)) (map-append line xs rest)
     ∙ ap (λ n. take n (map line xs ++ map line rest)) (sym (length-map xs line)) ∙ take_front (map line xs) (map line rest) in
-    some_lines (length xs) (rw (length-map all line, count) stop) (rw lines h.0) h.1
+    some_lines (length xs) (rw (length-map all line) (run.fewer refl)) (rw lines h.0) h.1
 
 -- the text of a run from the first entry of a unit on
 pub run_text : (limit : ℕ) (u : UnitView) (declared : Map) (steps : List CursorStep) (old new : Option (List ℕ)) (xs : List Answer) (stopped : Bool) (status : ℕ)
-    → RunsAs (Ok (xs, stopped)) (run_answers limit u declared None steps) → IsStopped stopped (length xs) (length steps) → WroteRun old new (answers_text xs) stopped status
+    → RunsAs (Ok (run_of xs stopped)) (run_answers limit u declared None steps) → WroteRun old new (answers_text xs) stopped status
     → Wrote old new (answers_text (answers_at limit u declared steps u.entries)) status
-run_text limit u declared steps old new xs stopped status runs stop h =
-    run_wrote answer_line status_of old new xs (answers_at limit u declared steps u.entries) stopped (length steps) status runs.0 runs.1 (answers_length (whole_length u) steps (start_of (unit_rows_at limit u declared (pos 0) u.entries))) stop h
+run_text limit u declared steps old new xs stopped status runs h = run_wrote answer_line status_of old new xs (answers_at limit u declared steps u.entries) stopped status runs h
 
 -- what follows from an answer's fact follows of the answer
 pub if_ok : {E : Type 0} {P Q : ℕ → Type 0} → (r : Result ℕ E) → ((n : ℕ) → P n → Q n) → IfOk r P → IfOk r Q
@@ -68,16 +63,38 @@ pub both_from : (P Q : View → Type 0) (r : Result View Error) → HoldsFrom r 
 both_from P Q (Ok v) p q = (p, q)
 both_from P Q (Err e) p q = p
 
--- the same, by the code's answers
-pub run_lines : {R A O E : Type 0} → (f : R → View) (g : O → ℕ) (limit : ℕ) (u : UnitView) (declared : Map) (steps : List CursorStep) (old new : Option (List ℕ))
-    (items : List (CursorAnswer R A O)) (stopped : Bool) (r : Result ℕ E)
-    → RunsAs (Ok (map (seen {A = A} f g) items, stopped)) (run_answers limit u declared None steps) → IsStopped stopped (length items) (length steps)
-    → IfOk r (λ status. WroteRun old new (answers_text (map (seen {A = A} f g) items)) stopped status)
-    → IfOk r (λ status. Wrote old new (answers_text (answers_at limit u declared steps u.entries)) status)
-run_lines {A = A} f g limit u declared steps old new items stopped r runs stop h =
-    if_ok r (λ status w. run_text limit u declared steps old new (map (seen {A = A} f g) items) stopped status runs (rw (length-map items (seen {A = A} f g)) stop) w) h
+module _ (limit : ℕ) (u : UnitView) (follows : Bool) (steps : List CursorStep) (old new : Option (List ℕ)) where
+  -- what a run from the first entry on told was written
+  pub told_wrote : (t : Table) (c : CursorView) (status : ℕ) → length u.entries.bytes ≤ whole_length u → c ≡ cursor_of u t follows
+      → ToldSteps (HasRun limit c steps) (λ all. Appends old new (concat (map answer_line all)) × (status ≡ status_of all)) (length steps) false → WroteSteps limit u (found t) follows steps old new status
+  told_wrote t c status fits is told = record {
+    run = run_of told.all false;
+    told = run_from limit u t follows None steps told.all false (length told.all) c fits (ap Ok is) told.runs refl told.count;
+    written = told.are_told;
+  }
 
--- the status of answers, by whether one of the code's is a refusal
-pub status_is : {R A O : Type 0} → (f : R → View) (g : O → ℕ) (items : List (CursorAnswer R A O)) (b : Bool) → b ≡ list_any (λ a. is_err a.outcome) items
-    → (if b then 1 else 0) ≡ status_of (map (seen {A = A} f g) items)
-status_is {A = A} f g items b is = rw (← any_seen {A = A} f g items, ← is) refl
+  -- and then the line that says that memory was refused
+  pub told_stopped : (t : Table) (c : CursorView) (mid : Option (List ℕ)) → length u.entries.bytes ≤ whole_length u → c ≡ cursor_of u t follows
+      → ToldSteps (HasRun limit c steps) (λ all. Appends old mid (concat (map answer_line all))) (length steps) true → Appends mid new memory_line → WroteSteps limit u (found t) follows steps old new 1
+  told_stopped t c mid fits is told h = record {
+    run = run_of told.all true;
+    told = run_from limit u t follows None steps told.all true (length told.all) c fits (ap Ok is) told.runs refl told.count;
+    written = (Appends-trans old mid new (concat (map answer_line told.all)) memory_line told.are_told h, refl);
+  }
+
+  module _ {E : Type 0} (declared : Map) (r : Result ℕ E) where
+    -- the lines are those of the definition's answers, where the run's are
+    pub steps_text : (follows ≡ true → any_sibling steps ≡ true → IsHonestAt limit u declared u.entries) → IfOk r (λ status. WroteSteps limit u declared follows steps old new status)
+        → IfOk r (λ status. Wrote old new (answers_text (answers_at limit u declared steps u.entries)) status)
+    steps_text honest h = if_ok r (λ status w. run_text limit u declared steps old new w.run.answers w.run.stopped status (w.told.answers honest) w.written) h
+
+    pub steps_true : IfOk r (λ status. WroteSteps limit u declared follows steps old new status) → IfOk r (λ status. WroteTrue limit u declared follows steps old new status)
+    steps_true h = if_ok r (λ status w. record {
+      all = w.run.answers;
+      stopped = w.run.stopped;
+      count = is_cut w.run.stopped _ _ w.told.stopped;
+      are_true = w.told.are_true;
+      are_stepped = w.told.are_stepped;
+      are_taken = w.told.are_taken;
+      written = w.written;
+    }) h

@@ -6,7 +6,7 @@ use Rattle.gimli_base.specs.declared.error.Error.{Error}
 use Rattle.gimli_base.specs.Table.{Table, found}
 use Rattle.gimli_base.specs.Both.{both}
 use Rattle.gimli_base.specs.Offset.{answer_of}
-use Rattle.gimli_base.specs.View.{cut}
+use Rattle.gimli_base.specs.View.{View, cut}
 use Rattle.gimli_units.specs.Entry.{Entry, is_null}
 use Rattle.gimli_units.specs.RawPlace.{RawPlace, next_offset_of}
 use Rattle.gimli_units.specs.Rows.{Ahead, ahead_at, offset_of_view}
@@ -22,10 +22,12 @@ use Rattle.gimli_units.specs.TreePlace.{Node}
 use Rattle.gimli_units.specs.PlaceLaw.{offset_is}
 use Rattle.gimli_walk.specs.declared.cursor.CursorStep.{CursorStep}
 use Rattle.gimli_walk.specs.declared.cursor.CursorStep.TheVariants.{NextEntry, NextDfs, NextSibling}
-use Rattle.gimli_walk.specs.Cursors.{Answer, step_of, told, start_of, unit_rows_at, start_view, HoldsFrom, is_sibling}
-use Rattle.gimli_walk.specs.TrueAnswers.{IsBehind, IsTrueAnswer, AreTrueAnswers, place_behind, IsHonestBeside, IsNoSibling, a_null, at_end, IsStepped, AreStepped, usable_of, IsTaken, AreTakenFrom, AreTaken}
+use Rattle.gimli_walk.specs.Runs.{run_of, RunsAs}
+use Rattle.gimli_units.specs.UnitRows.{unit_rows_at, start_view, IsHonestFrom}
+use Rattle.gimli_walk.specs.Cursors.{Answer, step_of, told, start_of, answers_at, HoldsFrom, IsStopped, is_sibling, any_sibling}
+use Rattle.gimli_walk.specs.TrueAnswers.{IsBehind, IsTrueAnswer, AreTrueAnswers, place_behind, IsHonestBeside, IsNoSibling, a_null, at_end, IsStepped, AreStepped, usable_of, IsTaken, AreTakenFrom, AreTaken, IsRunFrom}
 use Rattle.gimli_walk.specs.CursorTurns.{answer_at, HasAnswered, HasRun}
-use Rattle.gimli_walk.proofs.CursorTruth.{unless_fine, seen_at, told_is, start_is}
+use Rattle.gimli_walk.proofs.CursorTruth.{unless_fine, seen_at, told_is, start_is, start_in, start_refused, run_as}
 
 -- what is read next stands at the next offset
 pub here_is : (p : RawPlace) → view_from p (next_offset_of p) ≡ p.rest
@@ -233,3 +235,24 @@ module _ (limit : ℕ) (u : UnitView) (t : Table) (fits : length u.entries.bytes
   run_taken (s ∷ steps) c [] stands follows run = tt
   run_taken (s ∷ steps) c (a ∷ all) stands follows (new, answered, more) =
       rw answered.is (run_taken_from steps a.outcome new all (step_stands u t c new stands answered.step.unit answered.step.further) (answered.step.unit.follows ∙ follows) more)
+
+module _ (limit : ℕ) (u : UnitView) (t : Table) (follows : Bool) (start : Option ℕ) (steps : List CursorStep) where
+  -- what a run from a start promises
+  pub run_from : (all : List Answer) (stopped : Bool) (count : ℕ) (c : CursorView) → length u.entries.bytes ≤ whole_length u → Ok c ≡ cursor_start u t follows start → HasRun limit c steps all
+      → count ≡ length all → IsStopped stopped count (length steps) → IsRunFrom limit u (found t) follows steps (start_view u start) (Ok (run_of all stopped))
+  run_from all stopped count c fits begins run counted stop =
+      let inside = start_in limit u t start steps follows c fits begins in
+      parts (start_view u start) (λ h. run_as limit u t start steps follows c all stopped count begins run counted stop (λ any f. h f any))
+      (run_true limit u t fits steps c all inside.0 run) (run_stepped_from limit u t fits follows start steps c all inside.0 inside.1 begins run)
+      (λ f. run_taken limit u t fits steps c all inside.0 (inside.1 ∙ f) run) (rw (← counted) stop)
+    where
+      parts : (r : Result View Error) → ((follows ≡ true → any_sibling steps ≡ true → IsHonestFrom limit u (found t) r) → RunsAs (Ok (run_of all stopped)) (answer_of (answers_at limit u (found t) steps) r))
+          → AreTrueAnswers limit u (found t) all → HoldsFrom r (λ v. AreStepped limit u (found t) follows (start_of (unit_rows_at limit u (found t) (pos 0) v)) steps all)
+          → (follows ≡ true → AreTaken limit u (found t) steps all) → IsStopped stopped (length all) (length steps)
+          → IsRunFrom limit u (found t) follows steps r (Ok (run_of all stopped))
+      parts (Ok v) answers are_true are_stepped are_taken stopped = record { answers = answers; are_true = are_true; are_stepped = are_stepped; are_taken = are_taken; stopped = stopped }
+      parts (Err e) answers are_true are_stepped are_taken stopped = are_stepped
+
+  -- and one that is refused
+  pub refused_from : (e : Error) → Err e ≡ cursor_start u t follows start → IsRunFrom limit u (found t) follows steps (start_view u start) (Err e)
+  refused_from e is = rw (start_refused limit u t start steps follows e is) refl

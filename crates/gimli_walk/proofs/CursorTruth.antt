@@ -17,8 +17,9 @@ use Rattle.gimli_units.specs.CursorLaw.{StandsIn, start_stands}
 use Rattle.gimli_units.specs.PlaceLaw.{IsHonestCursor, honest_start, offset_is, depth_is, honest_for, honest_next, honest_dfs, honest_sibling}
 use Rattle.gimli_walk.specs.declared.cursor.CursorStep.{CursorStep}
 use Rattle.gimli_walk.specs.declared.cursor.CursorStep.TheVariants.{NextEntry, NextDfs, NextSibling}
-use Rattle.gimli_walk.specs.Runs.{IsFront}
-use Rattle.gimli_walk.specs.Cursors.{Answer, step_of, told, answers, start_of, unit_rows_at, start_view, answers_at, run_answers, IsHonestFrom, RunsAs, IsStopped, is_sibling, any_sibling}
+use Rattle.gimli_walk.specs.Runs.{IsFront, run_of, IsRunOf, RunsAs}
+use Rattle.gimli_units.specs.UnitRows.{unit_rows_at, start_view, IsHonestFrom}
+use Rattle.gimli_walk.specs.Cursors.{Answer, step_of, told, answers, start_of, answers_at, run_answers, IsStopped, is_sibling, any_sibling}
 use Rattle.gimli_walk.specs.CursorTurns.{answer_at, HasRun}
 
 pub unless_fine : {A P : Type 0} → (r : Result A Error) → UnlessMemory r P → (r ≡ Err OutOfMemory → ⊥) → P
@@ -80,6 +81,12 @@ front_whole {T} xs all (rest, is) same = cases rest is
     cases [] is = sym (is ∙ append-nil xs)
     cases (x ∷ rest) is = absurd (let long = ap length is ∙ length-append xs (x ∷ rest) in omega (arith, long, same))
 
+-- the first of answers that are as many as the steps are a run of them, by how it ended
+pub run_of_front : {T : Type 0} → (xs all : List T) (stopped : Bool) (count steps : ℕ) → IsFront xs all → count ≡ length xs → length all ≡ steps → IsStopped stopped count steps → IsRunOf (run_of xs stopped) all
+run_of_front xs all true count steps front counted long stop = record { front = front; fewer = λ k. omega (arith, counted, long, stop); whole = λ k. absurd (cc) }
+run_of_front xs all false count steps front counted long stop =
+    record { front = front; fewer = λ k. absurd (cc); whole = λ k. front_whole xs all front (sym counted ∙ stop ∙ sym long) }
+
 -- the place that a cursor starts from is that of a view of the unit
 pub start_is : (u : UnitView) (t : Table) (start : Option ℕ) (p : RawPlace) → Ok p ≡ raw_start u t start
     → (v : View) × (start_view u start ≡ Ok v) × (p ≡ record { rest = v; encoding = u.encoding; abbreviations = t; end = whole_length u; depth = pos 0 })
@@ -93,12 +100,12 @@ start_is u t (Some o) p is = cases (range_from u o) is
 
 module _ (limit : ℕ) (u : UnitView) (t : Table) (start : Option ℕ) (steps : List CursorStep) where
   -- a run of a cursor gives the first of the definition's answers
-  pub run_as : (follows : Bool) (c : CursorView) (all : List Answer) (stopped : Bool) → Ok c ≡ cursor_start u t follows start → HasRun limit c steps all
-      → (stopped ≡ false → length all ≡ length steps) → (any_sibling steps ≡ true → follows ≡ true → IsHonestFrom limit u (found t) (start_view u start))
-      → RunsAs (Ok (all, stopped)) (run_answers limit u (found t) start steps)
-  run_as follows c all stopped begins run whole honest = cases (raw_start u t start) refl begins
+  pub run_as : (follows : Bool) (c : CursorView) (all : List Answer) (stopped : Bool) (count : ℕ) → Ok c ≡ cursor_start u t follows start → HasRun limit c steps all
+      → count ≡ length all → IsStopped stopped count (length steps) → (any_sibling steps ≡ true → follows ≡ true → IsHonestFrom limit u (found t) (start_view u start))
+      → RunsAs (Ok (run_of all stopped)) (run_answers limit u (found t) start steps)
+  run_as follows c all stopped count begins run counted stop honest = cases (raw_start u t start) refl begins
     where
-      cases : (r : Result RawPlace Error) → r ≡ raw_start u t start → Ok c ≡ answer_of (before_first follows) r → RunsAs (Ok (all, stopped)) (run_answers limit u (found t) start steps)
+      cases : (r : Result RawPlace Error) → r ≡ raw_start u t start → Ok c ≡ answer_of (before_first follows) r → RunsAs (Ok (run_of all stopped)) (run_answers limit u (found t) start steps)
       cases (Err x) is e = absurd (cc)
       cases (Ok p) is e =
           let one : c ≡ before_first follows p = cc in
@@ -108,7 +115,7 @@ module _ (limit : ℕ) (u : UnitView) (t : Table) (start : Option ℕ) (steps : 
           let honest_at = rw s.1 at honest in
           let front : IsFront all (answers_at limit u (found t) steps s.0) = run_front limit steps _ all run_at (λ any f. honest_start limit _ refl (honest_at any f)) in
           let p0 : Place = start_of (unit_rows_at limit u (found t) (pos 0) s.0) in
-          rw s.1 (front, λ k. front_whole all (answers_at limit u (found t) steps s.0) front (whole k ∙ sym (answers_length (whole_length u) steps p0)))
+          rw s.1 (run_of_front all (answers_at limit u (found t) steps s.0) stopped count (length steps) front counted (answers_length (whole_length u) steps p0) stop)
 
   -- and it is refused where they are
   pub run_refused : (follows : Bool) (e : Error) → Err e ≡ cursor_start u t follows start → RunsAs (Err e) (run_answers limit u (found t) start steps)

@@ -8,13 +8,14 @@ use Rattle.gimli_base.specs.Abbreviations.{Map}
 use Rattle.gimli_units.specs.CursorPlace.{Place}
 use Rattle.gimli_units.specs.Unit.{UnitView}
 use Rattle.gimli_walk.specs.declared.mode.Mode.{Mode}
-use Rattle.gimli_walk.specs.declared.mode.Mode.TheVariants.{Rows, Cursor, Plain, Tree}
+use Rattle.gimli_walk.specs.declared.mode.Mode.TheVariants.{Rows, Check, Cursor, Plain, Tree}
 use Rattle.gimli_walk.proofs.AnswerLines.{if_ok}
 use Rattle.std.specs.Prelude.{IfOk}
 use Rattle.gimli_walk.specs.Lines.{Text, error_line, memory_line}
 use Rattle.gimli_walk.specs.Text.{Wrote, WroteText, wrote, no_line, declared_text, mode_text, IsHonestMode, IsHonestDeclared, WroteTrueMode, WroteTrueDeclared}
 use Rattle.gimli_walk.specs.declared.cursor.CursorStep.{CursorStep}
-use Rattle.gimli_walk.specs.Cursors.{start_of, unit_rows_at}
+use Rattle.gimli_units.specs.UnitRows.{unit_rows_at}
+use Rattle.gimli_walk.specs.Cursors.{start_of}
 use Rattle.gimli_walk.specs.TrueAnswers.{AreStepped, AreTaken}
 use Rattle.gimli_walk.specs.TreeText.{no_line as no_tree_line}
 use Rattle.gimli_walk.proofs.WrittenLines.{Wrote-only, Wrote-memory}
@@ -82,6 +83,7 @@ undeclared_true limit mode u (Ok declared) e old new refused h = elim (memory_or
   where
     told : (x : Mode) → Appends old new memory_line → WroteTrueMode limit x u declared old new 1
     told Rows k = tt
+    told Check k = tt
     told (Cursor steps) k =
         let none = no_steps limit u declared true (start_of (unit_rows_at limit u declared (pos 0) u.entries)) steps.now in
         record { all = []; stopped = true; count = inr refl; are_true = tt; are_stepped = none.0; are_taken = λ f. none.1; written = (k, refl) }

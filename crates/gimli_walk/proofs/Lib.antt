@@ -1,8 +1,13 @@
 pub mod WrittenLines
+pub mod StoppedLines
 pub mod RowLines
+pub mod Dumps
+pub mod Found
 pub mod Roots
 pub mod Declared
 pub mod WordLines
+pub mod Addresses
+pub mod Telling
 pub mod CursorRuns
 pub mod CursorTruth
 pub mod AnswerTruth

@@ -14,8 +14,9 @@ use Rattle.gimli_units.specs.RowSteps.{ahead_ended}
 use Rattle.gimli_units.specs.Unit.{UnitView, whole_length, header_size, range_from, entries_in, entries_from}
 use Rattle.gimli_headers.specs.UnitReads.{some_size}
 use Rattle.gimli_walk.specs.Lines.{end_line}
-use Rattle.gimli_walk.specs.Text.{Wrote, rows_text, unit_text}
-use Rattle.gimli_walk.proofs.WrittenLines.{Wrote-only}
+use Rattle.gimli_walk.specs.Text.{rows_text, unit_text}
+use Rattle.gimli_walk.specs.Stops.{WroteUntil}
+use Rattle.gimli_walk.proofs.StoppedLines.{until_only}
 
 cut_none : (v : View) → cut 0 v ≡ v
 cut_none v = rw add-zero refl
@@ -60,8 +61,8 @@ module _ (limit : ℕ) (u : UnitView) (t : Table) where
   ]
 
   -- where the reader is refused there is no row
-  pub root_refused : (old new : Option (List ℕ)) (e : Error) → Err e ≡ entries_from u t None → Appends old new end_line → Wrote old new (unit_text limit u (found t)) 0
+  pub root_refused : (old new : Option (List ℕ)) (e : Error) → Err e ≡ entries_from u t None → Appends old new end_line → WroteUntil old new (unit_text limit u (found t)) (Ok 0)
   root_refused old new e is h = elim (root_cases u t) [
-    | inl none ↦ rw (ap rows_text (ahead_ended (entry_at limit u.encoding (found t)) (whole_length u) (pos 0) u.entries none.0)) (Wrote-only old new end_line 0 h)
+    | inl none ↦ rw (ap rows_text (ahead_ended (entry_at limit u.encoding (found t)) (whole_length u) (pos 0) u.entries none.0)) (until_only old new end_line 0 h)
     | inr read ↦ absurd (let e : Err e ≡ Ok (root_place u t) = is ∙ read in cc)
   ]

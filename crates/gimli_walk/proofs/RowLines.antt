@@ -1,5 +1,5 @@
 -- The lines of rows, as the reading of an entry moves along them.
-use Rattle.std.proofs.Common.{◌≡◌, ℕ, ◌<◌, List, Option, Ok, Err, ap, arith, length, length-append}
+use Rattle.std.proofs.Common.{◌≡◌, ℕ, ◌<◌, List, Option, Result, Ok, Err, ap, arith, length, length-append}
 use Rattle.std.specs.Io.KnownBytes.{Appends}
 use Rattle.gimli_base.specs.declared.error.Error.{Error}
 use Rattle.gimli_base.specs.Refusal.{number_of}
@@ -10,42 +10,45 @@ use Rattle.gimli_units.specs.EntryReads.{entry_at-shorter}
 use Rattle.gimli_units.specs.RawPlace.{RawPlace, next_offset_of, depth_after}
 use Rattle.gimli_units.specs.Rows.{Ahead, ahead_at}
 use Rattle.gimli_units.specs.RowSteps.{ahead_ended, ahead_refused, ahead_more}
-use Rattle.gimli_walk.specs.Lines.{Text, row_line, end_line, error_line_at, memory_line}
-use Rattle.gimli_walk.specs.Text.{Wrote, rows_text}
-use Rattle.gimli_walk.proofs.WrittenLines.{Wrote-more, Wrote-only, Wrote-memory}
+use Rattle.gimli_walk.specs.declared.lines.Stop.{Stop}
+use Rattle.gimli_walk.specs.declared.lines.Stop.TheVariants.{Memory}
+use Rattle.gimli_walk.specs.Lines.{Text, row_line, end_line, error_line_at}
+use Rattle.gimli_walk.specs.Text.{rows_text}
+use Rattle.gimli_walk.specs.Stops.{WroteUntil}
+use Rattle.gimli_walk.proofs.StoppedLines.{until_more, until_only, front_none}
 
 -- the text of the rows that are ahead of a reader of entries
 abbrev pub place_text : ℕ → RawPlace → Text
 place_text limit p = rows_text (ahead_at (entry_at limit p.encoding (found p.abbreviations)) p.end p.depth p.rest)
 
-some_lines_of : (a : Ahead) → 0 < length (rows_text a).lines
+pub some_lines_of : (a : Ahead) → 0 < length (rows_text a).lines
 some_lines_of a = simp length-append (omega arith)
 
 module _ (limit : ℕ) (old new : Option (List ℕ)) (p : RawPlace) where
   -- memory was refused before any other line
-  pub rows_memory : Appends old new memory_line → Wrote old new (place_text limit p) 1
-  rows_memory h = Wrote-memory old new (place_text limit p) (some_lines_of (ahead_at (entry_at limit p.encoding (found p.abbreviations)) p.end p.depth p.rest)) h
+  pub rows_memory : WroteUntil old old (place_text limit p) (Err Memory)
+  rows_memory = front_none old (place_text limit p) (some_lines_of (ahead_at (entry_at limit p.encoding (found p.abbreviations)) p.end p.depth p.rest))
 
   -- no row is left
-  pub rows_ended : length p.rest.bytes ≡ 0 → Appends old new end_line → Wrote old new (place_text limit p) 0
+  pub rows_ended : length p.rest.bytes ≡ 0 → Appends old new end_line → WroteUntil old new (place_text limit p) (Ok 0)
   rows_ended none h =
       let e = ap rows_text (ahead_ended (entry_at limit p.encoding (found p.abbreviations)) p.end p.depth p.rest none) in
-      rw e (Wrote-only old new end_line 0 h)
+      rw e (until_only old new end_line 0 h)
 
   -- a refusal ends the rows
   pub rows_refused : (e : Error) → (length p.rest.bytes ≡ 0 → ⊥) → Err e ≡ entry_at limit p.encoding (found p.abbreviations) p.rest
-      → Appends old new (error_line_at (number_of e) (next_offset_of p)) → Wrote old new (place_text limit p) 1
+      → Appends old new (error_line_at (number_of e) (next_offset_of p)) → WroteUntil old new (place_text limit p) (Ok 1)
   rows_refused e some refused h =
       let is = ap rows_text (ahead_refused (entry_at limit p.encoding (found p.abbreviations)) p.end p.depth p.rest e some refused) in
-      rw is (Wrote-only old new (error_line_at (number_of e) (next_offset_of p)) 1 h)
+      rw is (until_only old new (error_line_at (number_of e) (next_offset_of p)) 1 h)
 
 -- a row's line, and then those of the rows behind it
-pub rows_more : (limit : ℕ) (old mid new : Option (List ℕ)) (p : RawPlace) (e : Entry) (w : View) (given : ℕ)
+pub rows_more : (limit : ℕ) (old mid new : Option (List ℕ)) (p : RawPlace) (e : Entry) (w : View) (r : Result ℕ Stop)
     → (length p.rest.bytes ≡ 0 → ⊥) → Ok (e, w) ≡ entry_at limit p.encoding (found p.abbreviations) p.rest
     → Appends old mid (row_line (next_offset_of p) p.depth e.tag.0 e.has_children)
-    → Wrote mid new (place_text limit (record p { rest = w; depth = depth_after e p.depth })) given
-    → Wrote old new (place_text limit p) given
-rows_more limit old mid new p e w given some read h rest =
+    → WroteUntil mid new (place_text limit (record p { rest = w; depth = depth_after e p.depth })) r
+    → WroteUntil old new (place_text limit p) r
+rows_more limit old mid new p e w r some read h rest =
     let next = entry_at limit p.encoding (found p.abbreviations) in
     let is = ap rows_text (ahead_more next p.end (λ v u x. entry_at-shorter limit p.encoding (found p.abbreviations) v u x) p.depth p.rest e w some read) in
-    rw is (Wrote-more old mid new _ _ _ given h rest)
+    rw is (until_more old mid new _ _ _ r h rest)

@@ -23,12 +23,14 @@ use Rattle.gimli_units.specs.TreePlace.{Node, Lists, Told, a_node, list_end, a_f
 use Rattle.gimli_units.specs.TreeMoves.{TreeView, before_root, tree_from, node_at, HasBegun, HasGoneOn}
 use Rattle.gimli_walk.specs.declared.tree.TreeStep.{TreeStep}
 use Rattle.gimli_walk.specs.declared.tree.TreeStep.TheVariants.{Root, Next, Enter, Leave}
-use Rattle.gimli_walk.specs.Runs.{IsFront}
-use Rattle.gimli_walk.specs.Cursors.{unit_rows_at, HoldsFrom, IsHonestFrom, RunsAs, IsStopped}
+use Rattle.gimli_walk.specs.Runs.{IsFront, run_of, RunsAs}
+use Rattle.gimli_units.specs.UnitRows.{unit_rows_at, IsHonestFrom}
+use Rattle.gimli_walk.specs.Cursors.{HoldsFrom, IsStopped}
 use Rattle.gimli_walk.specs.Trees.{tree_answers_at, before_steps, tree_view, run_tree_answers}
 use Rattle.gimli_walk.specs.TrueTolds.{IsTrueTold, AreTrueTolds, AreRoots, root_at, last_node, IsPast, IsPastLast, AreGrowing, is_next, is_root, IsTakenFrom, IsTakenBehind, AreTakenBehind}
-use Rattle.gimli_walk.specs.TreeTurns.{Standing, at_none, told_begun, told_asked, after_asked, HasAsked, HasTurned, HasTreeRun}
-use Rattle.gimli_walk.proofs.CursorTruth.{unless_fine, front_whole}
+use Rattle.gimli_units.specs.TreeWalker.{Standing, at_none, told_begun, told_asked, after_asked}
+use Rattle.gimli_walk.specs.TreeTurns.{HasAsked, HasTurned, HasTreeRun}
+use Rattle.gimli_walk.proofs.CursorTruth.{unless_fine, run_of_front}
 use Rattle.gimli_walk.proofs.AnswerTruth.{here_is, low_bound}
 use Rattle.gimli_walk.proofs.TreeTruth.{turn_same, tree_front, tree_answers_length}
 
@@ -364,7 +366,7 @@ module _ (limit : ℕ) (u : UnitView) (t : Table) (fits : length u.entries.bytes
   run_tree_taken = tree_taken limit u t fits steps (at_none tree []) all None run first_in tt
 
   pub run_tree_as : (stopped : Bool) (count : ℕ) → count ≡ length all → IsStopped stopped count (length steps) → IsHonestFrom limit u (found t) (tree_view u start)
-      → RunsAs (Ok (all, stopped)) (run_tree_answers limit u (found t) start steps)
+      → RunsAs (Ok (run_of all stopped)) (run_tree_answers limit u (found t) start steps)
   run_tree_as stopped count counted stop honest =
       let i = tree_is u t start tree begins in
       let s = tree_start u t start i.0 i.1 in
@@ -375,11 +377,7 @@ module _ (limit : ℕ) (u : UnitView) (t : Table) (fits : length u.entries.bytes
       tree_front limit steps _ all run_at (record { start = honest_at; end = refl; here = λ k. let off : false ≡ true = k refl in absurd (cc) }) in
       let rows : Ahead = unit_rows_at limit u (found t) (pos 0) s.0 in
       let long = tree_answers_length limit (whole_length u) rows steps (before_steps rows) in
-      rw s.1 (front, λ k. front_whole all (tree_answers_at limit u (found t) steps s.0) front (sym counted ∙ whole stopped k stop ∙ sym long))
-    where
-      whole : (b : Bool) → b ≡ false → IsStopped b count (length steps) → count ≡ length steps
-      whole true k h = absurd (cc)
-      whole false k h = h
+      rw s.1 (run_of_front all (tree_answers_at limit u (found t) steps s.0) stopped count (length steps) front counted long stop)
 
 pub run_tree_refused : (limit : ℕ) (u : UnitView) (t : Table) (start : Option ℕ) (steps : List TreeStep) (e : Error) → Err e ≡ tree_from u t start
     → RunsAs (Err e) (run_tree_answers limit u (found t) start steps)

@@ -14,7 +14,8 @@ use Rattle.gimli_walk.specs.declared.tree.TreeStep.TheVariants.{Root, Next, Ente
 use Rattle.gimli_walk.specs.Runs.{IsFront}
 use Rattle.gimli_walk.specs.Trees.{tree_step, tree_answers}
 use Rattle.gimli_walk.proofs.CursorTruth.{unless_fine}
-use Rattle.gimli_walk.specs.TreeTurns.{Standing, at_node, at_none, standing_place, told_begun, after_begun, told_asked, after_asked, HasTurned, HasTreeRun}
+use Rattle.gimli_units.specs.TreeWalker.{Standing, at_node, at_none, standing_place, told_begun, after_begun, told_asked, after_asked}
+use Rattle.gimli_walk.specs.TreeTurns.{HasTurned, HasTreeRun}
 
 abbrev pub moved_to : ℕ → Told → Standing → TreeMoved
 moved_to limit told s = record { told = told; place = standing_place limit s }

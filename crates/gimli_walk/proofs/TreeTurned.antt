@@ -19,15 +19,20 @@ use Rattle.gimli_units.specs.TreePlace.{Node, Lists, TreePlace, Told, a_node, fo
 use Rattle.gimli_units.specs.TreeMoves.{TreeView, before_root, tree_from, node_at, gone_on, HasBegun, HasGoneOn}
 use Rattle.gimli_walk.specs.declared.tree.TreeStep.{TreeStep}
 use Rattle.gimli_walk.specs.declared.tree.TreeStep.TheVariants.{Root, Next, Enter, Leave}
-use Rattle.gimli_walk.specs.Trees.{tree_step, tree_view}
-use Rattle.gimli_walk.specs.Cursors.{HoldsFrom, unit_rows_from}
+use Rattle.gimli_base.specs.View.{View}
+use Rattle.gimli_base.specs.Offset.{answer_of}
+use Rattle.gimli_walk.specs.Runs.{run_of, RunsAs}
+use Rattle.gimli_walk.specs.Trees.{tree_step, tree_view, tree_answers_at}
+use Rattle.gimli_units.specs.UnitRows.{unit_rows_from, IsHonestFrom}
+use Rattle.gimli_walk.specs.Cursors.{HoldsFrom, IsStopped}
 use Rattle.gimli_walk.specs.TrueAnswers.{IsHonestAhead}
-use Rattle.gimli_walk.specs.TrueTolds.{Reached, IsListFound, true_node, true_null, true_end, true_fault, IsTurned, AreTurned, AreTurnedFrom}
-use Rattle.gimli_walk.specs.TreeTurns.{Standing, at_none, standing_place, told_begun, told_asked, after_asked, HasAsked, HasTurned, HasTreeRun}
+use Rattle.gimli_walk.specs.TrueTolds.{Reached, IsListFound, true_node, true_null, true_end, true_fault, IsTurned, AreTurned, AreRoots, root_at, AreTurnedFrom, IsTreeRunFrom}
+use Rattle.gimli_units.specs.TreeWalker.{Standing, at_none, standing_place, told_begun, told_asked, after_asked}
+use Rattle.gimli_walk.specs.TreeTurns.{HasAsked, HasTurned, HasTreeRun}
 use Rattle.gimli_walk.proofs.CursorTruth.{unless_fine}
 use Rattle.gimli_walk.proofs.AnswerTruth.{rows_here, low_bound}
 use Rattle.gimli_walk.proofs.TreeTruth.{moved_to, asked_is, turn_is, turn_same}
-use Rattle.gimli_walk.proofs.TreeTold.{IsIn, turn_in, tree_start, tree_is, first_in}
+use Rattle.gimli_walk.proofs.TreeTold.{IsIn, turn_in, tree_start, tree_is, first_in, run_tree_as, run_tree_true, run_tree_roots, run_tree_growing, run_tree_taken, tree_refused}
 
 -- the entry that was read last, if it was no null
 abbrev last_of : TreeView → Option Node
@@ -228,3 +233,30 @@ run_tree_turned limit u t fits start steps tree all begins run =
     let at : tree ≡ before_root (record { rest = s.0; encoding = u.encoding; abbreviations = t; end = whole_length u; depth = pos 0 }) = i.2 ∙ ap before_root s.2 in
     let inside = rw at at (first_in limit u t fits start steps tree all begins run) in
     rw s.1 (run_turned limit u t fits _ refl steps _ all refl inside (rw at at run))
+
+module _ (limit : ℕ) (u : UnitView) (t : Table) (start : Option ℕ) (steps : List TreeStep) where
+  -- what a run from a start promises
+  pub tree_run_from : (all : List Told) (stopped : Bool) (count : ℕ) (tree : TreeView) → length u.entries.bytes ≤ whole_length u → Ok tree ≡ tree_from u t start
+      → HasTreeRun limit (at_none tree []) steps all → count ≡ length all → IsStopped stopped count (length steps)
+      → IsTreeRunFrom limit u (found t) steps (tree_view u start) (Ok (run_of all stopped))
+  tree_run_from all stopped count tree fits begins run counted stop =
+      parts (tree_view u start) (λ h. run_tree_as limit u t fits start steps tree all begins run stopped count counted stop h)
+      (run_tree_roots limit u t fits start steps tree all begins run) (run_tree_turned limit u t fits start steps tree all begins run)
+    where
+      parts : (r : Result View Error) → (IsHonestFrom limit u (found t) r → RunsAs (Ok (run_of all stopped)) (answer_of (tree_answers_at limit u (found t) steps) r))
+          → HoldsFrom r (λ v. AreRoots (root_at limit u (found t) v) steps all) → HoldsFrom r (λ v. AreTurnedFrom limit u (found t) v steps all)
+          → IsTreeRunFrom limit u (found t) steps r (Ok (run_of all stopped))
+      parts (Ok v) answers are_roots are_turned = record {
+        answers = answers;
+        are_true = run_tree_true limit u t fits start steps tree all begins run;
+        are_roots = are_roots;
+        are_turned = are_turned;
+        are_growing = run_tree_growing limit u t fits start steps tree all begins run;
+        are_taken = run_tree_taken limit u t fits start steps tree all begins run;
+        stopped = rw (← counted) stop;
+      }
+      parts (Err e) answers are_roots are_turned = are_roots
+
+  -- and one that is refused
+  pub tree_refused_from : (e : Error) → Err e ≡ tree_from u t start → IsTreeRunFrom limit u (found t) steps (tree_view u start) (Err e)
+  tree_refused_from e is = rw (tree_refused u t start e is) refl

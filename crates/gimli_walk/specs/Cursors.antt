@@ -1,5 +1,5 @@
 -- The answers of a list of steps of a cursor, and their text (DWARF 5, 2.3).
-use Rattle.std.specs.Prelude.{◌≡◌, ℕ, ◌-◌, ◌<◌, ℤ, pos, Bool, true, false, ◌||◌, if◌then◌else◌, ◌++◌, List, [], ◌∷◌, map, codes, Option, Some, None, IfSome, Result, Ok, Err, ◌⊎◌}
+use Rattle.std.specs.Prelude.{◌≡◌, ℕ, ◌<◌, ℤ, pos, Bool, true, false, ◌||◌, if◌then◌else◌, ◌++◌, List, [], ◌∷◌, map, codes, Option, Some, None, IfSome, Result, Ok, Err, ◌⊎◌}
 use Rattle.std.specs.Fmt.{decimal}
 use Rattle.std.specs.List.{list_any}
 use Rattle.std.specs.Result.{is_err}
@@ -7,17 +7,16 @@ use Rattle.std.specs.Option.{option_map}
 use Rattle.gimli_base.specs.declared.error.Error.{Error}
 use Rattle.gimli_base.specs.Offset.{answer_of}
 use Rattle.gimli_base.specs.Refusal.{number_of}
-use Rattle.gimli_base.specs.View.{View, cut}
+use Rattle.gimli_base.specs.View.{View}
 use Rattle.gimli_base.specs.Abbreviations.{Map}
-use Rattle.gimli_units.specs.Entry.{Entry, entry_of, entry_at}
-use Rattle.gimli_units.specs.Rows.{Ahead, ahead_at}
-use Rattle.gimli_units.specs.Unit.{UnitView, whole_length, header_size, range_from}
-use Rattle.gimli_units.specs.Honest.{AreHonest}
+use Rattle.gimli_units.specs.Entry.{Entry, entry_of}
+use Rattle.gimli_units.specs.Rows.{Ahead}
+use Rattle.gimli_units.specs.Unit.{UnitView, whole_length}
+use Rattle.gimli_units.specs.UnitRows.{unit_rows_at, start_view}
 use Rattle.gimli_units.specs.CursorPlace.{Place, Moved, next_row, next_in_depth_first_order, next_of_depth, next_offset, next_depth}
 use Rattle.gimli_walk.specs.declared.cursor.CursorAnswer.{CursorAnswer}
 use Rattle.gimli_walk.specs.declared.cursor.CursorStep.{CursorStep}
 use Rattle.gimli_walk.specs.declared.cursor.CursorStep.TheVariants.{NextEntry, NextDfs, NextSibling}
-use Rattle.gimli_walk.specs.Runs.{IsFront}
 use Rattle.gimli_walk.specs.Lines.{Text, row_line}
 
 -- what a step answers, and where the cursor then stands; the pair is that of the current entry, where there is one
@@ -33,7 +32,7 @@ pub record Answer : Type 0 where
 abbrev pub seen : {R A O : Type 0} → (R → View) → (O → ℕ) → CursorAnswer R A O → Answer
 seen f g a = record {
   outcome = a.outcome;
-  current = option_map (λ e. entry_of f g e.tag e.has_children e.attrs.items) a.current;
+  current = option_map (entry_of f g) a.current;
   offset = g a.offset.0;
   depth = a.depth;
   next_offset = g a.next_offset.0;
@@ -68,19 +67,6 @@ answers end (s ∷ rest) p = told (step_of end s p) ∷ answers end rest (step_o
 abbrev pub start_of : Ahead → Place
 start_of a = record { ahead = a; current = None; offset = 0; depth = pos 0 }
 
--- the rows of a unit from a view of its bytes on, whose place has this depth
-abbrev pub unit_rows_at : ℕ → UnitView → Map → ℤ → View → Ahead
-unit_rows_at limit u declared depth v = ahead_at (entry_at limit u.encoding declared) (whole_length u) depth v
-
--- the rows of a unit from an offset on, whose place has this depth
-abbrev pub unit_rows_from : ℕ → UnitView → Map → ℕ → ℤ → Ahead
-unit_rows_from limit u declared offset depth = unit_rows_at limit u declared depth (cut (offset - header_size u) u.entries)
-
--- the bytes from a start on: an offset, or the first entry
-abbrev pub start_view : UnitView → Option ℕ → Result View Error
-start_view u None = Ok u.entries
-start_view u (Some offset) = range_from u offset
-
 -- the answers of a run over these steps from a view on
 abbrev pub answers_at : ℕ → UnitView → Map → List CursorStep → View → List Answer
 answers_at limit u declared steps v = answers (whole_length u) steps (start_of (unit_rows_at limit u declared (pos 0) v))
@@ -103,22 +89,6 @@ is_sibling NextSibling = true
 abbrev pub any_sibling : List CursorStep → Bool
 any_sibling [] = false
 any_sibling (s ∷ rest) = is_sibling s || any_sibling rest
-
--- the rows of a unit from a view on are honest
-abbrev pub IsHonestAt : ℕ → UnitView → Map → View → Type 0
-IsHonestAt limit u declared v = AreHonest (whole_length u) (unit_rows_at limit u declared (pos 0) v).rows
-
--- the rows of a unit from a start on are honest
-abbrev pub IsHonestFrom : ℕ → UnitView → Map → Result View Error → Type 0
-IsHonestFrom limit u declared (Ok v) = IsHonestAt limit u declared v
-IsHonestFrom limit u declared (Err e) = Unit {0}
-
--- a run gives the first of these answers, and all of them where it was not stopped; or it is refused as they are
-abbrev pub RunsAs : {X : Type 0} → Result (List X × Bool) Error → Result (List X) Error → Type 0
-RunsAs (Ok p) (Ok all) = IsFront p.0 all × (p.1 ≡ false → p.0 ≡ all)
-RunsAs (Ok p) (Err e) = ⊥
-RunsAs (Err x) (Ok all) = ⊥
-RunsAs (Err x) (Err e) = x ≡ e
 
 -- a run was stopped before its last answer, or has an answer to each step
 abbrev pub IsStopped : Bool → ℕ → ℕ → Type 0

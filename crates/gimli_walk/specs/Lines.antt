@@ -38,6 +38,18 @@ error_line number = codes "error " ++ (decimal number ++ (10 ∷ []))
 unfoldable pub error_line_at : ℕ → ℕ → List ℕ
 error_line_at number offset = codes "error " ++ (decimal number ++ (32 ∷ (hexadecimal offset ++ (10 ∷ []))))
 
+-- a unit: its offset, its version, and the number of its type
+unfoldable pub unit_line : ℕ → ℕ → ℕ → List ℕ
+unit_line offset version type_number =
+    codes "unit " ++ (hexadecimal offset ++ (32 ∷ (decimal version ++ (32 ∷ (hexadecimal type_number ++ (10 ∷ []))))))
+
+abbrev pub honest_line : List ℕ
+honest_line = codes "honest\n"
+
+-- an entry whose sibling reference is false
+unfoldable pub false_line : ℕ → List ℕ
+false_line offset = codes "false " ++ (hexadecimal offset ++ (10 ∷ []))
+
 -- the line that ends a walk for want of memory
 abbrev pub memory_line : List ℕ
 memory_line = error_line (number_of OutOfMemory)

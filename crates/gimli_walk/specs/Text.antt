@@ -14,12 +14,15 @@ use Rattle.gimli_units.specs.Unit.{UnitView, whole_length}
 use Rattle.gimli_headers.specs.Header.{unit_at}
 use Rattle.gimli_walk.specs.Lines.{Text, row_line, end_line, no_unit_line, error_line, error_line_at, memory_line, only, WroteRun}
 use Rattle.gimli_walk.specs.declared.mode.Mode.{Mode}
-use Rattle.gimli_walk.specs.declared.mode.Mode.TheVariants.{Rows, Cursor, Plain, Tree}
+use Rattle.gimli_walk.specs.declared.mode.Mode.TheVariants.{Rows, Check, Cursor, Plain, Tree}
 use Rattle.gimli_walk.specs.declared.cursor.CursorStep.{CursorStep}
 use Rattle.gimli_walk.specs.Trees.{tree_view, run_tree_answers, run_text_of}
 use Rattle.gimli_walk.specs.TreeText.{WroteTrueTree}
-use Rattle.gimli_walk.specs.Cursors.{Answer, answers_at, answers_text, any_sibling, IsHonestAt, IsHonestFrom, IsCut, start_of, unit_rows_at}
-use Rattle.gimli_walk.specs.TrueAnswers.{AreTrueAnswers, AreStepped, AreTaken}
+use Rattle.gimli_units.specs.UnitRows.{IsHonestAt, IsHonestFrom, unit_rows_at}
+use Rattle.gimli_walk.specs.Cursors.{Answer, answers_at, answers_text, any_sibling, IsCut, start_of}
+use Rattle.gimli_walk.specs.TrueAnswers.{AreTrueAnswers, AreStepped, AreTaken, HasRunOver}
+use Rattle.gimli_walk.specs.Runs.{ToldRun}
+use Rattle.gimli_walk.specs.Check.{check_text}
 
 abbrev pub line_of : Row → List ℕ
 line_of r = row_line r.offset r.depth r.entry.tag.0 r.entry.has_children
@@ -63,6 +66,7 @@ cursor_text limit steps u declared = answers_text (answers_at limit u declared s
 -- the text of a unit, as a mode says
 abbrev pub mode_text : ℕ → Mode → UnitView → Map → Text
 mode_text limit Rows u declared = unit_text limit u declared
+mode_text limit Check u declared = check_text limit u declared
 mode_text limit (Cursor steps) u declared = cursor_text limit steps.now u declared
 mode_text limit (Plain steps) u declared = cursor_text limit steps.now u declared
 mode_text limit (Tree steps) u declared = run_text_of (run_tree_answers limit u declared None steps.now)
@@ -70,6 +74,7 @@ mode_text limit (Tree steps) u declared = run_text_of (run_tree_answers limit u 
 -- what a mode asks of the sibling references of a unit: that they are honest, where a step that follows them looks for a sibling, and for a tree
 abbrev pub IsHonestMode : ℕ → Mode → UnitView → Map → Type 0
 IsHonestMode limit Rows u declared = Unit {0}
+IsHonestMode limit Check u declared = Unit {0}
 IsHonestMode limit (Cursor steps) u declared = any_sibling steps.now ≡ true → IsHonestAt limit u declared u.entries
 IsHonestMode limit (Plain steps) u declared = Unit {0}
 IsHonestMode limit (Tree steps) u declared = IsHonestFrom limit u declared (tree_view u None)
@@ -129,9 +134,16 @@ pub record WroteTrue (limit : ℕ) (u : UnitView) (declared : Map) (follows : Bo
   pub are_taken : follows ≡ true → AreTaken limit u declared steps all
   pub written : WroteRun old new (answers_text all) stopped status
 
+-- The lines of what a run of a cursor over these steps, from the first entry on, tells.
+pub record WroteSteps (limit : ℕ) (u : UnitView) (declared : Map) (follows : Bool) (steps : List CursorStep) (old new : Option (List ℕ)) (status : ℕ) : Type 0 where
+  pub run : ToldRun Answer
+  pub told : HasRunOver limit u declared follows steps u.entries run
+  pub written : WroteRun old new (answers_text run.answers) run.stopped status
+
 -- a mode that steps a cursor, or a tree, writes such lines
 abbrev pub WroteTrueMode : ℕ → Mode → UnitView → Map → Option (List ℕ) → Option (List ℕ) → ℕ → Type 0
 WroteTrueMode limit Rows u declared old new status = Unit {0}
+WroteTrueMode limit Check u declared old new status = Unit {0}
 WroteTrueMode limit (Cursor steps) u declared old new status = WroteTrue limit u declared true steps.now old new status
 WroteTrueMode limit (Plain steps) u declared old new status = WroteTrue limit u declared false steps.now old new status
 WroteTrueMode limit (Tree steps) u declared old new status = WroteTrueTree limit u declared steps.now old new status

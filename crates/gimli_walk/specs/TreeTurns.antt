@@ -1,37 +1,14 @@
 -- What a step does to a tree, whatever the references, and the answers that come of it.
-use Rattle.std.specs.Prelude.{◌≡◌, ℕ, ◌+◌, ◌<◌, ◌≤◌, ℤ, Bool, true, false, List, [], ◌∷◌, ◌++◌, length, drop, Option, Some, None, Result, Ok, Err}
+use Rattle.std.specs.Prelude.{◌≡◌, ℕ, ◌+◌, ◌<◌, ◌≤◌, ℤ, Bool, true, false, List, [], ◌∷◌, ◌++◌, length, drop, Option, Result, Ok, Err}
 use Rattle.gimli_base.specs.declared.error.Error.{Error}
 use Rattle.gimli_base.specs.declared.error.Error.TheVariants.{OutOfMemory}
-use Rattle.gimli_units.specs.TreePlace.{Lists, TreePlace, Told, a_node, list_end, has_entered, has_left, no_node, a_fault, children_of}
-use Rattle.gimli_units.specs.TreeMoves.{TreeView, node_at, on_node, in_lists, HasBegun, HasGoneOn}
+use Rattle.gimli_units.specs.TreePlace.{Lists, Told, a_node, list_end, has_entered, has_left, no_node, children_of}
+use Rattle.gimli_units.specs.TreeMoves.{TreeView, node_at, HasBegun}
+use Rattle.gimli_units.specs.TreeWalker.{Standing, at_none, told_begun, after_begun, WasAsked, told_asked, after_asked}
 use Rattle.gimli_walk.specs.declared.tree.TreeStep.{TreeStep}
 use Rattle.gimli_walk.specs.declared.tree.TreeStep.TheVariants.{Root, Next, Enter, Leave}
 
--- where a run stands: its tree, whether that stands on a node, and the lists
-pub record Standing : Type 0 where
-  pub tree : TreeView
-  pub is_on : Bool
-  pub lists : Lists
-
-abbrev pub at_node : TreeView → Lists → Standing
-at_node t lists = record { tree = t; is_on = true; lists = lists }
-
-abbrev pub at_none : TreeView → Lists → Standing
-at_none t lists = record { tree = t; is_on = false; lists = lists }
-
--- its place
-abbrev pub standing_place : ℕ → Standing → TreePlace
-standing_place limit s = elim s.is_on [ true ↦ on_node limit s.tree s.lists | false ↦ in_lists limit s.tree s.lists ]
-
 -- the root was asked for
-abbrev pub told_begun : Result (Unit {0}) Error → TreeView → Told
-told_begun (Ok u) t = a_node (node_at t)
-told_begun (Err e) t = a_fault e
-
-abbrev pub after_begun : Result (Unit {0}) Error → TreeView → Standing
-after_begun (Ok u) t = at_node t []
-after_begun (Err e) t = at_none t []
-
 pub record HasRooted (limit : ℕ) (old : TreeView) (told : Told) (new : Standing) : Type 0 where
   pub outcome : Result (Unit {0}) Error
   pub begun : HasBegun limit old outcome new.tree
@@ -40,20 +17,6 @@ pub record HasRooted (limit : ℕ) (old : TreeView) (told : Told) (new : Standin
   pub stands : new ≡ after_begun outcome new.tree
 
 -- a list was asked for its next node
-abbrev pub WasAsked : ℕ → Option ℤ → TreeView → Result Bool Error → TreeView → Type 0
-WasAsked limit None old outcome new = (outcome ≡ Ok false) × (new ≡ old)
-WasAsked limit (Some depth) old outcome new = HasGoneOn limit depth old outcome new
-
-abbrev pub told_asked : Result Bool Error → TreeView → Told
-told_asked (Ok true) t = a_node (node_at t)
-told_asked (Ok false) t = list_end
-told_asked (Err e) t = a_fault e
-
-abbrev pub after_asked : Option ℤ → Lists → Result Bool Error → TreeView → Standing
-after_asked list outer (Ok true) t = at_node t (list ∷ outer)
-after_asked list outer (Ok false) t = at_none t (None ∷ outer)
-after_asked list outer (Err e) t = at_none t (list ∷ outer)
-
 pub record HasAsked (limit : ℕ) (list : Option ℤ) (outer : Lists) (old : TreeView) (told : Told) (new : Standing) : Type 0 where
   pub outcome : Result Bool Error
   pub asked : WasAsked limit list old outcome new.tree
@@ -80,23 +43,19 @@ HasTurned limit Leave old told new = elim old.lists [
   | list ∷ outer ↦ (told ≡ has_left) × (new ≡ at_none old.tree outer)
 ]
 
+-- a step was made, and its answer was added
+abbrev pub HasToldTurn : ℕ → TreeStep → Standing → List Told → Standing → List Told → Type 0
+HasToldTurn limit step old before new after = (a : Told) × HasTurned limit step old a new × (after ≡ before ++ a ∷ [])
+
+-- where a walker stands on a node, that is the answer
+abbrev pub told_standing : Standing → Told
+told_standing s = elim s.is_on [ true ↦ a_node (node_at s.tree) | false ↦ list_end ]
+
 -- the first answers to these steps
 abbrev pub HasTreeRun : ℕ → Standing → List TreeStep → List Told → Type 0
 HasTreeRun limit s steps [] = Unit {0}
 HasTreeRun limit s [] (a ∷ rest) = ⊥
 HasTreeRun limit s (step ∷ steps) (a ∷ rest) = (new : Standing) × HasTurned limit step s a new × HasTreeRun limit new steps rest
-
--- whether the next step enters a node, or asks for a list
-abbrev pub enters : List TreeStep → Bool
-enters [] = false
-enters (Enter ∷ steps) = true
-enters (s ∷ steps) = false
-
-abbrev pub asks_lists : List TreeStep → Bool
-asks_lists [] = false
-asks_lists (Next ∷ steps) = true
-asks_lists (Leave ∷ steps) = true
-asks_lists (s ∷ steps) = false
 
 -- A part of a run, from step `from` on: the answers that it adds are the next ones; and where it ends, at the step that it answers, what is
 -- answered from there on completes them. It is refused where memory is.

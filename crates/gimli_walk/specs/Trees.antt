@@ -14,12 +14,12 @@ use Rattle.gimli_walk.specs.declared.tree.TreeAnswer.{TreeAnswer}
 use Rattle.gimli_walk.specs.declared.tree.TreeAnswer.TheVariants.{Node as NodeAnswer, End, Entered, Left, NoNode, Fault}
 use Rattle.gimli_walk.specs.declared.tree.TreeStep.{TreeStep}
 use Rattle.gimli_walk.specs.declared.tree.TreeStep.TheVariants.{Root, Next, Enter, Leave}
-use Rattle.gimli_walk.specs.Cursors.{unit_rows_at}
+use Rattle.gimli_units.specs.UnitRows.{unit_rows_at}
 use Rattle.gimli_walk.specs.Lines.{Text, row_line, end_line, error_line, only}
 
 -- an answer that code holds, by what its readers and offsets stand for
 abbrev pub told_by : {R A O : Type 0} → (R → View) → (O → ℕ) → TreeAnswer R A O → Told
-told_by f g (NodeAnswer e) = a_node (record { entry = entry_of f g e.tag e.has_children e.attrs.items; offset = g e.offset.0; depth = e.depth })
+told_by f g (NodeAnswer e) = a_node (record { entry = entry_of f g e; offset = g e.offset.0; depth = e.depth })
 told_by f g End = list_end
 told_by f g Entered = has_entered
 told_by f g Left = has_left

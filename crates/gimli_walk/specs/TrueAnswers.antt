@@ -1,5 +1,5 @@
 -- What holds of the answers of a cursor's run, whatever the references (DWARF 5, 2.3).
-use Rattle.std.specs.Prelude.{◌≡◌, ℕ, ◌≤◌, ℤ, Bool, true, false, int_le, List, [], ◌∷◌, Option, Some, None, Ok, Err}
+use Rattle.std.specs.Prelude.{◌≡◌, ℕ, ◌≤◌, ℤ, Bool, true, false, int_le, List, [], ◌∷◌, length, pos, Option, Some, None, Result, Ok, Err}
 use Rattle.gimli_base.specs.declared.error.Error.{Error}
 use Rattle.gimli_base.specs.declared.error.Error.TheVariants.{NoEntryAtGivenOffset}
 use Rattle.gimli_base.specs.View.{View}
@@ -12,7 +12,9 @@ use Rattle.gimli_units.specs.Honest.{IsHonest, AreHonestUntil, usable}
 use Rattle.gimli_units.specs.TreePlace.{Node}
 use Rattle.gimli_units.specs.CursorPlace.{Place, first_of_rows, next_offset}
 use Rattle.gimli_walk.specs.declared.cursor.CursorStep.{CursorStep}
-use Rattle.gimli_walk.specs.Cursors.{Answer, told, step_of, is_sibling, unit_rows_from}
+use Rattle.gimli_walk.specs.Runs.{ToldRun, IsRunOf}
+use Rattle.gimli_units.specs.UnitRows.{unit_rows_at, unit_rows_from, IsHonestAt}
+use Rattle.gimli_walk.specs.Cursors.{Answer, told, step_of, is_sibling, any_sibling, answers_at, start_of, IsStopped}
 
 -- What is read next is what stands behind the bytes of this entry, at the depth that the entry makes.
 pub record IsBehind (limit : ℕ) (u : UnitView) (declared : Map) (a : Answer) (e : Entry) : Type 0 where
@@ -105,3 +107,19 @@ abbrev pub AreTaken : ℕ → UnitView → Map → List CursorStep → List Answ
 AreTaken limit u declared [] all = Unit {0}
 AreTaken limit u declared (s ∷ steps) [] = Unit {0}
 AreTaken limit u declared (s ∷ steps) (a ∷ rest) = AreTakenFrom limit u declared a steps rest
+
+-- What a run of these steps over the bytes from a view on tells. They are the definition's answers where the rows are honest, where no reference is
+-- followed, and where no step looks for a sibling; and whatever the references each is true, and that of its step.
+pub record HasRunOver (limit : ℕ) (u : UnitView) (declared : Map) (follows : Bool) (steps : List CursorStep) (v : View) (run : ToldRun Answer) : Type 0 where
+  pub answers : (follows ≡ true → any_sibling steps ≡ true → IsHonestAt limit u declared v) → IsRunOf run (answers_at limit u declared steps v)
+  pub are_true : AreTrueAnswers limit u declared run.answers
+  pub are_stepped : AreStepped limit u declared follows (start_of (unit_rows_at limit u declared (pos 0) v)) steps run.answers
+  pub are_taken : follows ≡ true → AreTaken limit u declared steps run.answers
+  pub stopped : IsStopped run.stopped (length run.answers) (length steps)
+
+-- the same from a start, which may be refused
+abbrev pub IsRunFrom : ℕ → UnitView → Map → Bool → List CursorStep → Result View Error → Result (ToldRun Answer) Error → Type 0
+IsRunFrom limit u declared follows steps (Ok v) (Ok run) = HasRunOver limit u declared follows steps v run
+IsRunFrom limit u declared follows steps (Ok v) (Err x) = ⊥
+IsRunFrom limit u declared follows steps (Err e) (Ok run) = ⊥
+IsRunFrom limit u declared follows steps (Err e) (Err x) = x ≡ e

@@ -1,5 +1,5 @@
 -- What holds of the answers of a tree's run, whatever the references (DWARF 5, 2.3).
-use Rattle.std.specs.Prelude.{◌≡◌, ℕ, ◌<◌, ◌≤◌, ℤ, pos, Bool, true, false, if◌then◌else◌, List, [], ◌∷◌, Option, Some, None, Ok, Err}
+use Rattle.std.specs.Prelude.{◌≡◌, ℕ, ◌<◌, ◌≤◌, ℤ, pos, Bool, true, false, if◌then◌else◌, List, [], ◌∷◌, length, Option, Some, None, Result, Ok, Err}
 use Rattle.gimli_base.specs.declared.error.Error.{Error}
 use Rattle.gimli_base.specs.View.{View}
 use Rattle.gimli_base.specs.Abbreviations.{Map}
@@ -12,9 +12,11 @@ use Rattle.gimli_units.specs.CursorPlace.{first_of_rows, next_offset}
 use Rattle.gimli_units.specs.TreePlace.{Node, Lists, TreePlace, Told, a_node, list_end, has_entered, has_left, no_node, a_fault, to_root, to_next, found_in}
 use Rattle.gimli_walk.specs.declared.tree.TreeStep.{TreeStep}
 use Rattle.gimli_walk.specs.declared.tree.TreeStep.TheVariants.{Root, Next, Enter, Leave}
-use Rattle.gimli_walk.specs.Cursors.{unit_rows_at, unit_rows_from}
+use Rattle.gimli_walk.specs.Runs.{ToldRun, IsRunOf}
+use Rattle.gimli_units.specs.UnitRows.{unit_rows_at, unit_rows_from, IsHonestAt}
+use Rattle.gimli_walk.specs.Cursors.{IsStopped}
 use Rattle.gimli_walk.specs.TrueAnswers.{IsHonestAhead}
-use Rattle.gimli_walk.specs.Trees.{tree_step, before_steps}
+use Rattle.gimli_walk.specs.Trees.{tree_step, before_steps, tree_answers_at}
 
 -- An answer is one that its step can give, and true whatever the references: a node's entry is what the unit has at its offset; what is
 -- refused stands in the bounds of the unit; a null is refused as a root alone.
@@ -162,3 +164,21 @@ AreTurned limit u declared rows r (s ∷ steps) (a ∷ all) = (new : Reached) ×
 -- the same of a tree that begins at a view
 abbrev pub AreTurnedFrom : ℕ → UnitView → Map → View → List TreeStep → List Told → Type 0
 AreTurnedFrom limit u declared v steps all = let rows : Ahead = unit_rows_at limit u declared (pos 0) v in AreTurned limit u declared rows (before_all rows) steps all
+
+-- What a run of these steps in a tree whose entries are those from a view on tells. They are the definition's answers where the rows are honest;
+-- and whatever the references each is true, and that of its step.
+pub record HasTreeRunOver (limit : ℕ) (u : UnitView) (declared : Map) (steps : List TreeStep) (v : View) (run : ToldRun Told) : Type 0 where
+  pub answers : IsHonestAt limit u declared v → IsRunOf run (tree_answers_at limit u declared steps v)
+  pub are_true : AreTrueTolds limit u declared steps run.answers
+  pub are_roots : AreRoots (root_at limit u declared v) steps run.answers
+  pub are_turned : AreTurnedFrom limit u declared v steps run.answers
+  pub are_growing : AreGrowing None steps run.answers
+  pub are_taken : AreTakenBehind limit u declared None steps run.answers
+  pub stopped : IsStopped run.stopped (length run.answers) (length steps)
+
+-- the same from a start, which may be refused
+abbrev pub IsTreeRunFrom : ℕ → UnitView → Map → List TreeStep → Result View Error → Result (ToldRun Told) Error → Type 0
+IsTreeRunFrom limit u declared steps (Ok v) (Ok run) = HasTreeRunOver limit u declared steps v run
+IsTreeRunFrom limit u declared steps (Ok v) (Err x) = ⊥
+IsTreeRunFrom limit u declared steps (Err e) (Ok run) = ⊥
+IsTreeRunFrom limit u declared steps (Err e) (Err x) = x ≡ e

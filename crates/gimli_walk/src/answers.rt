@@ -1,15 +1,23 @@
 //! The lines of a run of a cursor.
 
-ghost use Rattle.std.specs.Prelude.{◌≡◌, map, Bool, OnOk, IfOk};
-ghost use Rattle.std.specs.List.{concat, list_any};
-ghost use Rattle.std.specs.Result.{is_err};
+ghost use Rattle.std.specs.Prelude.{◌≡◌, Bool, true, length, OnOk, IfOk};
+ghost use Rattle.std.proofs.Common.{refl, ◌∙◌};
 ghost use Rattle.std.specs.Io.KnownBytes.{Appends};
-ghost use Rattle.gimli_walk.specs.Cursors.{seen, outcome_text, answer_line, answers_text};
-ghost use Rattle.gimli_walk.specs.Lines.{WroteRun};
+ghost use Rattle.std.specs.Result.{is_err};
+ghost use Rattle.gimli_base.specs.Table.{found};
+ghost use Rattle.gimli_units.specs.UnitHeld.{unit_view};
+ghost use Rattle.gimli_walk.specs.Cursors.{outcome_text, answer_line, answers_text};
+ghost use Rattle.gimli_walk.specs.CursorTurns.{answer_at, HasRun};
+ghost use Rattle.gimli_walk.specs.Sinks.{HasLined, HasWrittenSteps};
+ghost use Rattle.gimli_walk.specs.SinkLaws.{lined_none, lined_more};
+ghost use Rattle.gimli_walk.specs.Text.{WroteSteps};
 
-use crate::lines::{WriteFault, write_error, write_row};
-use crate::{CursorAnswer, Run};
-use gimli_base::{Error, Reader, ReaderOffset, Result as AnswerResult};
+use crate::CursorStep;
+use crate::cursor::{first_cursor, run_steps};
+use crate::lines::{Stop, WriteFault, write_error, write_row};
+use crate::sink::Sink;
+use gimli_base::{Abbreviations, Error, Reader, ReaderOffset, Result as AnswerResult};
+use gimli_units::{EntriesCursor, UnitHeader};
 use std::alloc::Allocator;
 use std::io::Write;
 
@@ -28,66 +36,98 @@ fn write_outcome<W: Write>(out: &mut W, outcome: &AnswerResult<bool>) -> Result<
     }
 }
 
-// Writes the line of an answer.
+// Writes the line of what a step answered, behind which the cursor stands where it does.
 fn write_answer<R: Reader, A: Allocator, W: Write>(
     out: &mut W,
-    answer: &CursorAnswer<R, A>,
+    outcome: &AnswerResult<bool>,
+    cursor: &EntriesCursor<'_, R, A>,
 ) -> Result<(), WriteFault>
-    ensures { OnOk result (Appends (W.contents out.old) (W.contents out.new) (answer_line (seen R.view R.Offset.number answer.now))) }
+    ensures { OnOk result (Appends (W.contents out.old) (W.contents out.new) (answer_line (answer_at outcome.now cursor.now))) }
 {
-    write_outcome(out, &answer.outcome)?;
-    let offset = answer.offset.0.into_u64();
-    match &answer.current {
-        Some(entry) => write_row(
-            out,
-            offset,
-            answer.depth,
-            entry.tag().0,
-            entry.has_children(),
-        ),
-        None => write_row(out, offset, answer.depth, 0, false),
+    write_outcome(out, outcome)?;
+    let offset = cursor.offset().0.into_u64();
+    let depth = cursor.depth();
+    match cursor.current() {
+        Some(entry) => write_row(out, offset, depth, entry.tag().0, entry.has_children()),
+        None => write_row(out, offset, depth, 0, false),
     }
 }
 
-// Writes a line for each answer.
-fn write_answers<R: Reader, A: Allocator, W: Write>(
+/// The lines of answers, which are written as they are told.
+pub(crate) struct AnswerLines<'a, W> {
+    out: &'a mut W,
+    // whether an answer was a refusal
+    refused: bool,
+}
+
+impl<R: Reader, A: Allocator, W: Write> Sink<R, A> for AnswerLines<'_, W> {
+    ghost has_told = { λ s told t. (t.out.ghost_name ≡ s.out.ghost_name)
+        × HasLined answer_line (λ a. is_err a.outcome) (W.contents s.out.now) s.refused told (W.contents t.out.now) t.refused };
+
+    ghost writes = { true };
+
+    fn tell(
+        &mut self,
+        outcome: AnswerResult<bool>,
+        cursor: &EntriesCursor<'_, R, A>,
+    ) -> Result<(), Stop> {
+        write_answer(self.out, &outcome, cursor)?;
+        self.refused = self.refused || outcome.is_err();
+        Ok(())
+    }
+
+    ghost none = { λ s. (refl, lined_none _ _ _ _) };
+
+    ghost more = { λ s t u xs ys h k. (k.0 ∙ h.0, lined_more _ _ _ _ _ _ _ _ xs ys h.1 k.1) };
+}
+
+// Writes the lines of a cursor's answers to these steps, and answers the status of their text.
+fn write_told<R: Reader, A: Allocator + Copy, W: Write>(
+    cursor: &mut EntriesCursor<'_, R, A>,
+    steps: &[CursorStep],
     out: &mut W,
-    answers: &[CursorAnswer<R, A>],
-) -> Result<(), WriteFault>
-    ensures { OnOk result (Appends (W.contents out.old) (W.contents out.new) (concat (map answer_line (map (seen R.view R.Offset.number) answers.now)))) }
+) -> Result<u8, Stop>
+    ensures { let old = W.contents out.old in
+        let run = HasRun R.Offset.limit cursor.old steps.now in
+        HasWrittenSteps run answers_text old (W.contents out.new) (length steps.now) result }
 {
-    'answers: for answer in answers {
-        write_answer(out, answer)?;
+    let mut lines = AnswerLines {
+        out,
+        refused: false,
+    };
+    let told = run_steps(cursor, steps, &mut lines);
+    let AnswerLines { out, refused } = lines;
+    // No effect at run time. The proof reads what is behind `out` from this use.
+    let _ = &*out;
+    match told {
+        Ok(()) => Ok(u8::from(refused)),
+        Err(stop) => Err(stop),
     }
-    Ok(())
 }
 
-// Whether one of these answers is a refusal.
-fn any_refused<R: Reader, A: Allocator>(answers: &[CursorAnswer<R, A>]) -> bool
-    ensures { result ≡ list_any (λ a. is_err a.outcome) answers.now }
-{
-    'answers: for answer in answers {
-        if answer.outcome.is_err() {
-            return true;
-        }
-    }
-    false
-}
-
-// Writes the lines of a run, and answers the exit status: 1 where an answer is a refusal, or memory was refused.
-pub(crate) fn write_run<R: Reader, A: Allocator, W: Write>(
+/// Writes the lines of a cursor's answers to these steps, from the first entry of a unit on, and answers the status of
+/// their text.
+pub(crate) fn write_steps<R: Reader, A: Allocator + Copy, W: Write>(
+    alloc: A,
+    unit: &UnitHeader<R>,
+    abbreviations: &Abbreviations<A>,
+    follows: bool,
+    steps: &[CursorStep],
     out: &mut W,
-    run: &Run<CursorAnswer<R, A>, A>,
 ) -> Result<u8, WriteFault>
-    ensures { IfOk result (λ status. WroteRun (W.contents out.old) (W.contents out.new) (answers_text (map (seen R.view R.Offset.number) run.now.answers.items)) run.now.stopped status) }
+    ensures { let u = unit_view unit.now in
+        let declared = found abbreviations.now in
+        let old = W.contents out.old in
+        let new = W.contents out.new in
+        IfOk result (λ status. WroteSteps R.Offset.limit u declared follows steps.now old new status) }
 {
-    write_answers(out, &run.answers)?;
-    if run.stopped {
-        write_error(out, Error::OutOfMemory)?;
-        return Ok(1);
+    let mut cursor = first_cursor(alloc, unit, abbreviations, follows);
+    match write_told(&mut cursor, steps, out) {
+        Ok(status) => Ok(status),
+        Err(Stop::Memory) => {
+            write_error(out, Error::OutOfMemory)?;
+            Ok(1)
+        }
+        Err(Stop::Write) => Err(WriteFault),
     }
-    if any_refused(&run.answers) {
-        return Ok(1);
-    }
-    Ok(0)
 }

@@ -1,6 +1,6 @@
 //! Runs of a cursor over a list of steps.
 
-ghost use Rattle.std.specs.Prelude.{◌≡◌, ℕ, ◌<◌, true, false, pos, map, length, IfOk, IfErr, IfSome, Ok, Err, Some, Option};
+ghost use Rattle.std.specs.Prelude.{◌≡◌, ℕ, ◌<◌, true, false, map, length, IfOk, IfSome, Ok, Err, Some, Option};
 ghost use Rattle.std.specs.List.{All};
 ghost use Rattle.std.specs.Option.{option_map};
 ghost use Rattle.gimli_base.specs.declared.error.Error.{Error as SpecError};
@@ -12,16 +12,23 @@ ghost use Rattle.gimli_units.specs.Entry.{entry_of, is_null};
 ghost use Rattle.gimli_units.specs.CursorPlace.{some_of, first_of_rows};
 ghost use Rattle.gimli_units.specs.CursorMoves.{Goes, IsHonestFor, followed_to, rows_from, IsSameUnit, IsTrueEntry, IsRefused, IsNotFound, IsFurther};
 ghost use Rattle.gimli_units.specs.CursorRead.{Stands};
-ghost use Rattle.gimli_units.specs.CursorStart.{cursor_start};
-ghost use Rattle.gimli_walk.specs.Runs.{IsFront};
-ghost use Rattle.gimli_walk.specs.Cursors.{seen, IsPaired, step_of, is_sibling, any_sibling, run_answers, start_view, HoldsFrom, RunsAs, start_of, unit_rows_at, IsStopped, IsHonestFrom};
-ghost use Rattle.gimli_walk.specs.TrueAnswers.{AreTrueAnswers, AreStepped, AreTaken};
-ghost use Rattle.gimli_walk.specs.CursorTurns.{HasStepped, HasAnswered, HasRun};
+ghost use Rattle.gimli_units.specs.CursorStart.{cursor_of, cursor_start};
+ghost use Rattle.gimli_units.specs.UnitRows.{start_view};
+ghost use Rattle.gimli_walk.specs.Cursors.{seen, IsPaired, step_of, is_sibling};
+ghost use Rattle.gimli_walk.specs.Runs.{told_run};
+ghost use Rattle.gimli_walk.specs.TrueAnswers.{IsRunFrom};
+ghost use Rattle.gimli_walk.specs.CursorTurns.{HasRun};
+ghost use Rattle.gimli_walk.specs.Sinks.{HasCollected, HasToldSteps};
+ghost use Rattle.gimli_walk.specs.SinkLaws.{collected_none, collected_more};
+ghost use Rattle.gimli_units.specs.UnitHeld.{unit_view};
 
 use crate::Run;
+use crate::lines::Stop;
+use crate::sink::Sink;
 use gimli_base::{Abbreviations, Error, Reader, Result};
-use gimli_units::{DebuggingInformationEntry, EntriesCursor, HasUnit, UnitHeader, UnitOffset};
+use gimli_units::{DebuggingInformationEntry, EntriesCursor, UnitHeader, UnitOffset};
 use std::alloc::Allocator;
+use std::result::Result as StdResult;
 
 /// A step of a cursor.
 #[derive(Clone, Copy, Debug, PartialEq, Eq)]
@@ -96,7 +103,7 @@ fn current_of<R: Reader, A: Allocator + Copy>(
     alloc: A,
     cursor: &EntriesCursor<'_, R, A>,
 ) -> Result<Option<DebuggingInformationEntry<R, A>>>
-    ensures entry { IfOk result (λ o. option_map (λ e. entry_of R.view R.Offset.number e.tag e.has_children e.attrs.items) o ≡ some_of cursor.now.entry) }
+    ensures entry { IfOk result (λ o. option_map (entry_of R.view R.Offset.number) o ≡ some_of cursor.now.entry) }
     ensures pair { IfOk result (λ o. IfSome o (λ e. (R.Offset.number e.offset.0 ≡ cursor.now.offset) × (e.depth ≡ cursor.now.depth))) }
 {
     match cursor.current() {
@@ -108,32 +115,68 @@ fn current_of<R: Reader, A: Allocator + Copy>(
     }
 }
 
-// Takes a step, and tells its answer. Refusal: `OutOfMemory`.
-fn next_answer<R: Reader, A: Allocator + Copy>(
-    alloc: A,
+// Takes these steps, and tells each answer.
+pub(crate) fn run_steps<R: Reader, A: Allocator + Copy, S: Sink<R, A>>(
     cursor: &mut EntriesCursor<'_, R, A>,
-    step: CursorStep,
-) -> Result<CursorAnswer<R, A>>
-    ensures answered { IfOk result (λ a. HasAnswered R.Offset.limit step cursor.old (seen R.view R.Offset.number a) cursor.new) }
-    ensures paired { IfOk result (λ a. IsPaired R.Offset.number a) }
+    steps: &[CursorStep],
+    sink: &mut S,
+) -> StdResult<(), Stop>
+    ensures { let told = S.has_told sink.old in
+        let run = HasRun R.Offset.limit cursor.old steps.now in
+        HasToldSteps run (λ all. told all sink.new) S.writes (length steps.now) result }
 {
-    let outcome = take(cursor, step);
-    if wants_memory(&outcome) {
-        return Err(Error::OutOfMemory);
+    'steps: for step in steps {
+        let outcome = take(cursor, *step);
+        if wants_memory(&outcome) {
+            return Err(Stop::Memory);
+        }
+        sink.tell(outcome, cursor)?;
     }
-    let current = current_of(alloc, cursor)?;
-    Ok(CursorAnswer {
-        outcome,
-        current,
-        offset: cursor.offset(),
-        depth: cursor.depth(),
-        next_offset: cursor.next_offset(),
-        next_depth: cursor.next_depth(),
-    })
+    Ok(())
+}
+
+// Answers in memory.
+#[derive(Drop)]
+struct Collected<R: Reader, A: Allocator> {
+    alloc: A,
+    answers: Vec<CursorAnswer<R, A>, A>,
+}
+
+impl<R: Reader, A: Allocator + Copy> Sink<R, A> for Collected<R, A> {
+    ghost has_told = { λ s told t. HasCollected (seen R.view R.Offset.number) (IsPaired R.Offset.number) s.answers.items told t.answers.items };
+
+    ghost writes = { false };
+
+    fn tell(
+        &mut self,
+        outcome: Result<bool>,
+        cursor: &EntriesCursor<'_, R, A>,
+    ) -> StdResult<(), Stop> {
+        let Ok(current) = current_of(self.alloc, cursor) else {
+            return Err(Stop::Memory);
+        };
+        let answer = CursorAnswer {
+            outcome,
+            current,
+            offset: cursor.offset(),
+            depth: cursor.depth(),
+            next_offset: cursor.next_offset(),
+            next_depth: cursor.next_depth(),
+        };
+        match self.answers.push(answer) {
+            Ok(()) => {}
+            Err(_) => return Err(Stop::Memory),
+        }
+        Ok(())
+    }
+
+    ghost none = { λ s. collected_none _ _ _ };
+
+    ghost more = { λ s t u xs ys h k. collected_more _ _ _ _ _ xs ys h k };
 }
 
 // The answers of these steps, as far as there is memory for them.
-fn run_steps<R: Reader, A: Allocator + Copy>(
+fn collect_steps<R: Reader, A: Allocator + Copy>(
     alloc: A,
     cursor: &mut EntriesCursor<'_, R, A>,
     steps: &[CursorStep],
@@ -143,27 +186,30 @@ fn run_steps<R: Reader, A: Allocator + Copy>(
     ensures stopped { result.stopped ≡ true → length result.answers.items < length steps.now }
     ensures whole { result.stopped ≡ false → length result.answers.items ≡ length steps.now }
 {
-    let mut answers = Vec::new(alloc);
-    'steps: for step in steps {
-        let Ok(answer) = next_answer(alloc, cursor, *step) else {
-            return Run {
-                answers,
-                stopped: true,
-            };
-        };
-        match answers.push(answer) {
-            Ok(()) => {}
-            Err(_) => {
-                return Run {
-                    answers,
-                    stopped: true,
-                };
-            }
-        }
-    }
+    let mut collected = Collected {
+        alloc,
+        answers: Vec::new(alloc),
+    };
+    let stopped = run_steps(cursor, steps, &mut collected).is_err();
     Run {
-        answers,
-        stopped: false,
+        answers: collected.answers,
+        stopped,
+    }
+}
+
+// A cursor before the first entry.
+pub(crate) fn first_cursor<'abbrev, R: Reader, A: Allocator + Copy>(
+    alloc: A,
+    unit: &UnitHeader<R>,
+    abbreviations: &'abbrev Abbreviations<A>,
+    follows: bool,
+) -> EntriesCursor<'abbrev, R, A>
+    ensures { result ≡ cursor_of (unit_view unit.now) abbreviations.now follows }
+{
+    if follows {
+        unit.entries(alloc, abbreviations)
+    } else {
+        unit.entries_plain(alloc, abbreviations)
     }
 }
 
@@ -175,16 +221,10 @@ fn start_cursor<'abbrev, R: Reader, A: Allocator + Copy>(
     start: Option<UnitOffset<R::Offset>>,
     follows: bool,
 ) -> Result<EntriesCursor<'abbrev, R, A>>
-    ensures { result ≡ cursor_start (⟦<UnitHeader<R> as HasUnit>⟧.unit unit.now) abbreviations.now follows (option_map (λ o. R.Offset.number o.0) start) }
+    ensures { result ≡ cursor_start (unit_view unit.now) abbreviations.now follows (option_map (λ o. R.Offset.number o.0) start) }
 {
     match start {
-        None => {
-            if follows {
-                Ok(unit.entries(alloc, abbreviations))
-            } else {
-                Ok(unit.entries_plain(alloc, abbreviations))
-            }
-        }
+        None => Ok(first_cursor(alloc, unit, abbreviations, follows)),
         Some(offset) => {
             if follows {
                 unit.entries_at_offset(alloc, abbreviations, offset)
@@ -210,16 +250,14 @@ pub fn run_cursor<R: Reader, A: Allocator + Copy>(
     start: Option<UnitOffset<R::Offset>>,
     steps: &[CursorStep],
 ) -> Result<Run<CursorAnswer<R, A>, A>>
-    ensures answers { (any_sibling steps.now ≡ true → IsHonestFrom R.Offset.limit (⟦<UnitHeader<R> as HasUnit>⟧.unit unit.now) (found abbreviations.now) (start_view (⟦<UnitHeader<R> as HasUnit>⟧.unit unit.now) (option_map (λ o. R.Offset.number o.0) start))) → RunsAs (answer_of (λ r. (map (seen R.view R.Offset.number) r.answers.items, r.stopped)) result) (run_answers R.Offset.limit (⟦<UnitHeader<R> as HasUnit>⟧.unit unit.now) (found abbreviations.now) (option_map (λ o. R.Offset.number o.0) start) steps.now) }
-    ensures true_answers { IfOk result (λ r. AreTrueAnswers R.Offset.limit (⟦<UnitHeader<R> as HasUnit>⟧.unit unit.now) (found abbreviations.now) (map (seen R.view R.Offset.number) r.answers.items)) }
-    ensures steps { IfOk result (λ r. HoldsFrom (start_view (⟦<UnitHeader<R> as HasUnit>⟧.unit unit.now) (option_map (λ o. R.Offset.number o.0) start)) (λ v. AreStepped R.Offset.limit (⟦<UnitHeader<R> as HasUnit>⟧.unit unit.now) (found abbreviations.now) true (start_of (unit_rows_at R.Offset.limit (⟦<UnitHeader<R> as HasUnit>⟧.unit unit.now) (found abbreviations.now) (pos 0) v)) steps.now (map (seen R.view R.Offset.number) r.answers.items))) }
-    ensures taken { IfOk result (λ r. AreTaken R.Offset.limit (⟦<UnitHeader<R> as HasUnit>⟧.unit unit.now) (found abbreviations.now) steps.now (map (seen R.view R.Offset.number) r.answers.items)) }
-    ensures refused { IfErr result (λ e. start_view (⟦<UnitHeader<R> as HasUnit>⟧.unit unit.now) (option_map (λ o. R.Offset.number o.0) start) ≡ Err e) }
+    ensures run { let u = unit_view unit.now in
+        let from = start_view u (option_map (λ o. R.Offset.number o.0) start) in
+        IsRunFrom R.Offset.limit u (found abbreviations.now) true steps.now from
+        (answer_of (told_run (seen R.view R.Offset.number)) result) }
     ensures paired { IfOk result (λ r. All (IsPaired R.Offset.number) r.answers.items) }
-    ensures stopped { IfOk result (λ r. IsStopped r.stopped (length r.answers.items) (length steps.now)) }
 {
     let mut cursor = start_cursor(alloc, unit, abbreviations, start, true)?;
-    Ok(run_steps(alloc, &mut cursor, steps))
+    Ok(collect_steps(alloc, &mut cursor, steps))
 }
 
 /// The answers of a cursor that follows no reference, from a start, or from the first entry, to these steps. They are the
@@ -233,13 +271,12 @@ pub fn run_cursor_plain<R: Reader, A: Allocator + Copy>(
     start: Option<UnitOffset<R::Offset>>,
     steps: &[CursorStep],
 ) -> Result<Run<CursorAnswer<R, A>, A>>
-    ensures answers { RunsAs (answer_of (λ r. (map (seen R.view R.Offset.number) r.answers.items, r.stopped)) result) (run_answers R.Offset.limit (⟦<UnitHeader<R> as HasUnit>⟧.unit unit.now) (found abbreviations.now) (option_map (λ o. R.Offset.number o.0) start) steps.now) }
-    ensures true_answers { IfOk result (λ r. AreTrueAnswers R.Offset.limit (⟦<UnitHeader<R> as HasUnit>⟧.unit unit.now) (found abbreviations.now) (map (seen R.view R.Offset.number) r.answers.items)) }
-    ensures steps { IfOk result (λ r. HoldsFrom (start_view (⟦<UnitHeader<R> as HasUnit>⟧.unit unit.now) (option_map (λ o. R.Offset.number o.0) start)) (λ v. AreStepped R.Offset.limit (⟦<UnitHeader<R> as HasUnit>⟧.unit unit.now) (found abbreviations.now) false (start_of (unit_rows_at R.Offset.limit (⟦<UnitHeader<R> as HasUnit>⟧.unit unit.now) (found abbreviations.now) (pos 0) v)) steps.now (map (seen R.view R.Offset.number) r.answers.items))) }
-    ensures refused { IfErr result (λ e. start_view (⟦<UnitHeader<R> as HasUnit>⟧.unit unit.now) (option_map (λ o. R.Offset.number o.0) start) ≡ Err e) }
+    ensures run { let u = unit_view unit.now in
+        let from = start_view u (option_map (λ o. R.Offset.number o.0) start) in
+        IsRunFrom R.Offset.limit u (found abbreviations.now) false steps.now from
+        (answer_of (told_run (seen R.view R.Offset.number)) result) }
     ensures paired { IfOk result (λ r. All (IsPaired R.Offset.number) r.answers.items) }
-    ensures stopped { IfOk result (λ r. IsStopped r.stopped (length r.answers.items) (length steps.now)) }
 {
     let mut cursor = start_cursor(alloc, unit, abbreviations, start, false)?;
-    Ok(run_steps(alloc, &mut cursor, steps))
+    Ok(collect_steps(alloc, &mut cursor, steps))
 }

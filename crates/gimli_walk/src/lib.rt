@@ -2,18 +2,26 @@
 #![tactic(auto)]
 
 mod answers;
+mod check;
 mod cursor;
+mod dump;
+mod find;
+mod letters;
 mod lines;
 mod locations;
 mod mode;
 mod ranges;
+mod rows;
 mod run;
+mod sink;
 mod text;
 mod tree;
 mod tree_lines;
 mod words;
 
 pub use cursor::{CursorAnswer, CursorStep, run_cursor, run_cursor_plain};
+pub use dump::dump_text;
+pub use find::{find_text, unit_of_address};
 pub use lines::WriteFault;
 pub use locations::run_locations;
 pub use mode::Mode;

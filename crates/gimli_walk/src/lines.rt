@@ -3,7 +3,8 @@
 ghost use Rattle.std.specs.Prelude.{◌≡◌, OnOk};
 ghost use Rattle.std.specs.Io.KnownBytes.{Appends};
 ghost use Rattle.gimli_base.specs.Refusal.{number_of};
-ghost use Rattle.gimli_walk.specs.Lines.{row_line, end_line, no_unit_line, error_line, error_line_at};
+ghost use Rattle.gimli_walk.specs.declared.lines.Stop.TheVariants.{Write as WriteStop};
+ghost use Rattle.gimli_walk.specs.Lines.{row_line, end_line, no_unit_line, error_line, error_line_at, unit_line, honest_line, false_line};
 
 use gimli_base::Error;
 use std::io::Write;
@@ -11,6 +12,23 @@ use std::io::Write;
 /// A write that failed.
 #[derive(Clone, Copy, Debug, PartialEq, Eq)]
 pub struct WriteFault;
+
+/// Why lines end before their last one.
+#[derive(Clone, Copy, Debug, PartialEq, Eq)]
+pub(crate) enum Stop {
+    /// Memory was refused, between two lines.
+    Memory,
+    /// A write failed.
+    Write,
+}
+
+impl From<WriteFault> for Stop {
+    ghost from_gives = { λ _ s. s ≡ WriteStop };
+
+    fn from(_fault: WriteFault) -> Stop {
+        Stop::Write
+    }
+}
 
 /// Writes the line of a row: its offset and tag in hexadecimal, its depth, and whether children follow.
 #[tactic(auto, unfolding(crate::specs::Lines::row_line))]
@@ -61,4 +79,32 @@ pub(crate) fn write_error_at<W: Write>(
 {
     let number = error.number();
     write!(out, "error {number} {offset:x}\n").map_err(|_| WriteFault)
+}
+
+/// Writes the line of a unit: its offset and the number of its type in hexadecimal, and between them its version.
+#[tactic(auto, unfolding(crate::specs::Lines::unit_line))]
+pub(crate) fn write_unit_line<W: Write>(
+    out: &mut W,
+    offset: u64,
+    version: u16,
+    type_number: u8,
+) -> Result<(), WriteFault>
+    ensures { OnOk result (Appends (W.contents out.old) (W.contents out.new) (unit_line offset version type_number)) }
+{
+    write!(out, "unit {offset:x} {version} {type_number:x}\n").map_err(|_| WriteFault)
+}
+
+/// Writes the line of a unit whose sibling references are honest.
+pub(crate) fn write_honest<W: Write>(out: &mut W) -> Result<(), WriteFault>
+    ensures { OnOk result (Appends (W.contents out.old) (W.contents out.new) honest_line) }
+{
+    out.write_all(b"honest\n").map_err(|_| WriteFault)
+}
+
+/// Writes the line of an entry whose sibling reference is false, by its offset in the unit.
+#[tactic(auto, unfolding(crate::specs::Lines::false_line))]
+pub(crate) fn write_false<W: Write>(out: &mut W, offset: u64) -> Result<(), WriteFault>
+    ensures { OnOk result (Appends (W.contents out.old) (W.contents out.new) (false_line offset)) }
+{
+    write!(out, "false {offset:x}\n").map_err(|_| WriteFault)
 }

@@ -1,11 +1,11 @@
 //! Whole runs over a list of locations.
 
-ghost use Rattle.std.specs.Prelude.{◌≡◌, false, map, IsTrue, IsOk, IfOk, MatchResult};
+ghost use Rattle.std.specs.Prelude.{◌≡◌, IsTrue};
 ghost use Rattle.gimli_base.specs.Offset.{answer_of};
 ghost use Rattle.gimli_base.specs.Reading.{is_size};
 ghost use Rattle.gimli_lists.specs.Locations.{location_format, location_of, location_answers};
 ghost use Rattle.gimli_lists.specs.Places.{list_place_at};
-ghost use Rattle.gimli_walk.specs.Runs.{IsFront};
+ghost use Rattle.gimli_walk.specs.Runs.{RunsAs, told_run};
 
 use crate::run::{Run, run_all};
 use gimli_base::{
@@ -32,9 +32,11 @@ pub fn run_locations<R: Reader, A: Allocator + Copy>(
     dwo: bool,
 ) -> Result<Run<Result<LocationListEntry<R>>, A>>
     requires { IsTrue (is_size encoding.address_size) }
-    ensures refused { MatchResult result (λ run. IsOk (location_answers R.Offset.limit dwo (R.Offset.number offset.0) encoding base (⟦<DebugAddr<R> as Section<R>>⟧.content addr.now) (R.Offset.number addr_base.0) (⟦<LocationLists<R> as HasLists>⟧.lists lists.now))) (λ e. location_answers R.Offset.limit dwo (R.Offset.number offset.0) encoding base (⟦<DebugAddr<R> as Section<R>>⟧.content addr.now) (R.Offset.number addr_base.0) (⟦<LocationLists<R> as HasLists>⟧.lists lists.now) ≡ Err e) }
-    ensures front { IfOk result (λ run. IfOk (location_answers R.Offset.limit dwo (R.Offset.number offset.0) encoding base (⟦<DebugAddr<R> as Section<R>>⟧.content addr.now) (R.Offset.number addr_base.0) (⟦<LocationLists<R> as HasLists>⟧.lists lists.now)) (λ all. IsFront (map (answer_of (location_of R.view)) run.answers.items) all)) }
-    ensures whole { IfOk result (λ run. IfOk (location_answers R.Offset.limit dwo (R.Offset.number offset.0) encoding base (⟦<DebugAddr<R> as Section<R>>⟧.content addr.now) (R.Offset.number addr_base.0) (⟦<LocationLists<R> as HasLists>⟧.lists lists.now)) (λ all. run.stopped ≡ false → map (answer_of (location_of R.view)) run.answers.items ≡ all)) }
+    ensures { let addresses = ⟦<DebugAddr<R> as Section<R>>⟧.content addr.now in
+        let sections = ⟦<LocationLists<R> as HasLists>⟧.lists lists.now in
+        RunsAs (answer_of (told_run (answer_of (location_of R.view))) result)
+        (location_answers R.Offset.limit dwo (R.Offset.number offset.0) encoding base addresses
+        (R.Offset.number addr_base.0) sections) }
 {
     let locations = begin(lists, offset, encoding, base, addr, addr_base, dwo)?;
     Ok(run_all(alloc, locations))
@@ -51,7 +53,11 @@ fn begin<R: Reader>(
     dwo: bool,
 ) -> Result<LocListIter<R>>
     requires { IsTrue (is_size encoding.address_size) }
-    ensures { result ≡ list_place_at (location_format dwo encoding.version) (R.Offset.number offset.0) encoding base (⟦<DebugAddr<R> as Section<R>>⟧.content addr.now) (R.Offset.number addr_base.0) (⟦<LocationLists<R> as HasLists>⟧.lists lists.now) }
+    ensures { let format = location_format dwo encoding.version in
+        let addresses = ⟦<DebugAddr<R> as Section<R>>⟧.content addr.now in
+        let sections = ⟦<LocationLists<R> as HasLists>⟧.lists lists.now in
+        result ≡ list_place_at format (R.Offset.number offset.0) encoding base addresses
+        (R.Offset.number addr_base.0) sections }
 {
     if dwo {
         lists.locations_dwo(offset, encoding, base, addr, addr_base)

@@ -1,10 +1,10 @@
 //! Whole runs over a list of ranges.
 
-ghost use Rattle.std.specs.Prelude.{◌≡◌, false, map, IsTrue, IsOk, IfOk, MatchResult};
+ghost use Rattle.std.specs.Prelude.{IsTrue};
 ghost use Rattle.gimli_base.specs.Offset.{answer_of};
 ghost use Rattle.gimli_base.specs.Reading.{is_size};
 ghost use Rattle.gimli_lists.specs.Ranges.{range_of, range_answers};
-ghost use Rattle.gimli_walk.specs.Runs.{IsFront};
+ghost use Rattle.gimli_walk.specs.Runs.{RunsAs, told_run};
 
 use crate::run::{Run, run_all};
 use gimli_base::{DebugAddr, DebugAddrBase, Encoding, RangeListsOffset, Reader, Result, Section};
@@ -28,9 +28,11 @@ pub fn run_ranges<R: Reader, A: Allocator + Copy>(
     addr_base: DebugAddrBase<R::Offset>,
 ) -> Result<Run<Result<Range>, A>>
     requires { IsTrue (is_size encoding.address_size) }
-    ensures refused { MatchResult result (λ run. IsOk (range_answers R.Offset.limit (R.Offset.number offset.0) encoding base (⟦<DebugAddr<R> as Section<R>>⟧.content addr.now) (R.Offset.number addr_base.0) (⟦<RangeLists<R> as HasLists>⟧.lists lists.now))) (λ e. range_answers R.Offset.limit (R.Offset.number offset.0) encoding base (⟦<DebugAddr<R> as Section<R>>⟧.content addr.now) (R.Offset.number addr_base.0) (⟦<RangeLists<R> as HasLists>⟧.lists lists.now) ≡ Err e) }
-    ensures front { IfOk result (λ run. IfOk (range_answers R.Offset.limit (R.Offset.number offset.0) encoding base (⟦<DebugAddr<R> as Section<R>>⟧.content addr.now) (R.Offset.number addr_base.0) (⟦<RangeLists<R> as HasLists>⟧.lists lists.now)) (λ all. IsFront (map (answer_of range_of) run.answers.items) all)) }
-    ensures whole { IfOk result (λ run. IfOk (range_answers R.Offset.limit (R.Offset.number offset.0) encoding base (⟦<DebugAddr<R> as Section<R>>⟧.content addr.now) (R.Offset.number addr_base.0) (⟦<RangeLists<R> as HasLists>⟧.lists lists.now)) (λ all. run.stopped ≡ false → map (answer_of range_of) run.answers.items ≡ all)) }
+    ensures { let addresses = ⟦<DebugAddr<R> as Section<R>>⟧.content addr.now in
+        let sections = ⟦<RangeLists<R> as HasLists>⟧.lists lists.now in
+        RunsAs (answer_of (told_run (answer_of range_of)) result)
+        (range_answers R.Offset.limit (R.Offset.number offset.0) encoding base addresses
+        (R.Offset.number addr_base.0) sections) }
 {
     let ranges = lists.ranges(offset, encoding, base, addr, addr_base)?;
     Ok(run_all(alloc, ranges))

@@ -1,15 +1,16 @@
 //! Whole runs: every answer of an iterator, as far as there is memory for them.
 
-ghost use Rattle.std.specs.Prelude.{◌≡◌, false, map};
+ghost use Rattle.std.specs.Prelude.{◌≡◌, true, false, [], ◌∷◌, ◌++◌};
 ghost use Rattle.std.specs.Iterator.{IsFinite, Yields, Drains};
 ghost use Rattle.gimli_base.specs.declared.common.SectionId.TheVariants.{DebugInfo as InfoSection, DebugTypes as TypesSection};
 ghost use Rattle.gimli_base.specs.Offset.{answer_of};
 ghost use Rattle.gimli_headers.specs.Units.{units_of, answers};
-ghost use Rattle.gimli_walk.specs.Runs.{IsFront};
+ghost use Rattle.gimli_walk.specs.Runs.{IsRunOf, told_run};
+ghost use Rattle.gimli_units.specs.UnitHeld.{unit_view};
 
 use gimli_base::{Reader, Result, Section};
 use gimli_headers::{DebugInfo, DebugTypes};
-use gimli_units::{HasUnit, UnitHeader};
+use gimli_units::UnitHeader;
 use std::alloc::Allocator;
 
 /// The answers of a run.
@@ -26,6 +27,8 @@ pub(crate) fn run_all<T: Drop, I: Iterator<Item = T>, A: Allocator>(alloc: A, it
     requires can { I.can_next items }
     requires ends { IsFinite (I.remaining items) }
     ensures front { (rest : I) × Yields I.next_gives items result.answers.items rest }
+    ensures fewer { result.stopped ≡ true →
+        ((x : T) × (rest : I) × Yields I.next_gives items (result.answers.items ++ x ∷ []) rest) }
     ensures whole { result.stopped ≡ false → Drains I.next_gives items result.answers.items }
 {
     let mut answers = Vec::new(alloc);
@@ -48,8 +51,9 @@ pub fn run_units<R: Reader, A: Allocator + Copy>(
     alloc: A,
     debug_info: &DebugInfo<R>,
 ) -> Run<Result<UnitHeader<R>>, A>
-    ensures front { IsFront (map (answer_of ⟦<UnitHeader<R> as HasUnit>⟧.unit) result.answers.items) (answers (units_of R.Offset.limit InfoSection (⟦<DebugInfo<R> as Section<R>>⟧.content debug_info.now))) }
-    ensures whole { result.stopped ≡ false → map (answer_of ⟦<UnitHeader<R> as HasUnit>⟧.unit) result.answers.items ≡ answers (units_of R.Offset.limit InfoSection (⟦<DebugInfo<R> as Section<R>>⟧.content debug_info.now)) }
+    ensures { let section = ⟦<DebugInfo<R> as Section<R>>⟧.content debug_info.now in
+        IsRunOf (told_run (answer_of unit_view) result)
+        (answers (units_of R.Offset.limit InfoSection section)) }
 {
     run_all(alloc, debug_info.units())
 }
@@ -59,8 +63,9 @@ pub fn run_type_units<R: Reader, A: Allocator + Copy>(
     alloc: A,
     debug_types: &DebugTypes<R>,
 ) -> Run<Result<UnitHeader<R>>, A>
-    ensures front { IsFront (map (answer_of ⟦<UnitHeader<R> as HasUnit>⟧.unit) result.answers.items) (answers (units_of R.Offset.limit TypesSection (⟦<DebugTypes<R> as Section<R>>⟧.content debug_types.now))) }
-    ensures whole { result.stopped ≡ false → map (answer_of ⟦<UnitHeader<R> as HasUnit>⟧.unit) result.answers.items ≡ answers (units_of R.Offset.limit TypesSection (⟦<DebugTypes<R> as Section<R>>⟧.content debug_types.now)) }
+    ensures { let section = ⟦<DebugTypes<R> as Section<R>>⟧.content debug_types.now in
+        IsRunOf (told_run (answer_of unit_view) result)
+        (answers (units_of R.Offset.limit TypesSection section)) }
 {
     run_all(alloc, debug_types.units())
 }

@@ -2,20 +2,19 @@
 
 ghost use Rattle.std.specs.Prelude.{◌≡◌, ◌^◌, IfOk, false};
 ghost use Rattle.gimli_base.specs.Table.{found};
-ghost use Rattle.gimli_units.specs.Entry.{entry_at};
-ghost use Rattle.gimli_units.specs.Rows.{ahead_at};
 ghost use Rattle.gimli_base.specs.Abbreviations.{map_at};
-ghost use Rattle.gimli_walk.specs.Text.{Wrote, WroteAll, WroteText, has_unit, little, rows_text, declared_text, mode_text, sections_text, text_of, IsHonestMode, IsHonestDeclared, IsHonestWalk, WroteTrueMode, WroteTrueDeclared, WroteTrueWalk};
+ghost use Rattle.gimli_walk.specs.Text.{Wrote, WroteAll, WroteText, has_unit, little, declared_text, mode_text, sections_text, text_of, IsHonestMode, IsHonestDeclared, IsHonestWalk, WroteTrueMode, WroteTrueDeclared, WroteTrueWalk};
+ghost use Rattle.gimli_units.specs.UnitHeld.{unit_view};
 
-use crate::answers::write_run;
-use crate::lines::{WriteFault, write_end, write_error, write_error_at, write_no_unit, write_row};
+use crate::answers::write_steps;
+use crate::check::write_check;
+use crate::lines::{WriteFault, write_error, write_no_unit};
+use crate::rows::{end_lines, write_rows};
 use crate::tree_lines::write_tree_run;
-use crate::{Mode, run_cursor, run_cursor_plain, run_tree};
-use gimli_base::{
-    Abbreviations, DebugAbbrev, EndianSlice, Error, LittleEndian, Reader, ReaderOffset, Section,
-};
+use crate::{Mode, run_tree};
+use gimli_base::{Abbreviations, DebugAbbrev, EndianSlice, LittleEndian, Reader, Section};
 use gimli_headers::DebugInfo;
-use gimli_units::{DebuggingInformationEntry, EntriesRaw, HasUnit, UnitHeader};
+use gimli_units::UnitHeader;
 use std::alloc::Allocator;
 use std::io::Write;
 
@@ -31,9 +30,16 @@ pub fn walk_text<A: Allocator + Copy, W: Write>(
     abbreviations: &[u8],
     out: &mut W,
 ) -> Result<u8, WriteFault>
-    ensures text { IsHonestWalk (2 ^ 64) mode.entry (little info.now) (little abbreviations.now) → IfOk result (λ status. WroteText (W.contents out.old) (W.contents out.new) (text_of mode.entry info.now abbreviations.now) status) }
-    ensures true_lines { IfOk result (λ status. WroteTrueWalk (2 ^ 64) mode.entry (little info.now) (little abbreviations.now) (W.contents out.old) (W.contents out.new) status) }
-    ensures without_memory { has_unit (2 ^ 64) (little info.now) ≡ false → IfOk result (λ status. WroteAll (W.contents out.old) (W.contents out.new) (text_of mode.entry info.now abbreviations.now) status) }
+    ensures text { let text = text_of mode.entry info.now abbreviations.now in
+        IsHonestWalk (2 ^ 64) mode.entry (little info.now) (little abbreviations.now) →
+        IfOk result (λ status. WroteText (W.contents out.old) (W.contents out.new) text status) }
+    ensures true_lines { let old = W.contents out.old in
+        let new = W.contents out.new in
+        IfOk result (λ status. WroteTrueWalk (2 ^ 64) mode.entry (little info.now)
+        (little abbreviations.now) old new status) }
+    ensures without_memory { let text = text_of mode.entry info.now abbreviations.now in
+        has_unit (2 ^ 64) (little info.now) ≡ false →
+        IfOk result (λ status. WroteAll (W.contents out.old) (W.contents out.new) text status) }
 {
     let debug_info = DebugInfo::new(info, LittleEndian);
     let debug_abbrev = DebugAbbrev::new(abbreviations, LittleEndian);
@@ -49,9 +55,21 @@ fn walk_sections<R: Reader, A: Allocator + Copy, W: Write>(
     debug_abbrev: &DebugAbbrev<R>,
     out: &mut W,
 ) -> Result<u8, WriteFault>
-    ensures without_memory { has_unit R.Offset.limit (⟦<DebugInfo<R> as Section<R>>⟧.content debug_info.now) ≡ false → IfOk result (λ status. WroteAll (W.contents out.old) (W.contents out.new) (sections_text R.Offset.limit (mode_text R.Offset.limit mode.entry) (⟦<DebugInfo<R> as Section<R>>⟧.content debug_info.now) (⟦<DebugAbbrev<R> as Section<R>>⟧.content debug_abbrev.now)) status) }
-    ensures true_lines { IfOk result (λ status. WroteTrueWalk R.Offset.limit mode.entry (⟦<DebugInfo<R> as Section<R>>⟧.content debug_info.now) (⟦<DebugAbbrev<R> as Section<R>>⟧.content debug_abbrev.now) (W.contents out.old) (W.contents out.new) status) }
-    ensures text { IsHonestWalk R.Offset.limit mode.entry (⟦<DebugInfo<R> as Section<R>>⟧.content debug_info.now) (⟦<DebugAbbrev<R> as Section<R>>⟧.content debug_abbrev.now) → IfOk result (λ status. WroteText (W.contents out.old) (W.contents out.new) (sections_text R.Offset.limit (mode_text R.Offset.limit mode.entry) (⟦<DebugInfo<R> as Section<R>>⟧.content debug_info.now) (⟦<DebugAbbrev<R> as Section<R>>⟧.content debug_abbrev.now)) status) }
+    ensures without_memory { let info = ⟦<DebugInfo<R> as Section<R>>⟧.content debug_info.now in
+        let declarations = ⟦<DebugAbbrev<R> as Section<R>>⟧.content debug_abbrev.now in
+        let text = sections_text R.Offset.limit (mode_text R.Offset.limit mode.entry) info declarations in
+        has_unit R.Offset.limit info ≡ false →
+        IfOk result (λ status. WroteAll (W.contents out.old) (W.contents out.new) text status) }
+    ensures true_lines { let info = ⟦<DebugInfo<R> as Section<R>>⟧.content debug_info.now in
+        let declarations = ⟦<DebugAbbrev<R> as Section<R>>⟧.content debug_abbrev.now in
+        let old = W.contents out.old in
+        let new = W.contents out.new in
+        IfOk result (λ status. WroteTrueWalk R.Offset.limit mode.entry info declarations old new status) }
+    ensures text { let info = ⟦<DebugInfo<R> as Section<R>>⟧.content debug_info.now in
+        let declarations = ⟦<DebugAbbrev<R> as Section<R>>⟧.content debug_abbrev.now in
+        let text = sections_text R.Offset.limit (mode_text R.Offset.limit mode.entry) info declarations in
+        IsHonestWalk R.Offset.limit mode.entry info declarations →
+        IfOk result (λ status. WroteText (W.contents out.old) (W.contents out.new) text status) }
 {
     match debug_info.units().next() {
         Ok(None) => {
@@ -74,8 +92,16 @@ fn walk_unit<R: Reader, A: Allocator + Copy, W: Write>(
     debug_abbrev: &DebugAbbrev<R>,
     out: &mut W,
 ) -> Result<u8, WriteFault>
-    ensures true_lines { IfOk result (λ status. WroteTrueDeclared R.Offset.limit mode.entry (⟦<UnitHeader<R> as HasUnit>⟧.unit unit.now) (map_at (⟦<UnitHeader<R> as HasUnit>⟧.unit unit.now).abbreviations (⟦<DebugAbbrev<R> as Section<R>>⟧.content debug_abbrev.now)) (W.contents out.old) (W.contents out.new) status) }
-    ensures text { IsHonestDeclared R.Offset.limit mode.entry (⟦<UnitHeader<R> as HasUnit>⟧.unit unit.now) (map_at (⟦<UnitHeader<R> as HasUnit>⟧.unit unit.now).abbreviations (⟦<DebugAbbrev<R> as Section<R>>⟧.content debug_abbrev.now)) → IfOk result (λ status. WroteText (W.contents out.old) (W.contents out.new) (declared_text (mode_text R.Offset.limit mode.entry) (⟦<UnitHeader<R> as HasUnit>⟧.unit unit.now) (map_at (⟦<UnitHeader<R> as HasUnit>⟧.unit unit.now).abbreviations (⟦<DebugAbbrev<R> as Section<R>>⟧.content debug_abbrev.now))) status) }
+    ensures true_lines { let u = unit_view unit.now in
+        let declared = map_at u.abbreviations (⟦<DebugAbbrev<R> as Section<R>>⟧.content debug_abbrev.now) in
+        let old = W.contents out.old in
+        let new = W.contents out.new in
+        IfOk result (λ status. WroteTrueDeclared R.Offset.limit mode.entry u declared old new status) }
+    ensures text { let u = unit_view unit.now in
+        let declared = map_at u.abbreviations (⟦<DebugAbbrev<R> as Section<R>>⟧.content debug_abbrev.now) in
+        let text = declared_text (mode_text R.Offset.limit mode.entry) u declared in
+        IsHonestDeclared R.Offset.limit mode.entry u declared →
+        IfOk result (λ status. WroteText (W.contents out.old) (W.contents out.new) text status) }
 {
     match unit.abbreviations(alloc, debug_abbrev) {
         Ok(abbreviations) => walk_declared(alloc, mode, unit, &abbreviations, out),
@@ -94,31 +120,28 @@ fn walk_declared<R: Reader, A: Allocator + Copy, W: Write>(
     abbreviations: &Abbreviations<A>,
     out: &mut W,
 ) -> Result<u8, WriteFault>
-    ensures true_lines { IfOk result (λ status. WroteTrueMode R.Offset.limit mode.entry (⟦<UnitHeader<R> as HasUnit>⟧.unit unit.now) (found abbreviations.now) (W.contents out.old) (W.contents out.new) status) }
-    ensures text { IsHonestMode R.Offset.limit mode.entry (⟦<UnitHeader<R> as HasUnit>⟧.unit unit.now) (found abbreviations.now) → IfOk result (λ status. Wrote (W.contents out.old) (W.contents out.new) (mode_text R.Offset.limit mode.entry (⟦<UnitHeader<R> as HasUnit>⟧.unit unit.now) (found abbreviations.now)) status) }
+    ensures true_lines { let u = unit_view unit.now in
+        let declared = found abbreviations.now in
+        let old = W.contents out.old in
+        let new = W.contents out.new in
+        IfOk result (λ status. WroteTrueMode R.Offset.limit mode.entry u declared old new status) }
+    ensures text { let u = unit_view unit.now in
+        let declared = found abbreviations.now in
+        let text = mode_text R.Offset.limit mode.entry u declared in
+        IsHonestMode R.Offset.limit mode.entry u declared →
+        IfOk result (λ status. Wrote (W.contents out.old) (W.contents out.new) text status) }
 {
     match mode {
-        Mode::Rows => match unit.entries_raw(abbreviations, None) {
-            Ok(mut entries) => walk_rows(alloc, &mut entries, out),
-            Err(_) => {
-                write_end(out)?;
-                Ok(0)
-            }
-        },
-        Mode::Cursor(steps) => match run_cursor(alloc, unit, abbreviations, None, steps) {
-            Ok(run) => write_run(out, &run),
-            Err(error) => {
-                write_error(out, error)?;
-                Ok(1)
-            }
-        },
-        Mode::Plain(steps) => match run_cursor_plain(alloc, unit, abbreviations, None, steps) {
-            Ok(run) => write_run(out, &run),
-            Err(error) => {
-                write_error(out, error)?;
-                Ok(1)
-            }
-        },
+        Mode::Rows => {
+            let written = write_rows(alloc, unit, abbreviations, out);
+            end_lines(written, out)
+        }
+        Mode::Check => {
+            let written = write_check(alloc, unit, abbreviations, out);
+            end_lines(written, out)
+        }
+        Mode::Cursor(steps) => write_steps(alloc, unit, abbreviations, true, steps, out),
+        Mode::Plain(steps) => write_steps(alloc, unit, abbreviations, false, steps, out),
         Mode::Tree(steps) => match run_tree(alloc, unit, abbreviations, None, steps) {
             Ok(run) => write_tree_run(out, &run),
             Err(error) => {
@@ -127,38 +150,4 @@ fn walk_declared<R: Reader, A: Allocator + Copy, W: Write>(
             }
         },
     }
-}
-
-// The rows that are left.
-fn walk_rows<R: Reader, A: Allocator + Copy, W: Write>(
-    alloc: A,
-    entries: &mut EntriesRaw<'_, R, A>,
-    out: &mut W,
-) -> Result<u8, WriteFault>
-    ensures { IfOk result (λ status. Wrote (W.contents out.old) (W.contents out.new) (rows_text (ahead_at (entry_at R.Offset.limit entries.old.encoding (found entries.old.abbreviations)) entries.old.end entries.old.depth entries.old.rest)) status) }
-{
-    let mut entry = DebuggingInformationEntry::null(alloc);
-    'rows: while !entries.is_empty() {
-        match entries.read_entry(&mut entry) {
-            Ok(_) => {}
-            Err(Error::OutOfMemory) => {
-                write_error(out, Error::OutOfMemory)?;
-                return Ok(1);
-            }
-            Err(error) => {
-                write_error_at(out, error, entry.offset().0.into_u64())?;
-                return Ok(1);
-            }
-        }
-        let offset = entry.offset().0.into_u64();
-        write_row(
-            out,
-            offset,
-            entry.depth(),
-            entry.tag().0,
-            entry.has_children(),
-        )?;
-    }
-    write_end(out)?;
-    Ok(0)
 }

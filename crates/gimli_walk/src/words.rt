@@ -1,45 +1,84 @@
 //! The words of the command line.
 
-ghost use Rattle.std.specs.Prelude.{◌≡◌};
-ghost use Rattle.gimli_walk.specs.Words.{AsksRows, AsksSteps, Walked, word};
+ghost use Rattle.std.specs.Prelude.{◌≡◌, ◌⊎◌, true, false};
+ghost use Rattle.std.specs.Io.KnownBytes.{Keeps};
+ghost use Rattle.gimli_walk.specs.declared.mode.Mode.TheVariants.{Rows, Check};
+ghost use Rattle.gimli_walk.specs.Text.{Wrote, WroteAll, WroteText, text_of};
+ghost use Rattle.gimli_walk.specs.Dump.{dump_of};
+ghost use Rattle.gimli_walk.specs.UnitOfAddress.{find_of};
+ghost use Rattle.gimli_walk.specs.Words.{word, AsksRows, AsksCheck, AsksDump, AsksFind, AsksCursor, AsksPlain, AsksTree, SaysNothing};
+ghost use Rattle.gimli_walk.specs.Words.{cursor_step, tree_step, cursor_mode, tree_mode, OfTwoFiles, OfFile, SaysWalk, BySteps, AtAddress};
 
-use crate::{CursorStep, Mode, TreeStep, walk_text};
-use std::alloc::{AllocError, Allocator};
+use crate::letters::{Lettered, address_in, are_steps, steps_in};
+use crate::{CursorStep, Mode, TreeStep, dump_text, find_text, walk_text};
+use std::alloc::Allocator;
 use std::io::Write;
 
 const USAGE: &str = "usage: gimli_walk rows|cursor|tree INFO ABBREV [STEPS]\n";
 
 /// Does what the words behind the program's name say, and answers the exit status.
 ///
-/// `read` gives the bytes of a file, or none where it can't be read. Status 2 is that of words that say nothing, 3 that of
-/// a file that can't be read or a write that failed; any other is the walk's.
+/// `rows`, `check` and `dump` stand before the names of two files, those of `.debug_info` and `.debug_abbrev`; `cursor`,
+/// `plain` and `tree` before these and the letters of steps; `find` before the name of a file, that of `.debug_aranges`, and
+/// an address in hexadecimal. `read` gives the bytes of a file, or none where it can't be read.
+///
+/// Status 2 is that of words, letters or an address that say nothing, 3 that of a file that can't be read, of a write that
+/// failed, or of memory refused for the steps; any other is that of the text.
 pub fn run_words<A: Allocator + Copy, F: FnMut(&str) -> Option<Vec<u8>>, W: Write, E: Write>(
     alloc: A,
     words: &[&str],
-    mut read: F,
+    read: F,
     out: &mut W,
     err: &mut E,
 ) -> u8
     requires { F.IsAlwaysCallable read }
-    ensures usage { (AsksRows words.now → ⊥) → (AsksSteps words.now → ⊥) → (result ≡ 2) × (out.new ≡ out.old) }
-    ensures rows { AsksRows words.now → Walked F.FnMut (λ v. v.items) read (word words.now 1) (word words.now 2) (W.contents out.old) (W.contents out.new) result }
+    ensures usage { SaysNothing words.now → (result ≡ 2) × (out.new ≡ out.old) }
+    ensures rows { let old = W.contents out.old in
+        let new = W.contents out.new in
+        AsksRows words.now →
+        OfTwoFiles F.FnMut (λ v. v.items) read (word words.now 1) (word words.now 2) old new
+        (λ info table. WroteText old new (text_of Rows info table)) result }
+    ensures check { let old = W.contents out.old in
+        let new = W.contents out.new in
+        AsksCheck words.now →
+        OfTwoFiles F.FnMut (λ v. v.items) read (word words.now 1) (word words.now 2) old new
+        (λ info table. WroteText old new (text_of Check info table)) result }
+    ensures dump { let old = W.contents out.old in
+        let new = W.contents out.new in
+        AsksDump words.now →
+        OfTwoFiles F.FnMut (λ v. v.items) read (word words.now 1) (word words.now 2) old new
+        (λ info table. Wrote old new (dump_of info table)) result }
+    ensures find { let old = W.contents out.old in
+        let new = W.contents out.new in
+        AsksFind words.now → AtAddress (word words.now 2) old new (λ address.
+        OfFile F.FnMut (λ v. v.items) read (word words.now 1) old new
+        (λ bytes. WroteAll old new (find_of address bytes))) result }
+    ensures cursor { let old = W.contents out.old in
+        let new = W.contents out.new in
+        AsksCursor words.now → BySteps cursor_step (word words.now 3) old new (λ steps.
+        OfTwoFiles F.FnMut (λ v. v.items) read (word words.now 1) (word words.now 2) old new
+        (SaysWalk (cursor_mode true steps) old new)) result }
+    ensures plain { let old = W.contents out.old in
+        let new = W.contents out.new in
+        AsksPlain words.now → BySteps cursor_step (word words.now 3) old new (λ steps.
+        OfTwoFiles F.FnMut (λ v. v.items) read (word words.now 1) (word words.now 2) old new
+        (SaysWalk (cursor_mode false steps) old new)) result }
+    ensures tree { let old = W.contents out.old in
+        let new = W.contents out.new in
+        AsksTree words.now → BySteps tree_step (word words.now 3) old new (λ steps.
+        OfTwoFiles F.FnMut (λ v. v.items) read (word words.now 1) (word words.now 2) old new
+        (SaysWalk (tree_mode steps) old new)) result }
 {
     match words {
-        ["rows", info, abbrev] => {
-            let Some(info_bytes) = read(info) else {
-                return cannot_read(err, info);
-            };
-            let Some(abbrev_bytes) = read(abbrev) else {
-                return cannot_read(err, abbrev);
-            };
-            let status = walk_text(alloc, Mode::Rows, &info_bytes, &abbrev_bytes, out).unwrap_or(3);
-            if out.flush().is_err() { 3 } else { status }
-        }
+        ["rows", info, abbrev] => walk_files(alloc, Mode::Rows, info, abbrev, read, out, err),
+        ["check", info, abbrev] => walk_files(alloc, Mode::Check, info, abbrev, read, out, err),
+        ["dump", info, abbrev] => dump_files(alloc, info, abbrev, read, out, err),
+        ["find", aranges, address] => find_file(aranges, address, read, out, err),
         ["cursor", info, abbrev, letters] => {
-            walk_steps(alloc, true, [info, abbrev, letters], read, out, err)
+            walk_cursor(alloc, true, [info, abbrev, letters], read, out, err)
         }
         ["plain", info, abbrev, letters] => {
-            walk_steps(alloc, false, [info, abbrev, letters], read, out, err)
+            walk_cursor(alloc, false, [info, abbrev, letters], read, out, err)
         }
         ["tree", info, abbrev, letters] => {
             walk_tree(alloc, [info, abbrev, letters], read, out, err)
@@ -49,7 +88,7 @@ pub fn run_words<A: Allocator + Copy, F: FnMut(&str) -> Option<Vec<u8>>, W: Writ
 }
 
 // Walks by the steps that letters name, over two files.
-fn walk_steps<A: Allocator + Copy, F: FnMut(&str) -> Option<Vec<u8>>, W: Write, E: Write>(
+fn walk_cursor<A: Allocator + Copy, F: FnMut(&str) -> Option<Vec<u8>>, W: Write, E: Write>(
     alloc: A,
     follows: bool,
     words: [&str; 3],
@@ -58,9 +97,16 @@ fn walk_steps<A: Allocator + Copy, F: FnMut(&str) -> Option<Vec<u8>>, W: Write, 
     err: &mut E,
 ) -> u8
     requires { F.IsAlwaysCallable read }
+    ensures { let old = W.contents out.old in
+        let new = W.contents out.new in
+        let info = word words.entry 0 in
+        let table = word words.entry 1 in
+        BySteps cursor_step (word words.entry 2) old new (λ steps.
+        OfTwoFiles F.FnMut (λ v. v.items) read info table old new
+        (SaysWalk (cursor_mode follows steps) old new)) result }
 {
     let [info, abbrev, letters] = words;
-    if !are_steps(letters) {
+    if !are_steps::<CursorStep>(letters) {
         return usage(err);
     }
     let Ok(steps) = steps_in(alloc, letters) else {
@@ -71,7 +117,7 @@ fn walk_steps<A: Allocator + Copy, F: FnMut(&str) -> Option<Vec<u8>>, W: Write, 
     } else {
         Mode::Plain(&steps)
     };
-    walk_files(alloc, mode, [info, abbrev], read, out, err)
+    walk_files(alloc, mode, info, abbrev, read, out, err)
 }
 
 // Walks over a tree by the steps that letters name, over two files.
@@ -83,29 +129,40 @@ fn walk_tree<A: Allocator + Copy, F: FnMut(&str) -> Option<Vec<u8>>, W: Write, E
     err: &mut E,
 ) -> u8
     requires { F.IsAlwaysCallable read }
+    ensures { let old = W.contents out.old in
+        let new = W.contents out.new in
+        let info = word words.entry 0 in
+        let table = word words.entry 1 in
+        BySteps tree_step (word words.entry 2) old new (λ steps.
+        OfTwoFiles F.FnMut (λ v. v.items) read info table old new
+        (SaysWalk (tree_mode steps) old new)) result }
 {
     let [info, abbrev, letters] = words;
-    if !are_tree_steps(letters) {
+    if !are_steps::<TreeStep>(letters) {
         return usage(err);
     }
-    let Ok(steps) = tree_steps_in(alloc, letters) else {
+    let Ok(steps) = steps_in(alloc, letters) else {
         return 3;
     };
-    walk_files(alloc, Mode::Tree(&steps), [info, abbrev], read, out, err)
+    walk_files(alloc, Mode::Tree(&steps), info, abbrev, read, out, err)
 }
 
 // Walks over two files.
 fn walk_files<A: Allocator + Copy, F: FnMut(&str) -> Option<Vec<u8>>, W: Write, E: Write>(
     alloc: A,
     mode: Mode<'_>,
-    names: [&str; 2],
+    info: &str,
+    abbrev: &str,
     mut read: F,
     out: &mut W,
     err: &mut E,
 ) -> u8
     requires { F.IsAlwaysCallable read }
+    ensures { let old = W.contents out.old in
+        let new = W.contents out.new in
+        OfTwoFiles F.FnMut (λ v. v.items) read info.now abbrev.now old new
+        (SaysWalk mode.entry old new) result }
 {
-    let [info, abbrev] = names;
     let Some(info_bytes) = read(info) else {
         return cannot_read(err, info);
     };
@@ -113,70 +170,64 @@ fn walk_files<A: Allocator + Copy, F: FnMut(&str) -> Option<Vec<u8>>, W: Write, 
         return cannot_read(err, abbrev);
     };
     let status = walk_text(alloc, mode, &info_bytes, &abbrev_bytes, out).unwrap_or(3);
+    flushed(status, out)
+}
+
+// Writes all units of two files.
+fn dump_files<A: Allocator + Copy, F: FnMut(&str) -> Option<Vec<u8>>, W: Write, E: Write>(
+    alloc: A,
+    info: &str,
+    abbrev: &str,
+    mut read: F,
+    out: &mut W,
+    err: &mut E,
+) -> u8
+    requires { F.IsAlwaysCallable read }
+    ensures { let old = W.contents out.old in
+        let new = W.contents out.new in
+        OfTwoFiles F.FnMut (λ v. v.items) read info.now abbrev.now old new
+        (λ info table. Wrote old new (dump_of info table)) result }
+{
+    let Some(info_bytes) = read(info) else {
+        return cannot_read(err, info);
+    };
+    let Some(abbrev_bytes) = read(abbrev) else {
+        return cannot_read(err, abbrev);
+    };
+    let status = dump_text(alloc, &info_bytes, &abbrev_bytes, out).unwrap_or(3);
+    flushed(status, out)
+}
+
+// Seeks the unit of an address in a file.
+fn find_file<F: FnMut(&str) -> Option<Vec<u8>>, W: Write, E: Write>(
+    aranges: &str,
+    letters: &str,
+    mut read: F,
+    out: &mut W,
+    err: &mut E,
+) -> u8
+    requires { F.IsAlwaysCallable read }
+    ensures { let old = W.contents out.old in
+        let new = W.contents out.new in
+        AtAddress letters.now old new (λ address.
+        OfFile F.FnMut (λ v. v.items) read aranges.now old new
+        (λ bytes. WroteAll old new (find_of address bytes))) result }
+{
+    let Some(address) = address_in(letters) else {
+        return usage(err);
+    };
+    let Some(bytes) = read(aranges) else {
+        return cannot_read(err, aranges);
+    };
+    let status = find_text(address, &bytes, out).unwrap_or(3);
+    flushed(status, out)
+}
+
+// The status of what was written, once all of it is out.
+fn flushed<W: Write>(status: u8, out: &mut W) -> u8
+    ensures { (result ≡ 3) ⊎ ((result ≡ status) × Keeps (W.contents out.old) (W.contents out.new)) }
+{
     if out.flush().is_err() { 3 } else { status }
-}
-
-// The step that a letter names.
-fn step_of(letter: u8) -> Option<CursorStep> {
-    match letter {
-        b'e' => Some(CursorStep::NextEntry),
-        b'd' => Some(CursorStep::NextDfs),
-        b's' => Some(CursorStep::NextSibling),
-        _ => None,
-    }
-}
-
-// Whether each of these letters names a step.
-fn are_steps(letters: &str) -> bool {
-    'letters: for letter in letters.as_bytes() {
-        if step_of(*letter).is_none() {
-            return false;
-        }
-    }
-    true
-}
-
-// The steps that these letters name.
-fn steps_in<A: Allocator>(alloc: A, letters: &str) -> Result<Vec<CursorStep, A>, AllocError> {
-    let mut steps = Vec::new(alloc);
-    'letters: for letter in letters.as_bytes() {
-        if let Some(step) = step_of(*letter) {
-            steps.push(step)?;
-        }
-    }
-    Ok(steps)
-}
-
-// The step of a tree that a letter names.
-fn tree_step_of(letter: u8) -> Option<TreeStep> {
-    match letter {
-        b'r' => Some(TreeStep::Root),
-        b'n' => Some(TreeStep::Next),
-        b'i' => Some(TreeStep::Enter),
-        b'o' => Some(TreeStep::Leave),
-        _ => None,
-    }
-}
-
-// Whether each of these letters names a step of a tree.
-fn are_tree_steps(letters: &str) -> bool {
-    'letters: for letter in letters.as_bytes() {
-        if tree_step_of(*letter).is_none() {
-            return false;
-        }
-    }
-    true
-}
-
-// The steps of a tree that these letters name.
-fn tree_steps_in<A: Allocator>(alloc: A, letters: &str) -> Result<Vec<TreeStep, A>, AllocError> {
-    let mut steps = Vec::new(alloc);
-    'letters: for letter in letters.as_bytes() {
-        if let Some(step) = tree_step_of(*letter) {
-            steps.push(step)?;
-        }
-    }
-    Ok(steps)
 }
 
 // Says how the program is called.

@@ -2,7 +2,7 @@ use crate::samples::{
     MANY, NO_ENTRIES, TABLE_NESTED_STRINGS, TABLE_WITH_SIBLINGS, THREE_NESTED, THREE_NESTED_TEXT,
 };
 use failing::{Failing, Refusal};
-use gimli_walk::{CursorStep, Mode, TreeStep, run_words, walk_text};
+use gimli_walk::{CursorStep, Mode, TreeStep, dump_text, run_words, walk_text};
 use std::alloc::Global;
 use std::process::Abort;
 
@@ -32,6 +32,22 @@ const SIBLINGS: [u8; 16] = [
 const OPEN_LIST: [u8; 14] = [
     0x0a, 0x00, 0x00, 0x00, 0x04, 0x00, 0x00, 0x00, 0x00, 0x00, 0x04, 0x01, 0x40, 0x02,
 ];
+
+// An entry whose reference is false, and in it another.
+const FALSE_IN_A_FALSE_ONE: [u8; 20] = [
+    0x10, 0x00, 0x00, 0x00, 0x04, 0x00, 0x00, 0x00, 0x00, 0x00, 0x04, 0x01, 0x12, 0x01, 0x10, 0x02,
+    0x00, 0x02, 0x00, 0x02,
+];
+
+// The unit of siblings twice, and behind them a length whose bytes are missing.
+const TWO_UNITS: [u8; 37] = [
+    0x0c, 0x00, 0x00, 0x00, 0x04, 0x00, 0x00, 0x00, 0x00, 0x00, 0x04, 0x01, 0x0f, 0x02, 0x00, 0x02,
+    0x0c, 0x00, 0x00, 0x00, 0x04, 0x00, 0x00, 0x00, 0x00, 0x00, 0x04, 0x01, 0x0f, 0x02, 0x00, 0x02,
+    0x01, 0x00, 0x00, 0x00, 0x04,
+];
+
+const TWO_UNITS_TEXT: &str =
+    "unit 0 4 1\nb 0 2e 1\nd 1 34 0\ne 1 0 0\nf 0 34 0\nend\nunit 10 4 1\nb 0 2e 1\nd 1 34 0\ne 1 0 0\nf 0 34 0\nend\nerror 1\n";
 
 // A table whose code 1 is declared twice.
 const TWICE: [u8; 11] = [
@@ -72,17 +88,23 @@ fn is_cut_for_memory(text: &[u8], whole: &[u8]) -> bool {
     }
 }
 
+// What is tried over sections: a walk in a mode, or else a dump, and the sections.
+type Walk<'a> = (Option<Mode<'a>>, (&'a [u8], &'a [u8]));
+
 // Tries a walk over these sections where memory is refused, and answers whether it was.
 fn tries_refusal(
     rt: &impl Abort,
     alloc: Global,
-    (mode, sections): (Mode<'_>, (&[u8], &[u8])),
+    (mode, sections): Walk<'_>,
     wanted: (&str, u8),
     (first, refused): (u64, Refusal),
 ) -> bool {
     let heap = Failing::new(alloc, refused);
     let mut out = Vec::new(alloc);
-    let answer = walk_text(&heap, mode, sections.0, sections.1, &mut out);
+    let answer = match mode {
+        Some(mode) => walk_text(&heap, mode, sections.0, sections.1, &mut out),
+        None => dump_text(&heap, sections.0, sections.1, &mut out),
+    };
     let text = wanted.0.as_bytes();
     if heap.requests() < first {
         assert_eq!(rt; answer, Ok(wanted.1), "at {refused:?}");
@@ -95,12 +117,7 @@ fn tries_refusal(
 }
 
 // Tries the same with each request refused in turn, alone and with all behind it, and answers how many there are.
-fn tries_each_refusal(
-    rt: &impl Abort,
-    alloc: Global,
-    walk: (Mode<'_>, (&[u8], &[u8])),
-    wanted: (&str, u8),
-) -> u64 {
+fn tries_each_refusal(rt: &impl Abort, alloc: Global, walk: Walk<'_>, wanted: (&str, u8)) -> u64 {
     for number in 1..MANY {
         let alone = tries_refusal(rt, alloc, walk, wanted, (number, Refusal::Nth(number)));
         let first = tries_refusal(rt, alloc, walk, wanted, (number, Refusal::From(number)));
@@ -130,9 +147,40 @@ fn writes_whole_lines_where_memory_is_refused(rt: HostRuntime) {
         (&THREE_NESTED, &TWICE, "error 23\n", 1),
     ];
     for (info, abbrev, text, status) in cases {
-        let walk: (Mode<'_>, (&[u8], &[u8])) = (Mode::Rows, (info, abbrev));
+        let walk: Walk<'_> = (Some(Mode::Rows), (info, abbrev));
         let requests = tries_each_refusal(&rt, rt.alloc(), walk, (text, status));
         assert!(rt; 0 < requests && requests < MANY, "at {text}");
+    }
+}
+
+#[test]
+fn a_check_says_that_memory_is_refused(rt: HostRuntime) {
+    let cases: [(&[u8], &[u8], &str); 3] = [
+        (&SIBLINGS, &TABLE_WITH_SIBLINGS, "honest\n"),
+        (&FALSE_IN_A_FALSE_ONE, &TABLE_WITH_SIBLINGS, "false b\n"),
+        (&GROWING, &TABLE_GROWING, "honest\n"),
+    ];
+    for (info, abbrev, text) in cases {
+        let walk: Walk<'_> = (Some(Mode::Check), (info, abbrev));
+        let requests = tries_each_refusal(&rt, rt.alloc(), walk, (text, 0));
+        assert!(rt; 1 < requests && requests < MANY, "at {text}");
+    }
+}
+
+#[test]
+fn a_dump_writes_whole_lines_where_memory_is_refused(rt: HostRuntime) {
+    let cases: [(&[u8], &[u8], &str, u8); 2] = [
+        (&TWO_UNITS, &TABLE_WITH_SIBLINGS, TWO_UNITS_TEXT, 1),
+        (
+            &TWO_UNITS[..32],
+            &TWICE,
+            "unit 0 4 1\nerror 23\nunit 10 4 1\nerror 23\n",
+            1,
+        ),
+    ];
+    for (info, abbrev, text, status) in cases {
+        let requests = tries_each_refusal(&rt, rt.alloc(), (None, (info, abbrev)), (text, status));
+        assert!(rt; 1 < requests && requests < MANY, "at {text}");
     }
 }
 
@@ -152,7 +200,7 @@ fn writes_as_always_where_no_memory_is_needed(rt: HostRuntime) {
         (&nulls, &[0x00], "b 0 0 0\nc -1 0 0\nend\n", 0),
     ];
     for (info, abbrev, text, status) in cases {
-        let walk: (Mode<'_>, (&[u8], &[u8])) = (Mode::Rows, (info, abbrev));
+        let walk: Walk<'_> = (Some(Mode::Rows), (info, abbrev));
         let refusal = (1, Refusal::From(1));
         let refused = tries_refusal(&rt, rt.alloc(), walk, (text, status), refusal);
         assert!(rt; !refused, "at {text}");
@@ -232,7 +280,7 @@ fn a_walk_writes_whole_lines_where_memory_is_refused(rt: HostRuntime) {
     ];
     for (info, abbrev, steps, text, status) in cases {
         for mode in [Mode::Cursor(steps), Mode::Plain(steps)] {
-            let walk = (mode, (info, abbrev));
+            let walk = (Some(mode), (info, abbrev));
             let requests = tries_each_refusal(&rt, rt.alloc(), walk, (text, status));
             assert!(rt; 0 < requests && requests < MANY, "at {text}");
         }
@@ -244,12 +292,12 @@ fn a_walk_of_a_tree_writes_whole_lines_where_memory_is_refused(rt: HostRuntime) 
     let down = [R, I, N, I, N, O, N];
     let text = "node b 0 2e 1\nentered\nnode 10 1 2e 1\nentered\nnode 15 2 2e 1\nleft\nend\n";
     let sections: (&[u8], &[u8]) = (&THREE_NESTED, &TABLE_NESTED_STRINGS);
-    let walk = (Mode::Tree(&down), sections);
+    let walk = (Some(Mode::Tree(&down)), sections);
     let requests = tries_each_refusal(&rt, rt.alloc(), walk, (text, 0));
     assert!(rt; 3 < requests && requests < MANY);
     let beside = [R, I, N];
     let sections: (&[u8], &[u8]) = (&SIBLINGS, &TABLE_WITH_SIBLINGS);
-    let walk = (Mode::Tree(&beside), sections);
+    let walk = (Some(Mode::Tree(&beside)), sections);
     let text = "node b 0 2e 1\nentered\nnode d 1 34 0\n";
     let requests = tries_each_refusal(&rt, rt.alloc(), walk, (text, 0));
     assert!(rt; 0 < requests && requests < MANY);
@@ -272,10 +320,38 @@ fn a_walk_writes_as_always_where_no_memory_is_needed(rt: HostRuntime) {
     ];
     for (info, abbrev, steps, text, status) in cases {
         for mode in [Mode::Cursor(steps), Mode::Plain(steps)] {
-            let walk = (mode, (info, abbrev));
+            let walk = (Some(mode), (info, abbrev));
             let refusal = (1, Refusal::From(1));
             let refused = tries_refusal(&rt, rt.alloc(), walk, (text, status), refusal);
             assert!(rt; !refused, "at {text}");
         }
     }
+}
+
+// A unit of eight entries without attributes.
+const EIGHT: [u8; 19] = [
+    0x0f, 0x00, 0x00, 0x00, 0x04, 0x00, 0x00, 0x00, 0x00, 0x00, 0x04, 0x01, 0x01, 0x01, 0x01, 0x01,
+    0x01, 0x01, 0x01,
+];
+
+// How often a walk over it asks for memory.
+fn requests_of(rt: &impl Abort, alloc: Global, mode: Mode<'_>) -> u64 {
+    let heap = Failing::new(alloc, Refusal::Never);
+    let mut out = Vec::new(alloc);
+    let status = walk_text(
+        &heap,
+        mode,
+        &EIGHT,
+        &[0x01, 0x34, 0x00, 0x00, 0x00, 0x00],
+        &mut out,
+    );
+    assert_eq!(rt; status, Ok(0));
+    heap.requests()
+}
+
+#[test]
+fn more_steps_ask_for_no_more_memory(rt: HostRuntime) {
+    let few = requests_of(&rt, rt.alloc(), Mode::Cursor(&[E; 2]));
+    assert_eq!(rt; requests_of(&rt, rt.alloc(), Mode::Cursor(&[E; 200])), few);
+    assert_eq!(rt; requests_of(&rt, rt.alloc(), Mode::Plain(&[E; 200])), few);
 }

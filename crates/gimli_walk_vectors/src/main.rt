@@ -13,7 +13,7 @@ mod texts;
 mod trees;
 mod units;
 
-use crate::files::write_file_rows;
+use crate::files::write_file;
 use crate::readers::try_readers;
 use crate::texts::try_text;
 use std::io::{self, BufWriter, Write};
@@ -75,7 +75,7 @@ fn try_case<W: Write>(
     match case.word(0) {
         Some("file") => {
             let mut found = Vec::new(rt.alloc());
-            write_file_rows(rt, folder, case, &mut found)?;
+            write_file(rt, folder, case, &mut found)?;
             tally.compare(out, line, &case.wide, &found)
         }
         Some("rows" | "words") => try_text(rt.alloc(), line, case, tally, out),

@@ -1,27 +1,15 @@
-use Rattle.std.proofs.Common.{◌≡◌, false, map, List, Result, sym, subst}
-use Rattle.std.specs.Prelude.{IfOk}
-use Rattle.gimli_base.specs.declared.error.Error.{Error}
-use Rattle.gimli_base.specs.Offset.{answer_of}
 use Rattle.gimli_lists.specs.Places.{answers_ahead}
 use Rattle.gimli_lists.specs.PlaceSteps.{first_answer, list_answers-listed}
 use Rattle.gimli_lists.specs.RangeEntry.{range_grammar}
 use Rattle.gimli_lists.specs.RangeReads.{range_grammar-takes}
 use Rattle.gimli_lists.specs.Ranges.{range_of}
-use Rattle.gimli_lists.specs.Resolved.{Resolved}
-use Rattle.gimli_walk.specs.Runs.{IsFront, front-from_yields, whole-from_drains}
+use Rattle.gimli_walk.specs.Runs.{run-from_yields}
 use Rattle.gimli_walk.proofs.ranges.run_ranges.Goals as goal
 
-pub returns-clause-front : goal.returns-clause-front
-returns-clause-front g c =
+pub returns : goal.returns
+returns g c =
     let limit = g.R.Offset.ReaderOffset.limit in
-    let P : Result (List (Result (Resolved (Unit {0})) Error)) Error → Type 0 = λ r. IfOk r (λ all. IsFront (map (answer_of range_of) c.run_all.result.answers.items) all) in
-    let listed = list_answers-listed (range_grammar limit) limit _ _ _ _ _ _ _ c.in_ok-ranges.ranges c.in_ok-ranges.ensures in
-    subst P (sym listed) (front-from_yields _ (answer_of range_of) (answers_ahead (range_grammar limit) limit) (first_answer (range_grammar limit) (range_grammar-takes limit) limit range_of) _ _ c.run_all.ensures.front)
-
-pub returns-clause-whole : goal.returns-clause-whole
-returns-clause-whole g c =
-    let limit = g.R.Offset.ReaderOffset.limit in
-    let P : Result (List (Result (Resolved (Unit {0})) Error)) Error → Type 0 =
-    λ r. IfOk r (λ all. c.run_all.result.stopped ≡ false → map (answer_of range_of) c.run_all.result.answers.items ≡ all) in
-    let listed = list_answers-listed (range_grammar limit) limit _ _ _ _ _ _ _ c.in_ok-ranges.ranges c.in_ok-ranges.ensures in
-    subst P (sym listed) (λ all. whole-from_drains _ (answer_of range_of) (answers_ahead (range_grammar limit) limit) (first_answer (range_grammar limit) (range_grammar-takes limit) limit range_of) _ _ (c.run_all.ensures.whole all))
+    let grammar = range_grammar limit in
+    let listed = list_answers-listed grammar limit _ _ _ _ _ _ _ c.in_ok-ranges.ranges c.in_ok-ranges.ensures in
+    let all = c.run_all.ensures in
+    rw listed (run-from_yields _ _ (answers_ahead grammar limit) (first_answer grammar (range_grammar-takes limit) limit range_of) _ _ _ all.front all.fewer all.whole)

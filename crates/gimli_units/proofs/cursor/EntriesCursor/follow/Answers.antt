@@ -10,7 +10,7 @@ pub invariant_of-self : goal.invariant_of-self
 invariant_of-self g c =
     let n = g.R.Offset.ReaderOffset.number in
     let e = c.self.inside.entry in
-    let s : CursorView = record { raw = c.self.inside.raw; entry = entry_of g.R.Reader.view n e.tag e.has_children e.attrs.items; offset = n e.offset.0; depth = e.depth; follows = c.self.inside.follows; reads = c.self.inside.reads } in
+    let s : CursorView = record { raw = c.self.inside.raw; entry = entry_of g.R.Reader.view n e; offset = n e.offset.0; depth = e.depth; follows = c.self.inside.follows; reads = c.self.inside.reads } in
     let looks = rw (to_z-of_z w64 c.args.sought c.ranges.sought, ← c.self.view_is) at c.in-Some.ensures in
     let fits : FitsSigned w64 e.depth = search rules in
     let goes = rw (to_z-of_z w64 e.depth fits) at c.go_to.ensures in

@@ -10,8 +10,14 @@ invariant_of-self g c =
     let found = rw (to_z-of_z w64 c.args.depth c.ranges.depth, c.offset-offset.ensures) at c.seek-found.ensures in
     sought_tree g.R.Offset.ReaderOffset.limit c.args.depth t c.self.invariant c.seek-found.result c.seek-found.new.self found c.last.ensures.sound
 
-pub returns : goal.returns
-returns g c =
+pub returns-clause-gone_on : goal.returns-clause-gone_on
+returns-clause-gone_on g c =
     let t : TreeView = record { start = c.self.inside.start; cursor = c.self.inside.cursor } in
     let found = rw (to_z-of_z w64 c.args.depth c.ranges.depth, c.offset-offset.ensures) at c.seek-found.ensures in
     rw (← c.self.view_is) (sought_next g.R.Offset.ReaderOffset.limit c.args.depth t c.self.invariant c.seek-found.result c.seek-found.new.self found c.last.ensures.sound)
+
+pub returns-clause-tree : goal.returns-clause-tree
+returns-clause-tree g c =
+    let t : TreeView = record { start = c.self.inside.start; cursor = c.self.inside.cursor } in
+    let found = rw (to_z-of_z w64 c.args.depth c.ranges.depth, c.offset-offset.ensures) at c.seek-found.ensures in
+    sought_tree g.R.Offset.ReaderOffset.limit c.args.depth t c.self.invariant c.seek-found.result c.seek-found.new.self found c.last.ensures.sound

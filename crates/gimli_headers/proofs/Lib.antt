@@ -1,0 +1,6 @@
+pub mod OpenTurns
+pub mod Innermost
+pub mod References
+pub mod RowTurns
+pub mod Roots
+pub mod Checks

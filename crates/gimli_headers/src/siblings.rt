@@ -1,0 +1,260 @@
+//! The check of sibling references.
+
+ghost use Rattle.std.specs.Prelude.{◌≡◌, ℕ, pos, ◌-ℤ◌, ◌++◌, ◌↔◌, List, [], ◌∷◌, None, Ok, true, IfOk, IfErr, IfSome, OnOk};
+ghost use Rattle.std.specs.Option.{option_map};
+ghost use Rattle.gimli_base.specs.declared.error.Error.TheVariants.{OutOfMemory};
+ghost use Rattle.gimli_base.specs.Table.{found};
+ghost use Rattle.gimli_units.specs.Entry.{entry_of, is_null};
+ghost use Rattle.gimli_units.specs.Value.{map_value};
+ghost use Rattle.gimli_units.specs.Kind.{kind_of, reference};
+ghost use Rattle.gimli_units.specs.RawPlace.{depth_after};
+ghost use Rattle.gimli_units.specs.Rows.{Row};
+ghost use Rattle.gimli_units.specs.Honest.{target, within};
+ghost use Rattle.gimli_units.specs.CursorMoves.{rows_of};
+ghost use Rattle.gimli_units.specs.Unit.{whole_length};
+ghost use Rattle.gimli_units.specs.UnitHeld.{unit_view};
+ghost use Rattle.gimli_units.specs.UnitRows.{unit_rows, start_view, IsHonestAt, IsHonestFrom, StandsAt};
+ghost use Rattle.gimli_units.specs.FirstFalse.{first_false};
+ghost use Rattle.gimli_units.specs.LeastFalse.{IsLeastFalse};
+ghost use Rattle.gimli_headers.specs.OpenRows.{OpenRow, open_of, checked, row_of, Rise, judged};
+
+use gimli_base::{Abbreviations, DW_AT_sibling, Error, Reader, ReaderOffset, Result};
+use gimli_units::{AttributeValue, DebuggingInformationEntry, EntriesRaw, UnitHeader, UnitOffset};
+use std::alloc::Allocator;
+
+// An entry whose children are not closed yet, and whose reference can be followed.
+#[derive(Clone, Copy)]
+struct Open<Offset> {
+    offset: UnitOffset<Offset>,
+    depth: isize,
+    // where its reference leads
+    target: UnitOffset<Offset>,
+}
+
+// What a check has found: the open entries, the innermost last, and the first entry that is closed and whose reference is
+// false.
+#[derive(Drop)]
+struct Check<Offset, A: Allocator> {
+    open: Vec<Open<Offset>, A>,
+    first: Option<UnitOffset<Offset>>,
+}
+
+// Where a value leads in its unit, if it is a reference there.
+fn reference<R: Reader>(value: &AttributeValue<R>) -> Option<UnitOffset<R::Offset>>
+    ensures { let number = R.Offset.number in
+        option_map (λ o. number o.0) result ≡ reference (map_value R.view number value.now) }
+{
+    match value {
+        AttributeValue::UnitRef(offset) => Some(*offset),
+        _ => None,
+    }
+}
+
+// Where the reference of an entry leads, if it has children and its first sibling reference is an offset in the unit.
+fn sibling<R: Reader, A: Allocator>(
+    entry: &DebuggingInformationEntry<R, A>,
+) -> Option<UnitOffset<R::Offset>>
+    ensures { let number = R.Offset.number in
+        option_map (λ o. number o.0) result ≡ target (kind_of (entry_of R.view number entry.now)) }
+{
+    if entry.is_null() || !entry.has_children() {
+        return None;
+    }
+    match entry.attr_value_raw(DW_AT_sibling) {
+        Some(value) => reference(&value),
+        None => None,
+    }
+}
+
+// Where it leads, if it can be followed: not before what is behind the entry, and not past the end.
+fn usable<R: Reader, A: Allocator>(
+    entry: &DebuggingInformationEntry<R, A>,
+    behind: UnitOffset<R::Offset>,
+    end: UnitOffset<R::Offset>,
+) -> Option<UnitOffset<R::Offset>>
+    ensures { let number = R.Offset.number in
+        let leads = target (kind_of (entry_of R.view number entry.now)) in
+        option_map (λ o. number o.0) result ≡ within (number behind.0) (number end.0) leads }
+{
+    let target = sibling(entry)?;
+    let number = target.0.into_u64();
+    if behind.0.into_u64() <= number && number <= end.0.into_u64() {
+        Some(target)
+    } else {
+        None
+    }
+}
+
+impl<Offset: ReaderOffset, A: Allocator> Check<Offset, A> {
+    // A check that has found nothing.
+    fn new(alloc: A) -> Self
+        ensures { checked Offset.number result ≡ record { opens = []; first = None } }
+    {
+        Check {
+            open: Vec::new(alloc),
+            first: None,
+        }
+    }
+
+    // Goes behind a null of this depth, which may close the innermost open entry.
+    fn close(&mut self, depth: isize, behind: UnitOffset<Offset>)
+        requires { Rise depth (checked Offset.number self.old).opens }
+        ensures judged { (end : ℕ) (r : Row) (rest : List Row) → is_null r.entry ≡ true →
+            r.depth ≡ depth → r.next ≡ Offset.number behind.0 →
+            judged end (checked Offset.number self.new) rest
+            ≡ judged end (checked Offset.number self.old) (r ∷ rest) }
+        ensures rise { Rise (depth -ℤ pos 1) (checked Offset.number self.new).opens }
+    {
+        let Some(entry) = self.open.last() else {
+            return;
+        };
+        if entry.depth + 1 != depth {
+            return;
+        }
+        let well = entry.target.0.into_u64() == behind.0.into_u64();
+        let offset = entry.offset;
+        self.open.pop();
+        if well {
+            return;
+        }
+        self.first = Some(offset);
+    }
+
+    // Opens an entry of this depth whose reference can be followed, where no false reference is found yet. Refusal:
+    // `OutOfMemory`.
+    fn enter(
+        &mut self,
+        offset: UnitOffset<Offset>,
+        depth: isize,
+        target: UnitOffset<Offset>,
+    ) -> Result<()>
+        ensures value { let o = Offset.number offset.0 in
+            let t = Offset.number target.0 in
+            let x : OpenRow = record { offset = o; depth = depth; target = t } in
+            let old = checked Offset.number self.old in
+            let new = checked Offset.number self.new in
+            OnOk result (new ≡ record old { opens = old.opens ++ x ∷ [] }) }
+        ensures refusal { IfErr result (λ e. e ≡ OutOfMemory) }
+    {
+        self.open.push(Open {
+            offset,
+            depth,
+            target,
+        })?;
+        Ok(())
+    }
+
+    // What is found at the end of the rows: no open entry is closed any more.
+    fn finish(&self) -> Option<UnitOffset<Offset>>
+        ensures { (end : ℕ) → option_map (λ o. Offset.number o.0) result
+            ≡ judged end (checked Offset.number self.now) [] }
+    {
+        match self.open.first() {
+            Some(entry) => Some(entry.offset),
+            None => self.first,
+        }
+    }
+
+    // What is answered where an entry is refused: the rows before it are judged, unless memory was refused.
+    fn stop(&self, error: Error) -> Result<Option<UnitOffset<Offset>>>
+        ensures value { IfOk result (λ o. (error ≡ OutOfMemory → ⊥) ×
+            ((end : ℕ) → option_map (λ x. Offset.number x.0) o
+            ≡ judged end (checked Offset.number self.now) [])) }
+        ensures refusal { IfErr result (λ e. e ≡ OutOfMemory) }
+    {
+        match error {
+            Error::OutOfMemory => Err(Error::OutOfMemory),
+            _ => Ok(self.finish()),
+        }
+    }
+}
+
+// Goes behind an entry or a null, with the offsets of what is behind it and of the end. Refusal: `OutOfMemory`.
+fn go_behind<R: Reader, A: Allocator>(
+    check: &mut Check<R::Offset, A>,
+    entry: &DebuggingInformationEntry<R, A>,
+    behind: UnitOffset<R::Offset>,
+    end: UnitOffset<R::Offset>,
+) -> Result<()>
+    requires { Rise entry.now.depth (checked R.Offset.number check.old).opens }
+    ensures judged { OnOk result ((rest : List Row) →
+        let r = row_of R.view R.Offset.number entry.now (R.Offset.number behind.0) in
+        judged (R.Offset.number end.0) (checked R.Offset.number check.new) rest
+        ≡ judged (R.Offset.number end.0) (checked R.Offset.number check.old) (r ∷ rest)) }
+    ensures rise { let e = entry_of R.view R.Offset.number entry.now in
+        let depth = depth_after e entry.now.depth in
+        OnOk result (Rise depth (checked R.Offset.number check.new).opens) }
+    ensures refusal { IfErr result (λ e. e ≡ OutOfMemory) }
+{
+    if entry.is_null() {
+        check.close(entry.depth(), behind);
+        return Ok(());
+    }
+    if check.first.is_some() {
+        return Ok(());
+    }
+    match usable(entry, behind, end) {
+        Some(target) => check.enter(entry.offset(), entry.depth(), target),
+        None => Ok(()),
+    }
+}
+
+// The first of the rows that are left whose reference is false. Refusal: `OutOfMemory`.
+fn first_false_ahead<R: Reader, A: Allocator + Copy>(
+    alloc: A,
+    entries: &mut EntriesRaw<'_, R, A>,
+    end: UnitOffset<R::Offset>,
+) -> Result<Option<UnitOffset<R::Offset>>>
+    requires { R.Offset.number end.0 ≡ entries.old.end }
+    ensures value { let rows = (rows_of R.Offset.limit entries.old).rows in
+        let first = first_false entries.old.end rows in
+        IfOk result (λ o. option_map (λ x. R.Offset.number x.0) o ≡ first) }
+    ensures refusal { IfErr result (λ e. e ≡ OutOfMemory) }
+{
+    let mut check = Check::new(alloc);
+    let mut entry = DebuggingInformationEntry::null(alloc);
+    'rows: while !entries.is_empty() {
+        match entries.read_entry(&mut entry) {
+            Ok(_) => {}
+            Err(error) => return check.stop(error),
+        }
+        go_behind(&mut check, &entry, entries.next_offset(), end)?;
+    }
+    Ok(check.finish())
+}
+
+/// The offset of the first entry of a unit whose sibling reference can be followed and does not lead just past the null
+/// that closes its children, also where there is no such null; or none.
+///
+/// There is none exactly where the rows of the unit are honest, and they are then honest from the offset of each on. Rows
+/// before a refusal of bytes are judged. Refusal: `OutOfMemory`.
+pub fn first_false_sibling<R: Reader, A: Allocator + Copy>(
+    alloc: A,
+    unit: &UnitHeader<R>,
+    abbreviations: &Abbreviations<A>,
+) -> Result<Option<UnitOffset<R::Offset>>>
+    ensures value { let u = unit_view unit.now in
+        let rows = unit_rows R.Offset.limit u (found abbreviations.now) in
+        let first = first_false (whole_length u) rows in
+        IfOk result (λ o. option_map (λ x. R.Offset.number x.0) o ≡ first) }
+    ensures honest { let u = unit_view unit.now in
+        let declared = found abbreviations.now in
+        IfOk result (λ o. (o ≡ None) ↔ IsHonestAt R.Offset.limit u declared u.entries) }
+    ensures least { let u = unit_view unit.now in
+        let rows = unit_rows R.Offset.limit u (found abbreviations.now) in
+        let end = whole_length u in
+        IfOk result (λ o. IfSome o (λ x. IsLeastFalse end (R.Offset.number x.0) rows)) }
+    ensures starts { let u = unit_view unit.now in
+        let declared = found abbreviations.now in
+        result ≡ Ok None → (offset : ℕ) → StandsAt offset (unit_rows R.Offset.limit u declared) →
+        IsHonestFrom R.Offset.limit u declared (start_view u (Some offset)) }
+    ensures refusal { IfErr result (λ e. e ≡ OutOfMemory) }
+{
+    match unit.entries_raw(abbreviations, None) {
+        Ok(mut entries) => {
+            let end = UnitOffset(unit.length_including_self());
+            first_false_ahead(alloc, &mut entries, end)
+        }
+        Err(_) => Ok(None),
+    }
+}

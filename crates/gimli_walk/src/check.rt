@@ -1,0 +1,31 @@
+//! The line of the check of a unit's references.
+
+ghost use Rattle.gimli_base.specs.Table.{found};
+ghost use Rattle.gimli_units.specs.UnitHeld.{unit_view};
+ghost use Rattle.gimli_walk.specs.Check.{check_text};
+ghost use Rattle.gimli_walk.specs.Stops.{WroteUntil};
+
+use crate::lines::{Stop, write_false, write_honest};
+use gimli_base::{Abbreviations, Reader, ReaderOffset};
+use gimli_headers::first_false_sibling;
+use gimli_units::UnitHeader;
+use std::alloc::Allocator;
+use std::io::Write;
+
+/// Writes whether the sibling references of a unit are honest, and answers the status of that text.
+pub(crate) fn write_check<R: Reader, A: Allocator + Copy, W: Write>(
+    alloc: A,
+    unit: &UnitHeader<R>,
+    abbreviations: &Abbreviations<A>,
+    out: &mut W,
+) -> Result<u8, Stop>
+    ensures { let text = check_text R.Offset.limit (unit_view unit.now) (found abbreviations.now) in
+        WroteUntil (W.contents out.old) (W.contents out.new) text result }
+{
+    match first_false_sibling(alloc, unit, abbreviations) {
+        Ok(None) => write_honest(out)?,
+        Ok(Some(offset)) => write_false(out, offset.0.into_u64())?,
+        Err(_) => return Err(Stop::Memory),
+    }
+    Ok(0)
+}

@@ -1,0 +1,111 @@
+//! A dump of all units of a section, as text.
+
+ghost use Rattle.std.specs.Prelude.{◌≡◌, ◌^◌, IfOk, Err, false};
+ghost use Rattle.gimli_base.specs.declared.common.SectionId.TheVariants.{DebugInfo as InfoSection};
+ghost use Rattle.gimli_units.specs.UnitHeld.{unit_view};
+ghost use Rattle.gimli_units.specs.UnitKind.{map_type};
+ghost use Rattle.gimli_headers.specs.Units.{units_of};
+ghost use Rattle.gimli_walk.specs.declared.lines.Stop.TheVariants.{Memory};
+ghost use Rattle.gimli_walk.specs.Text.{Wrote, WroteAll, has_unit, little};
+ghost use Rattle.gimli_walk.specs.Stops.{WroteUntil};
+ghost use Rattle.gimli_walk.specs.Dump.{type_number as number_of_type, unit_dump, units_dump, dump_of};
+
+use crate::lines::{Stop, WriteFault, write_error, write_unit_line};
+use crate::rows::{end_lines, write_rows};
+use gimli_base::{DebugAbbrev, EndianSlice, Error, LittleEndian, Reader, ReaderOffset, Section};
+use gimli_headers::DebugInfo;
+use gimli_units::{UnitHeader, UnitType};
+use std::alloc::Allocator;
+use std::io::Write;
+
+/// Writes each unit of `.debug_info`, and its rows, and answers the exit status: 1 where a refusal was met, else 0. The
+/// sections are little endian.
+///
+/// Where memory is refused, whole lines from the front are written and then `error 24`, and the status is 1; without a unit
+/// no memory is asked for. Nothing is said of what is written where a write fails.
+pub fn dump_text<A: Allocator + Copy, W: Write>(
+    alloc: A,
+    info: &[u8],
+    abbreviations: &[u8],
+    out: &mut W,
+) -> Result<u8, WriteFault>
+    ensures text { let text = dump_of info.now abbreviations.now in
+        IfOk result (λ status. Wrote (W.contents out.old) (W.contents out.new) text status) }
+    ensures without_memory { let text = dump_of info.now abbreviations.now in
+        has_unit (2 ^ 64) (little info.now) ≡ false →
+        IfOk result (λ status. WroteAll (W.contents out.old) (W.contents out.new) text status) }
+{
+    let debug_info = DebugInfo::new(info, LittleEndian);
+    let debug_abbrev = DebugAbbrev::new(abbreviations, LittleEndian);
+    let written = dump_units(alloc, &debug_info, &debug_abbrev, out);
+    end_lines(written, out)
+}
+
+// Writes the units of a section, and answers the status of their text.
+fn dump_units<R: Reader, A: Allocator + Copy, W: Write>(
+    alloc: A,
+    debug_info: &DebugInfo<R>,
+    debug_abbrev: &DebugAbbrev<R>,
+    out: &mut W,
+) -> Result<u8, Stop>
+    ensures text { let info = ⟦<DebugInfo<R> as Section<R>>⟧.content debug_info.now in
+        let declarations = ⟦<DebugAbbrev<R> as Section<R>>⟧.content debug_abbrev.now in
+        let text = units_dump R.Offset.limit declarations (units_of R.Offset.limit InfoSection info) in
+        WroteUntil (W.contents out.old) (W.contents out.new) text result }
+    ensures without_memory { let info = ⟦<DebugInfo<R> as Section<R>>⟧.content debug_info.now in
+        has_unit R.Offset.limit info ≡ false → result ≡ Err Memory → ⊥ }
+{
+    let mut units = debug_info.units();
+    let mut status = 0;
+    'units: loop {
+        match units.next() {
+            Ok(Some(unit)) => {
+                let next = dump_unit(alloc, &unit, debug_abbrev, out)?;
+                status = status.max(next);
+            }
+            Ok(None) => return Ok(status),
+            Err(error) => {
+                write_error(out, error)?;
+                return Ok(status.max(1));
+            }
+        }
+    }
+}
+
+// Writes a unit, and answers the status of its text.
+fn dump_unit<R: Reader, A: Allocator + Copy, W: Write>(
+    alloc: A,
+    unit: &UnitHeader<R>,
+    debug_abbrev: &DebugAbbrev<R>,
+    out: &mut W,
+) -> Result<u8, Stop>
+    ensures { let declarations = ⟦<DebugAbbrev<R> as Section<R>>⟧.content debug_abbrev.now in
+        let text = unit_dump R.Offset.limit declarations (unit_view unit.now) in
+        WroteUntil (W.contents out.old) (W.contents out.new) text result }
+{
+    let offset = unit.offset().0.into_u64();
+    let type_number = number_of(unit.type_());
+    write_unit_line(out, offset, unit.version(), type_number)?;
+    match unit.abbreviations(alloc, debug_abbrev) {
+        Ok(abbreviations) => write_rows(alloc, unit, &abbreviations, out),
+        Err(Error::OutOfMemory) => Err(Stop::Memory),
+        Err(error) => {
+            write_error(out, error)?;
+            Ok(1)
+        }
+    }
+}
+
+// The number of a unit's type.
+fn number_of<O: ReaderOffset>(unit_type: UnitType<O>) -> u8
+    ensures { result ≡ number_of_type (map_type O.number unit_type) }
+{
+    match unit_type {
+        UnitType::Compilation => 1,
+        UnitType::TypeUnit { .. } => 2,
+        UnitType::Partial => 3,
+        UnitType::Skeleton(_) => 4,
+        UnitType::SplitCompilation(_) => 5,
+        UnitType::SplitType { .. } => 6,
+    }
+}

@@ -1,0 +1,98 @@
+//! The unit to which an address belongs.
+
+ghost use Rattle.std.specs.Prelude.{◌≡◌, OnOk, IfOk};
+ghost use Rattle.std.specs.Io.KnownBytes.{Appends};
+ghost use Rattle.std.specs.Option.{option_map};
+ghost use Rattle.gimli_base.specs.Offset.{answer_of};
+ghost use Rattle.gimli_walk.specs.UnitOfAddress.{set_holds, unit_holding, found_line, none_line, find_of};
+ghost use Rattle.gimli_walk.specs.Text.{WroteAll};
+
+use crate::lines::{WriteFault, write_error};
+use gimli_base::{LittleEndian, Reader, ReaderOffset, Result, Section};
+use gimli_lists::{ArangeHeader, DebugAranges, HasArangeSet};
+use gimli_units::DebugInfoOffset;
+use std::io::Write;
+use std::result::Result as StdResult;
+
+/// Where the unit begins in `.debug_info` to which an address belongs: that of the first set, in order, with a range that
+/// holds the address. Tuples whose end does not fit are passed over. No memory is asked for.
+///
+/// Refusals: those of the header of a set, where no set before it holds the address.
+pub fn unit_of_address<R: Reader>(
+    aranges: &DebugAranges<R>,
+    address: u64,
+) -> Result<Option<DebugInfoOffset<R::Offset>>>
+    ensures { let section = ⟦<DebugAranges<R> as Section<R>>⟧.content aranges.now in
+        answer_of (option_map (λ o. R.Offset.number o.0)) result
+        ≡ unit_holding R.Offset.limit address section }
+{
+    let mut headers = aranges.headers();
+    'sets: loop {
+        match headers.next() {
+            Ok(Some(header)) => {
+                if has_address(&header, address) {
+                    return Ok(Some(header.debug_info_offset()));
+                }
+            }
+            Ok(None) => return Ok(None),
+            Err(error) => return Err(error),
+        }
+    }
+}
+
+// Whether a set has a range that holds an address.
+fn has_address<R: Reader>(header: &ArangeHeader<R>, address: u64) -> bool
+    ensures { result ≡ set_holds address (⟦<ArangeHeader<R> as HasArangeSet>⟧.set header.now) }
+{
+    let mut entries = header.entries();
+    'entries: loop {
+        match entries.next() {
+            Ok(Some(entry)) => {
+                let range = entry.range();
+                if range.begin <= address && address < range.end {
+                    return true;
+                }
+            }
+            Ok(None) => return false,
+            Err(_) => {}
+        }
+    }
+}
+
+// Writes the line of a unit that was found.
+#[tactic(auto, unfolding(crate::specs::UnitOfAddress::found_line))]
+fn write_found<W: Write>(out: &mut W, offset: u64) -> StdResult<(), WriteFault>
+    ensures { OnOk result (Appends (W.contents out.old) (W.contents out.new) (found_line offset)) }
+{
+    write!(out, "unit {offset:x}\n").map_err(|_| WriteFault)
+}
+
+// Writes the line that no unit was found.
+fn write_none<W: Write>(out: &mut W) -> StdResult<(), WriteFault>
+    ensures { OnOk result (Appends (W.contents out.old) (W.contents out.new) none_line) }
+{
+    out.write_all(b"none\n").map_err(|_| WriteFault)
+}
+
+/// Writes where the unit begins to which an address belongs, and answers the exit status: 1 where a refusal was met, else 0.
+/// The section is little endian. No memory is asked for. Nothing is said of what is written where a write fails.
+pub fn find_text<W: Write>(address: u64, aranges: &[u8], out: &mut W) -> StdResult<u8, WriteFault>
+    ensures { let text = find_of address aranges.now in
+        IfOk result (λ status. WroteAll (W.contents out.old) (W.contents out.new) text status) }
+{
+    let debug_aranges = DebugAranges::new(aranges, LittleEndian);
+    match unit_of_address(&debug_aranges, address) {
+        Ok(Some(offset)) => {
+            write_found(out, offset.0.into_u64())?;
+            Ok(0)
+        }
+        Ok(None) => {
+            write_none(out)?;
+            Ok(0)
+        }
+        Err(error) => {
+            write_error(out, error)?;
+            Ok(1)
+        }
+    }
+}

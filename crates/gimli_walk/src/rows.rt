@@ -1,0 +1,89 @@
+//! The lines of a unit's rows.
+
+ghost use Rattle.std.specs.Prelude.{◌≡◌, IfOk, Err};
+ghost use Rattle.gimli_base.specs.Table.{found};
+ghost use Rattle.gimli_units.specs.Entry.{entry_at};
+ghost use Rattle.gimli_units.specs.Rows.{ahead_at};
+ghost use Rattle.gimli_units.specs.UnitHeld.{unit_view};
+ghost use Rattle.gimli_walk.specs.declared.lines.Stop.TheVariants.{Memory};
+ghost use Rattle.gimli_walk.specs.Lines.{Text};
+ghost use Rattle.gimli_walk.specs.Text.{Wrote, WroteAll, rows_text, unit_text};
+ghost use Rattle.gimli_walk.specs.Stops.{WroteUntil};
+
+use crate::lines::{Stop, WriteFault, write_end, write_error, write_error_at, write_row};
+use gimli_base::{Abbreviations, Error, Reader, ReaderOffset};
+use gimli_units::{DebuggingInformationEntry, EntriesRaw, UnitHeader};
+use std::alloc::Allocator;
+use std::io::Write;
+
+// Writes the lines of the rows that are left, and answers the status of their text.
+fn write_rows_left<R: Reader, A: Allocator + Copy, W: Write>(
+    alloc: A,
+    entries: &mut EntriesRaw<'_, R, A>,
+    out: &mut W,
+) -> Result<u8, Stop>
+    ensures { let read = entry_at R.Offset.limit entries.old.encoding (found entries.old.abbreviations) in
+        let text = rows_text (ahead_at read entries.old.end entries.old.depth entries.old.rest) in
+        WroteUntil (W.contents out.old) (W.contents out.new) text result }
+{
+    let mut entry = DebuggingInformationEntry::null(alloc);
+    'rows: while !entries.is_empty() {
+        match entries.read_entry(&mut entry) {
+            Ok(_) => {}
+            Err(Error::OutOfMemory) => {
+                return Err(Stop::Memory);
+            }
+            Err(error) => {
+                write_error_at(out, error, entry.offset().0.into_u64())?;
+                return Ok(1);
+            }
+        }
+        let offset = entry.offset().0.into_u64();
+        write_row(
+            out,
+            offset,
+            entry.depth(),
+            entry.tag().0,
+            entry.has_children(),
+        )?;
+    }
+    write_end(out)?;
+    Ok(0)
+}
+
+/// Writes the lines of a unit's rows, and answers the status of their text.
+pub(crate) fn write_rows<R: Reader, A: Allocator + Copy, W: Write>(
+    alloc: A,
+    unit: &UnitHeader<R>,
+    abbreviations: &Abbreviations<A>,
+    out: &mut W,
+) -> Result<u8, Stop>
+    ensures { let text = unit_text R.Offset.limit (unit_view unit.now) (found abbreviations.now) in
+        WroteUntil (W.contents out.old) (W.contents out.new) text result }
+{
+    match unit.entries_raw(abbreviations, None) {
+        Ok(mut entries) => write_rows_left(alloc, &mut entries, out),
+        Err(_) => {
+            write_end(out)?;
+            Ok(0)
+        }
+    }
+}
+
+/// Writes the line that tells that memory was refused, behind lines that were stopped for it, and answers their status.
+pub(crate) fn end_lines<W: Write>(written: Result<u8, Stop>, out: &mut W) -> Result<u8, WriteFault>
+    ensures lines { (start : _) (text : Text) → WroteUntil start (W.contents out.old) text written →
+        IfOk result (λ status. Wrote start (W.contents out.new) text status) }
+    ensures all { (written ≡ Err Memory → ⊥) →
+        (start : _) (text : Text) → WroteUntil start (W.contents out.old) text written →
+        IfOk result (λ status. WroteAll start (W.contents out.new) text status) }
+{
+    match written {
+        Ok(status) => Ok(status),
+        Err(Stop::Memory) => {
+            write_error(out, Error::OutOfMemory)?;
+            Ok(1)
+        }
+        Err(Stop::Write) => Err(WriteFault),
+    }
+}

@@ -1,0 +1,34 @@
+//! What takes the answers of a run, one by one.
+
+ghost use Rattle.std.specs.Prelude.{◌≡◌, Bool, List, [], ◌∷◌, ◌++◌, OnOk, Err, true, false};
+ghost use Rattle.gimli_walk.specs.declared.lines.Stop.TheVariants.{Memory, Write as WriteStop};
+ghost use Rattle.gimli_walk.specs.Cursors.{Answer};
+ghost use Rattle.gimli_walk.specs.CursorTurns.{answer_at};
+
+use crate::lines::Stop;
+use gimli_base::{Reader, Result as AnswerResult};
+use gimli_units::EntriesCursor;
+use std::alloc::Allocator;
+
+/// What takes the answers of a cursor's run.
+pub(crate) trait Sink<R: Reader, A: Allocator> {
+    // one was told these answers, and is then the other
+    ghost has_told: { Self → List Answer → Self → Type 0 };
+
+    // whether it writes
+    ghost writes: { Bool };
+
+    /// Takes what a step answered, behind which the cursor stands where it does. Where memory is refused nothing is taken.
+    fn tell(
+        &mut self,
+        outcome: AnswerResult<bool>,
+        cursor: &EntriesCursor<'_, R, A>,
+    ) -> Result<(), Stop>
+        ensures told { OnOk result (has_told self.old (answer_at outcome cursor.now ∷ []) self.new) }
+        ensures kept { result ≡ Err Memory → has_told self.old [] self.new }
+        ensures fault { result ≡ Err WriteStop → writes ≡ true };
+
+    ghost none: { (s : Self) → has_told s [] s };
+
+    ghost more: { (s t u : Self) (xs ys : List Answer) → has_told s xs t → has_told t ys u → has_told s (xs ++ ys) u };
+}
