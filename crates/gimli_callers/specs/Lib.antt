@@ -1,0 +1,5 @@
+pub mod Children
+pub mod Enters
+pub mod Modes
+pub mod Second
+pub mod Subtree
