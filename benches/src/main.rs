@@ -34,7 +34,7 @@ const FIRST_OF_ENTRIES: u64 = 8;
 fn is_built(task: usize) -> bool {
     match task {
         0..=7 => true,
-        8..=10 => cfg!(feature = "entries"),
+        8..=10 | 19 => cfg!(feature = "entries"),
         11..=14 => cfg!(feature = "cursors"),
         17 => cfg!(feature = "locations"),
         18 => cfg!(feature = "trees"),
@@ -69,7 +69,7 @@ fn main() {
         .collect();
     let (numbers, words) = (inputs::leb128(1 << 21), inputs::words(1 << 21));
     // in the order of their numbers
-    let tasks: [(&str, &[u8], &[u8]); 19] = [
+    let tasks: [(&str, &[u8], &[u8]); 20] = [
         ("LEB128, sum", &numbers, &[]),
         ("words of 2", &words, &[]),
         ("words of 4", &words, &[]),
@@ -89,6 +89,7 @@ fn main() {
         ("aranges", &aranges, &[]),
         ("location lists", &locations, &named_locations),
         ("trees", &info, &abbrev),
+        ("check", &info, &abbrev),
     ];
     let run = |side: usize, task: u64, order: u64| {
         let (_, first, second) = tasks[task as usize];

@@ -193,6 +193,8 @@ fn task_of<E: Endianity>(task: u64, endian: E, first: &[u8], second: &[u8]) -> u
         9 => entries(Work::Attributes, endian, first, second),
         #[cfg(feature = "entries")]
         10 => entries(Work::Pass, endian, first, second),
+        #[cfg(feature = "entries")]
+        19 => entries(Work::Alone, endian, first, second),
         #[cfg(feature = "cursors")]
         11 => walk(Walk::Entries, endian, first, second),
         #[cfg(feature = "cursors")]

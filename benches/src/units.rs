@@ -9,6 +9,8 @@ pub enum Work {
     Entry,
     Attributes,
     Pass,
+    // It is read as a whole, and nothing is made of it: the peer has no check of references.
+    Alone,
 }
 
 // An entry that is used again: the peer has none of its own.
@@ -107,6 +109,19 @@ fn with_entries<R: Reader>(sum: u64, mut entries: EntriesRaw<'_, '_, R>) -> u64 
     all
 }
 
+// The sum of a unit without a false reference.
+#[inline(never)]
+fn alone<R: Reader>(sum: u64, mut entries: EntriesRaw<'_, '_, R>) -> u64 {
+    let mut entry = Entry::null();
+    while !entries.is_empty() {
+        if let Err(error) = read_entry(&mut entries, &mut entry) {
+            return refused(sum, error);
+        }
+        std::hint::black_box(&entry);
+    }
+    mixed(sum, 0)
+}
+
 #[inline(always)]
 fn next_attributes<R: Reader>(
     sum: u64,
@@ -175,13 +190,14 @@ fn with_unit<R: Reader>(
         return sum;
     };
     // the library refuses to read a unit without a byte of entries
-    if entries.is_empty() {
+    if entries.is_empty() && !matches!(work, Work::Alone) {
         return sum;
     }
     match work {
         Work::Entry => with_entries(sum, entries),
         Work::Attributes => with_attributes(sum, entries),
         Work::Pass => with_passed(sum, entries),
+        Work::Alone => alone(sum, entries),
     }
 }
 

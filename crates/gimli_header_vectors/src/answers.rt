@@ -7,6 +7,7 @@ use crate::encodings::{write_bases, write_format};
 use crate::offsets::{write_offset, write_two_offsets};
 use crate::places::write_place;
 use crate::reads::{write_reads, write_sizes};
+use crate::refusals::write_error;
 use crate::texts::write_text;
 use crate::units::{write_info, write_info_at, write_types};
 use gimli_base::Reader;
@@ -48,6 +49,7 @@ fn write_numbers<R: Reader, W: Write>(out: &mut W, case: &Case) -> io::Result<()
         "format" => write_format(out, case),
         "bases" => write_bases::<R, W>(out, case),
         "code" => write_code(out, case),
+        "refusal" => write_error(out, case),
         _ => writeln!(out, "no such call"),
     }
 }

@@ -10,6 +10,7 @@ mod offsets;
 mod parts;
 mod places;
 mod reads;
+mod refusals;
 mod sweeps;
 mod texts;
 mod units;

@@ -2,6 +2,7 @@
 //! for each task and reader.
 #![tactic(auto)]
 
+mod checks;
 mod cursors;
 mod lists;
 mod numbers;
@@ -27,7 +28,7 @@ use units::Work;
 /// entries of `.debug_info`, with `.debug_abbrev` in `second`: read as a whole, their attributes read into a list, and
 /// their attributes passed; 11 to 14, a checksum of the entries that a cursor comes to, as `Walk` lists its ways; 15, a
 /// checksum of the range lists that `second` names; 16, a checksum of the ranges of addresses; 17, of the location lists that
-/// `second` names; 18, of the entries of whole trees.
+/// `second` names; 18, of the entries of whole trees; 19, of the first false reference of each unit.
 #[inline(never)]
 fn task_of<R: Reader>(
     alloc: Global,
@@ -56,6 +57,7 @@ fn task_of<R: Reader>(
         16 => lists::checksum_of_addresses(first),
         17 => lists::checksum(Kind::Locations, first, second, offsets),
         18 => cursors::checksum(alloc, Walk::Tree, first, second),
+        19 => checks::checksum(alloc, first, second),
         _ => 0,
     }
 }
