@@ -10,5 +10,6 @@ pub mod Splits
 pub mod Jumps
 mod Memory
 pub mod TreeSteps
+mod PassPlaces
 mod SkipTurns
 pub mod WalkerSteps

@@ -8,15 +8,18 @@ use Rattle.gimli_base.specs.declared.error.Error.TheVariants.{UnknownForm}
 use Rattle.gimli_base.specs.Abbreviations.{Specification}
 use Rattle.gimli_base.specs.View.{View, cut}
 use Rattle.gimli_base.specs.Reading.{Reads, read, ◌>>=◌, eof, skip_at}
-use Rattle.gimli_base.specs.Later.{cut-cut}
+use Rattle.gimli_base.specs.Later.{IsLater, IsLater-none, IsLater-trans, cut-cut, skip_at-later}
 use Rattle.gimli_base.specs.Passed.{skip_at-none}
 use Rattle.gimli_base.specs.Width.{form_size}
 use Rattle.gimli_base.specs.Offset.{sum_of}
-use Rattle.std.specs.Prelude.{nat_lt}
+use Rattle.std.specs.Prelude.{nat_lt, IfErr}
 use Rattle.gimli_units.specs.Layout.{Layout, byte, number, section_or, address, uleb, sleb, offset, word_offset, reference, offset_leb, block, block_leb, text, nothing, constant, layout_of}
 use Rattle.gimli_units.specs.Form.{form_at, chain}
 use Rattle.gimli_units.specs.WidthLaw.{form_size-known}
-use Rattle.gimli_units.specs.Passing.{pass, pass_at, pass_direct, known_size, size_of, pass_all, somewhere, without_place}
+use Rattle.gimli_units.specs.Passing.{pass, pass_at, pass_direct, known_size, size_of, pass_all, somewhere, without_place, NamesPlaceOf}
+use Rattle.gimli_units.specs.EntryReads.{none_later}
+use Rattle.gimli_units.specs.PassReads.{pass_at-later}
+use Rattle.gimli_units.proofs.PassPlaces.{place_later, pass_at_refuses, skip_at_refuses}
 
 abbrev Units : Type 0
 Units = Reads (Unit {0})
@@ -109,6 +112,7 @@ bind_end (Err x) = refl
 -- where the loop stands: i ss are done, but for the last `pending` bytes of them, which are still to be passed
 pub record Stands (limit : ℕ) (e : Encoding) (ss : List Specification) (all v : View) (i pending : ℕ) : Type 0 where
   pub same : without_place (pass_all limit e ss all) ≡ without_place (skip_at pending v >>= λ p. pass_all limit e (drop i ss) p.1)
+  pub later : IsLater 0 all v
 
 module _ (limit : ℕ) (e : Encoding) (ss : List Specification) (all v : View) (i pending : ℕ) (s : Stands limit e ss all v i pending) where
   next : (d : Specification) → i < length ss → d ≡ get_or ss i d → (u : View) → pass_all limit e (drop i ss) u ≡ (pass_at limit e d.form.0 u >>= λ p. pass_all limit e (drop (i + 1) ss) p.1)
@@ -122,7 +126,25 @@ module _ (limit : ℕ) (e : Encoding) (ss : List Specification) (all v : View) (
         (λ u. next d lt item u ∙ ap (λ r. r >>= λ q. pass_all limit e (drop (i + 1) ss) q.1) (known_passes limit n d.form.0 e u (known ∙ form_size-known e d.form.0))))
         ∙ skip_sum pending n v (λ u. pass_all limit e (drop (i + 1) ss) u)
         ∙ ap (λ m. without_place (skip_at m v >>= λ q. pass_all limit e (drop (i + 1) ss) q.1)) (sym is);
+    later = s.later;
   }
+
+  skipped : (x : Unit {0}) (u : View) → Ok (x, u) ≡ skip_at pending v → IsLater 0 v u
+  skipped x u h = none_later pending v (skip_at pending v) (skip_at-later pending v) x u h
+
+  -- where one is refused, the place lies in the bytes from the first on
+  pub flush_place : (r : Error) → Err r ≡ skip_at pending v → NamesPlaceOf all r
+  flush_place r h = place_later all v r s.later (skip_at_refuses pending v r h)
+
+  pub value_place : (form : ℕ) (r : Error) (u : View) (x : Unit {0}) → Ok (x, u) ≡ skip_at pending v
+      → Err r ≡ pass_at limit e form u → NamesPlaceOf all r
+  value_place form r u x h k =
+      place_later all v r s.later (place_later v u r (skipped x u h) (pass_at_refuses limit e form u r k))
+
+  pub end_place : (r : Result (Unit {0}) Error) (w : View) → read r w ≡ skip_at pending v
+      → IfErr r (NamesPlaceOf all)
+  end_place (Ok x) w h = tt
+  end_place (Err r) w h = flush_place r h
 
   pub turn_flush_refused : (r : Error) → Err r ≡ skip_at pending v → Err (somewhere r) ≡ without_place (pass_all limit e ss all)
   turn_flush_refused r h = sym (s.same ∙ rw (← h) refl)
@@ -131,7 +153,12 @@ module _ (limit : ℕ) (e : Encoding) (ss : List Specification) (all v : View) (
   turn_refused d r u x lt item h k = sym (s.same ∙ rw (← h) (ap without_place (next d lt item u) ∙ rw (← k) refl))
 
   pub turn_passed : (d : Specification) (u w : View) (x y : Unit {0}) → i < length ss → d ≡ get_or ss i d → Ok (x, u) ≡ skip_at pending v → Ok (y, w) ≡ pass_at limit e d.form.0 u → (m : ℕ) → m ≡ 0 → Stands limit e ss all w (i + 1) m
-  turn_passed d u w x y lt item h k m z = record { same = s.same ∙ rw (← h) (ap without_place (next d lt item u) ∙ rw (← k, z, skip_at-none w) refl) }
+  turn_passed d u w x y lt item h k m z = record {
+    same = s.same ∙ rw (← h) (ap without_place (next d lt item u) ∙ rw (← k, z, skip_at-none w) refl);
+    later =
+        let passed : IsLater 0 v w = IsLater-trans 0 0 v u w (skipped x u h) (pass_at-later limit e d.form.0 u y w k) in
+        IsLater-trans 0 0 all v w s.later passed;
+  }
 
   pub turn_end : (r : Result (Unit {0}) Error) (w : View) → length ss ≤ i → read r w ≡ skip_at pending v → without_place (read r w) ≡ without_place (pass_all limit e ss all)
   unfolding pass_all
@@ -140,7 +167,7 @@ module _ (limit : ℕ) (e : Encoding) (ss : List Specification) (all v : View) (
       sym (s.same ∙ none ∙ ap without_place (bind_end (skip_at pending v)) ∙ ap without_place (sym h))
 
 pub begin : (limit : ℕ) (e : Encoding) (ss : List Specification) (v : View) (m : ℕ) → m ≡ 0 → Stands limit e ss v v 0 m
-begin limit e ss v m z = record { same = rw (z, skip_at-none v) refl }
+begin limit e ss v m z = record { same = rw (z, skip_at-none v) refl; later = IsLater-none v }
 
 sum_by : (t : Bool) (a b s : ℕ) → ◌≡◌ {A = Option ℕ} (Some s) (if t then Some (a + b) else None) → s ≡ a + b
 sum_by true a b s h = cc

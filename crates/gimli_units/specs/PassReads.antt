@@ -51,7 +51,7 @@ pass_direct-later limit e form v = cases (layout_of form)
     cases (Some l) = pass-later limit e l v
     cases None = err_leaves_later {A = Unit {0}} 0 v _
 
-pass_at-later : (limit : ℕ) (e : Encoding) (form : ℕ) (v : View) → LeavesLater 0 v (pass_at limit e form v)
+pub pass_at-later : (limit : ℕ) (e : Encoding) (form : ℕ) (v : View) → LeavesLater 0 v (pass_at limit e form v)
 unfolding pass_at
 pass_at-later limit e form v = then_leaves_later 0 0 v (form_at form v) _ (form_at-later form v) (λ p. pass_direct-later limit e p.0 p.1)
 

@@ -1,5 +1,5 @@
 -- Passing values without reading them (DWARF 5, 7.5.5 and 7.5.6).
-use Rattle.std.specs.Prelude.{ℕ, ◌==◌, if◌then◌else◌, List, [], ◌∷◌, Option, Some, None, Ok, Err}
+use Rattle.std.specs.Prelude.{◌≡◌, ℕ, ◌+◌, ◌≤◌, ◌==◌, if◌then◌else◌, length, List, [], ◌∷◌, Option, Some, None, Ok, Err}
 use Rattle.gimli_base.specs.declared.common.Encoding.{Encoding}
 use Rattle.gimli_base.specs.declared.error.Error.{Error}
 use Rattle.gimli_base.specs.declared.error.Error.TheVariants.{UnknownForm, UnexpectedEof}
@@ -75,3 +75,8 @@ somewhere e = e
 abbrev pub without_place : Reads (Unit {0}) → Reads (Unit {0})
 without_place (Ok p) = Ok p
 without_place (Err e) = Err (somewhere e)
+
+-- a refusal that names a place names one from the first of a view to its end
+abbrev pub NamesPlaceOf : View → Error → Type 0
+NamesPlaceOf v e = (n : ℕ) → e ≡ UnexpectedEof (record { 0 = n })
+    → (v.place ≤ n) × (n ≤ v.place + length v.bytes)

@@ -1,6 +1,6 @@
 //! Entries that are read one behind the other.
 
-ghost use Rattle.std.specs.Prelude.{◌≡◌, ◌+◌, ◌-◌, ◌<◌, ◌≤◌, ◌^◌, ◌==◌, ◌↔◌, pos, ◌-ℤ◌, not, length, map, IsTrue, IsOk, IfOk, OnOk, OnErr, Option, [], true, false, unsigned_abs, Some};
+ghost use Rattle.std.specs.Prelude.{◌≡◌, ◌+◌, ◌-◌, ◌<◌, ◌≤◌, ◌^◌, ◌==◌, ◌↔◌, pos, ◌-ℤ◌, not, length, map, IsTrue, IsOk, IfOk, IfErr, OnOk, OnErr, Option, [], true, false, unsigned_abs, Some};
 ghost use Rattle.std.specs.Option.{option_copied};
 ghost use Rattle.gimli_base.specs.Offset.{answer_of};
 ghost use Rattle.gimli_base.specs.View.{View, ended};
@@ -9,7 +9,7 @@ ghost use Rattle.gimli_base.specs.Passed.{PassesAs};
 ghost use Rattle.gimli_base.specs.Table.{Table, found};
 ghost use Rattle.gimli_units.specs.Value.{map_attribute};
 ghost use Rattle.gimli_units.specs.Entry.{attribute_at, attributes_at, abbreviation_at, entry_at, entry_of, null_entry, is_null, takes_memory};
-ghost use Rattle.gimli_units.specs.Passing.{pass_all, without_place};
+ghost use Rattle.gimli_units.specs.Passing.{pass_all, without_place, NamesPlaceOf};
 ghost use Rattle.gimli_units.specs.RawPlace.{RawPlace, next_offset_of, below_flag, depth_read, depth_after};
 ghost use Rattle.gimli_units.specs.Honest.{within};
 ghost use Rattle.gimli_units.specs.CursorRead.{stands_at, stands_if};
@@ -280,6 +280,7 @@ impl<'abbrev, R: Reader, A: Allocator> EntriesRaw<'abbrev, R, A> {
     #[inline(always)]
     pub fn skip_attributes(&mut self, specifications: &[AttributeSpecification]) -> Result<()>
         ensures value { without_place (read result self.new.rest) ≡ without_place (pass_all R.Offset.limit self.old.encoding specifications.now self.old.rest) }
+        ensures place { IfErr result (NamesPlaceOf self.old.rest) }
         ensures as_read { PassesAs (read result self.new.rest) (attributes_at R.Offset.limit self.old.encoding specifications.now self.old.rest) }
         ensures same { self.new ≡ record self.old { rest = self.new.rest } }
         ensures kept { OnErr result (self.new ≡ self.old) }

@@ -1,8 +1,8 @@
 //! Passing attributes without reading them.
 
-ghost use Rattle.std.specs.Prelude.{◌≡◌};
+ghost use Rattle.std.specs.Prelude.{◌≡◌, IfErr};
 ghost use Rattle.gimli_base.specs.Reading.{read};
-ghost use Rattle.gimli_units.specs.Passing.{pass_direct, pass_at, pass_all, without_place};
+ghost use Rattle.gimli_units.specs.Passing.{pass_direct, pass_at, pass_all, without_place, NamesPlaceOf};
 
 use crate::form::{direct_form, uleb128_offset};
 use gimli_base::{
@@ -114,7 +114,8 @@ pub(crate) fn skip_all<R: Reader>(
     encoding: Encoding,
     specifications: &[AttributeSpecification],
 ) -> Result<()>
-    ensures { without_place (read result (R.view input.new)) ≡ without_place (pass_all R.Offset.limit encoding specifications.now (R.view input.old)) }
+    ensures value { without_place (read result (R.view input.new)) ≡ without_place (pass_all R.Offset.limit encoding specifications.now (R.view input.old)) }
+    ensures place { IfErr result (NamesPlaceOf (R.view input.old)) }
 {
     let mut pending = R::Offset::from_u8(0);
     'specifications: for specification in specifications {

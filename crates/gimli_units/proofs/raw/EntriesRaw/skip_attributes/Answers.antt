@@ -13,7 +13,7 @@ returns-in_err-skip_all-clause-as_read g c =
 
 pub invariant_of-self : goal.invariant_of-self
 invariant_of-self g c =
-    let shorter = passed-shorter _ _ _ _ _ c.in_ok-skip_all.ensures in
+    let shorter = passed-shorter _ _ _ _ _ c.in_ok-skip_all.ensures.value in
     let same = ap (λ (v : View). length v.bytes) c.copy-rest.ensures in
     (omega (arith, shorter, same), omega (arith, shorter, same))
 
