@@ -15,7 +15,7 @@ use Rattle.gimli_base.specs.Later.{cut-cut}
 use Rattle.gimli_units.specs.Unit.{UnitView, whole_length}
 use Rattle.gimli_headers.specs.Header.{unit_at}
 use Rattle.gimli_headers.specs.UnitReads.{unit_at-read, unit_at-shorter}
-use Rattle.gimli_headers.specs.Units.{UnitsPlace, Units, behind, no_units, then_unit, units_within, units_ahead, units_of, answers, next_unit, answered, transposed, unit_alone, header_at, Tile, EndsAt, Tiles, IsHeaderAt}
+use Rattle.gimli_headers.specs.Units.{UnitsPlace, Units, behind, no_units, then_unit, units_within, units_ahead, units_of, answers, next_unit, answered, transposed, IsNextUnit, unit_alone, header_at, Tile, EndsAt, Tiles, IsHeaderAt}
 
 module _ (limit : ℕ) (section : SectionId) where
   within_ended : (n : ℕ) (p : UnitsPlace) → length p.rest.bytes ≡ 0 → units_within limit section n p ≡ no_units None
@@ -134,12 +134,12 @@ module _ (limit : ℕ) (section : SectionId) where
 
   -- an item of the iterator, whose units stand for f of them, is the first of the answers ahead
   pub first_answer : {A : Type 0} → (f : A → UnitView) (p : UnitsPlace) (r : Option (Result A Error)) (q : UnitsPlace)
-      → ◌≡◌ {A = Next} (answer_of (option_map f) (transposed r), q) (next_unit limit section p)
+      → IsNextUnit limit section p (answer_of (option_map f) (transposed r)) q
       → MatchOption r (answers_ahead p ≡ []) (λ x. answers_ahead p ≡ answer_of f x ∷ answers_ahead q)
-  first_answer f p None q h = ap answers (ahead_after p q (Ok None) h)
-  first_answer f p (Some (Ok u)) q h = ap answers (ahead_after p q (Ok (Some (f u))) h)
+  first_answer f p None q h = ap answers h.ahead
+  first_answer f p (Some (Ok u)) q h = ap answers h.ahead
   first_answer f p (Some (Err e)) q h =
-      ap answers (ahead_after p q (Err e) h) ∙ ap (λ us. Err e ∷ answers us) (sym (ahead_ended q (refused_ended p q e h)))
+      ap answers h.ahead ∙ ap (λ us. Err e ∷ answers us) (sym (ahead_ended q (refused_ended p q e h.is)))
 
   module _ (v : View) where
     -- the place at an offset of the section

@@ -1,10 +1,10 @@
 -- The units of a section, one behind the other (DWARF 5, 7.5.1).
-use Rattle.std.specs.Prelude.{◌≡◌, ℕ, zero, suc, ◌+◌, ◌<◌, ◌==◌, if◌then◌else◌, List, [], ◌∷◌, ◌++◌, map, length, Option, Some, None, Result, Ok, Err}
+use Rattle.std.specs.Prelude.{◌≡◌, ℕ, zero, suc, ◌+◌, ◌<◌, ◌==◌, if◌then◌else◌, List, [], ◌∷◌, ◌++◌, map, length, Option, Some, None, Result, Ok, Err, IfOk, IfSome}
 use Rattle.gimli_base.specs.declared.common.SectionId.{SectionId}
 use Rattle.gimli_base.specs.declared.error.Error.{Error}
 use Rattle.gimli_base.specs.View.{View, cut, ended}
 use Rattle.gimli_base.specs.Reading.{Reads, ◌>>=◌, skip_at}
-use Rattle.gimli_units.specs.Unit.{UnitView, whole_length}
+use Rattle.gimli_units.specs.Unit.{UnitView, whole_length, header_size, size_of_header}
 use Rattle.gimli_headers.specs.Header.{unit_at}
 
 -- where the reading of units stands: what is left of the section, and the offset at which it begins
@@ -72,6 +72,13 @@ abbrev pub transposed : {A : Type 0} → Option (Result A Error) → Result (Opt
 transposed None = Ok None
 transposed (Some (Ok a)) = Ok (Some a)
 transposed (Some (Err e)) = Err e
+
+-- What an iterator answers at a place, and the place that it leaves: the next unit. The units ahead are that one, whose header has
+-- the size of its kind, and those ahead of the place that is left.
+pub record IsNextUnit (limit : ℕ) (section : SectionId) (p : UnitsPlace) (a : Result (Option UnitView) Error) (q : UnitsPlace) : Type 0 where
+  pub is : (a, q) ≡ next_unit limit section p
+  pub ahead : units_ahead limit section p ≡ answered a (units_ahead limit section q)
+  pub size : IfOk a (λ o. IfSome o (λ u. size_of_header u ≡ header_size u))
 
 -- a unit, without what is left behind it
 abbrev pub unit_alone : Reads UnitView → Result UnitView Error

@@ -9,7 +9,7 @@ ghost use Rattle.gimli_base.specs.declared.common.SectionId.TheVariants.{DebugIn
 ghost use Rattle.gimli_base.specs.Offset.{answer_of};
 ghost use Rattle.gimli_base.specs.View.{View};
 ghost use Rattle.gimli_units.specs.Unit.{header_size, size_of_header};
-ghost use Rattle.gimli_headers.specs.Units.{UnitsPlace, next_unit, header_at, transposed, units_ahead, units_of, answered, Tiles, IsHeaderAt};
+ghost use Rattle.gimli_headers.specs.Units.{UnitsPlace, next_unit, header_at, transposed, IsNextUnit, units_ahead, units_of, answered, Tiles, IsHeaderAt};
 ghost use Rattle.gimli_units.specs.UnitHeld.{unit_view};
 
 use crate::parse::parse_unit_header;
@@ -154,7 +154,7 @@ impl<R: Reader> DebugInfoUnitHeadersIter<R> {
 impl<R: Reader> Iterator for DebugInfoUnitHeadersIter<R> {
     type Item = Result<UnitHeader<R>>;
 
-    ghost next_gives = { λ s r t. (answer_of (option_map unit_view) (transposed r), t) ≡ next_unit R.Offset.limit InfoSection s };
+    ghost next_gives = { λ s r t. IsNextUnit R.Offset.limit InfoSection s (answer_of (option_map unit_view) (transposed r)) t };
 
     ghost remaining = { λ s. at_most (length s.rest.bytes) };
 

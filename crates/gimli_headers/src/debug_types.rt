@@ -9,7 +9,7 @@ ghost use Rattle.gimli_base.specs.declared.common.SectionId.TheVariants.{DebugTy
 ghost use Rattle.gimli_base.specs.Offset.{answer_of};
 ghost use Rattle.gimli_base.specs.View.{View};
 ghost use Rattle.gimli_units.specs.Unit.{header_size, size_of_header};
-ghost use Rattle.gimli_headers.specs.Units.{UnitsPlace, next_unit, transposed, units_ahead, units_of, answered, Tiles, IsHeaderAt};
+ghost use Rattle.gimli_headers.specs.Units.{UnitsPlace, next_unit, transposed, IsNextUnit, units_ahead, units_of, answered, Tiles, IsHeaderAt};
 ghost use Rattle.gimli_units.specs.UnitHeld.{unit_view};
 
 use crate::units::next_header;
@@ -136,7 +136,7 @@ impl<R: Reader> DebugTypesUnitHeadersIter<R> {
 impl<R: Reader> Iterator for DebugTypesUnitHeadersIter<R> {
     type Item = Result<UnitHeader<R>>;
 
-    ghost next_gives = { λ s r t. (answer_of (option_map unit_view) (transposed r), t) ≡ next_unit R.Offset.limit TypesSection s };
+    ghost next_gives = { λ s r t. IsNextUnit R.Offset.limit TypesSection s (answer_of (option_map unit_view) (transposed r)) t };
 
     ghost remaining = { λ s. at_most (length s.rest.bytes) };
 
