@@ -1,7 +1,7 @@
 -- A cursor that has gone on in its unit: what it then reads stands where its start would find it.
 use Rattle.std.proofs.Common.{◌≡◌, ℕ, ◌+◌, ◌-◌, ◌<◌, ◌≤◌, ℤ, Bool, true, false, length, Option, Some, None, Result, Ok, Err, refl, sym, ap, ◌∙◌, arith, length-drop, add-zero}
 use Rattle.std.proofs.lemmas.List.{drop_all}
-use Rattle.std.specs.Prelude.{nat_le, int_le, ◌&&◌, if◌then◌else◌}
+use Rattle.std.specs.Prelude.{nat_le, int_le, ◌&&◌, if◌then◌else◌, OnErr}
 use Rattle.std.proofs.lemmas.Bool.{leb-true}
 use Rattle.gimli_base.specs.declared.error.Error.{Error}
 use Rattle.gimli_base.specs.Both.{both}
@@ -15,7 +15,8 @@ use Rattle.gimli_units.specs.EntryReads.{entry_at-later, entry_at-shorter}
 use Rattle.gimli_units.specs.RawPlace.{RawPlace, next_offset_of}
 use Rattle.gimli_units.specs.Kind.{kind_of}
 use Rattle.gimli_units.specs.Honest.{target, within, usable}
-use Rattle.gimli_units.specs.CursorMoves.{CursorView, next_of, last_row, followed_to, view_from, what_at, takes_memory_at, IsSameUnit, IsTrueEntry, IsRefused, IsFurther, AreFewReads, IsReadOnce, IsSound}
+use Rattle.gimli_units.specs.Rows.{ahead_at}
+use Rattle.gimli_units.specs.CursorMoves.{CursorView, next_of, rows_of, rows_from, reads_ahead, last_row, followed_to, view_from, what_at, takes_memory_at, IsSameUnit, IsTrueEntry, IsRefused, IsFurther, AreFewReads, IsReadOnce, IsReadUpTo, IsSound}
 use Rattle.gimli_units.specs.CursorRead.{stands_at, stands_if, HasRead, an_entry, the_end, a_refusal, following}
 use Rattle.gimli_units.proofs.CursorSteps.{rows_entry, rows_refusal, rows_over, sound_read}
 
@@ -218,6 +219,24 @@ pub read_once : (limit : ℕ) (here : CursorView) (outcome : Result Bool Error) 
 read_once limit here outcome new (an_entry e w some reads is same) = rw (is, same, rows_entry limit here e w some reads) (omega arith)
 read_once limit here outcome new (the_end none is same) = rw (is, same) refl
 read_once limit here outcome new (a_refusal x some is same why memory) = rw (is, same) (λ fine. rw (rows_refusal limit here.raw x some (why fine), rows_over limit here) (omega arith))
+
+-- the rows from where a cursor stands are those ahead of it
+same_rows : (limit : ℕ) (start here : CursorView) → Onward start here
+    → rows_from limit start.raw (next_offset_of here.raw) here.raw.depth ≡ rows_of limit here.raw
+same_rows limit start here o =
+    let here_view = sym (same_view start here (next_offset_of here.raw) o (omega arith)) ∙ view_here here.raw in
+    ap (λ v. ahead_at (next_of limit start.raw) start.raw.end here.raw.depth v) here_view
+    ∙ rw (o.unit.encoding, o.unit.abbreviations, o.unit.end) refl
+
+-- what was passed was read once, and so was what was refused
+pub read_up_to : (limit : ℕ) (start here : CursorView) (outcome : Result Bool Error) (new : CursorView)
+    → Onward start here → IsReadOnce limit start here → HasRead limit here outcome new
+    → OnErr outcome (IsReadUpTo limit start new)
+read_up_to limit start here outcome new o once (an_entry e w some reads is same) = rw is tt
+read_up_to limit start here outcome new o once (the_end none is same) = rw is tt
+read_up_to limit start here outcome new o once (a_refusal x some is same why memory) =
+    let rows = ap reads_ahead (same_rows limit start here o) in
+    rw (is, same) (omega (arith, once, rows))
 
 -- what follows from a fact follows unless memory was refused
 pub unless_then : {A P Q : Type 0} → (r : Result A Error) → UnlessMemory r P → (P → Q) → UnlessMemory r Q

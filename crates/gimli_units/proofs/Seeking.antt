@@ -1,6 +1,6 @@
 -- Turns of the search for a depth: each entry that is passed, or left for where its reference leads, leaves what is sought.
-use Rattle.std.proofs.Common.{◌≡◌, ℕ, ◌+◌, ◌-◌, ◌<◌, ℤ, pos, ◌+ℤ◌, ◌-ℤ◌, Bool, true, false, length, Option, Some, None, Result, Ok, Err, refl, sym, ap, ◌∙◌, arith, inl, inr, ◌==◌, length-drop}
-use Rattle.std.specs.Prelude.{not, int_le, ◌≤ℤ◌, if◌then◌else◌}
+use Rattle.std.proofs.Common.{◌≡◌, ℕ, zero, suc, ◌+◌, ◌-◌, ◌<◌, ℤ, pos, ◌+ℤ◌, ◌-ℤ◌, Bool, true, false, length, Option, Some, None, Result, Ok, Err, refl, sym, ap, ◌∙◌, arith, inl, inr, ◌==◌, length-drop}
+use Rattle.std.specs.Prelude.{not, int_le, ◌≤ℤ◌, if◌then◌else◌, OnErr}
 use Rattle.std.specs.Ordering.{int_eq}
 use Rattle.std.proofs.lemmas.Int.{ints}
 use Rattle.std.proofs.lemmas.Bool.{not-true, not-false, ne_eqb}
@@ -15,12 +15,12 @@ use Rattle.gimli_units.specs.RawPlace.{next_offset_of, below_flag, depth_after}
 use Rattle.gimli_units.specs.Kind.{null, leaf, parent, sibling_of}
 use Rattle.gimli_units.specs.Honest.{target, within, usable, AreHonestUntil}
 use Rattle.gimli_units.specs.CursorPlace.{seek, first_of_rows, has_depth}
-use Rattle.gimli_units.specs.CursorMoves.{CursorView, next_of, rows_of, rows_from, place_of, last_row, followed_to, view_from, IsHonestFor, IsPlaceAhead, IsReadOnce, reads_ahead, one_if_left, IsSound, IsTrueEntry, IsRefused}
-use Rattle.gimli_units.specs.CursorRead.{stands_at, stands_if, after_entry, after_refusal, HasRead, an_entry, the_end, a_refusal, following, HasSought}
+use Rattle.gimli_units.specs.CursorMoves.{CursorView, next_of, rows_of, rows_from, place_of, last_row, followed_to, view_from, IsHonestFor, IsPlaceAhead, IsReadOnce, IsReadUpTo, reads_ahead, one_if_left, IsSound, IsTrueEntry, IsRefused}
+use Rattle.gimli_units.specs.CursorRead.{stands_at, stands_if, after_entry, after_refusal, HasRead, an_entry, the_end, a_refusal, following, at_depth, at_end, at_refusal, Searches, HasSought}
 use Rattle.gimli_units.proofs.CursorSteps.{rows_entry, rows_end, rows_refusal, rows_over}
 use Rattle.gimli_units.proofs.Flagless.{entry_at-flagless}
 use Rattle.gimli_units.proofs.Splits.{differs, equal, at_least, jump}
-use Rattle.gimli_units.proofs.Onward.{Onward, onward_start, onward_follow, onward_read, read_once, true_entry, true_refusal, followed_bounds, unless_then}
+use Rattle.gimli_units.proofs.Onward.{Onward, onward_start, onward_follow, onward_read, read_once, read_up_to, true_entry, true_refusal, followed_bounds, unless_then}
 use Rattle.gimli_units.proofs.Walking.{place_on, refused_place, read_shorter}
 
 -- where a reference is followed, the entry has children: the depth behind it is one more
@@ -91,6 +91,11 @@ module _ (limit : ℕ) (depth : ℤ) (offset : ℕ) where
     pub honest : here.follows ≡ true → IsHonestFor limit depth here
     pub places : (o : ℕ) (x : ℤ) → IsPlaceAhead limit (has_depth depth) here.raw o x → IsPlaceAhead limit (has_depth depth) start.raw o x
 
+  -- a search that goes on from `here` is one from `start`
+  abbrev Leads : CursorView → CursorView → Type 0
+  Leads start here = (n : ℕ) (outcome : Result Bool Error) (new : CursorView) → Searches limit n depth offset here outcome new
+      → (m : ℕ) × Searches limit m depth offset start outcome new
+
   -- a search that began at `start` and has found nothing yet
   pub record Seeking (start here : CursorView) : Type 0 where
     pub onward : Onward start here
@@ -98,6 +103,7 @@ module _ (limit : ℕ) (depth : ℤ) (offset : ℕ) where
     pub inside : depth ≤ℤ start.raw.depth → depth ≤ℤ here.raw.depth
     pub plain : start.follows ≡ false → IsReadOnce limit start here
     pub honestly : (start.follows ≡ true → IsHonestFor limit depth start) → Honestly start here
+    pub steps : Leads start here
 
   pub seeking_start : (c : CursorView) → IsSound c → Seeking c c
   seeking_start c s = record {
@@ -106,6 +112,7 @@ module _ (limit : ℕ) (depth : ℤ) (offset : ℕ) where
     inside = λ low. low;
     plain = λ f. refl;
     honestly = λ h. record { same = refl; honest = h; places = λ o x p. p };
+    steps = λ n outcome new s. (n, s);
   }
 
   -- the depth is never above the one that is sought
@@ -164,6 +171,14 @@ module _ (limit : ℕ) (depth : ℤ) (offset : ℕ) where
       let mid : IsReadOnce limit here (following depth here) = ap (λ (c : CursorView). c.reads + reads_ahead (rows_of limit c.raw)) (plain_follow here (k.onward.unit.follows ∙ never)) in
       unless_then outcome (read_once limit (following depth here) outcome new h) (λ r. r ∙ mid ∙ k.plain never)
 
+  -- and so was what was refused
+  plain_up_to : (start here : CursorView) (outcome : Result Bool Error) (new : CursorView) → Seeking start here
+      → HasRead limit (following depth here) outcome new → start.follows ≡ false
+      → OnErr outcome (IsReadUpTo limit start new)
+  plain_up_to start here outcome new k h never =
+      let mid : IsReadOnce limit here (following depth here) = ap (λ (c : CursorView). c.reads + reads_ahead (rows_of limit c.raw)) (plain_follow here (k.onward.unit.follows ∙ never)) in
+      read_up_to limit start (following depth here) outcome new (onward_follow start here depth k.onward) (mid ∙ k.plain never) h
+
   -- the first entry's reference is followed
   first_mid : (start here : CursorView) → Seeking start here → (t : ℕ) → followed_to start ≡ Some t → start.depth ≡ depth
       → following depth here ≡ record { raw = stands_at start.raw (view_from start.raw t) depth; entry = null_entry; offset = start.offset; depth = start.depth; follows = start.follows; reads = start.reads }
@@ -193,18 +208,20 @@ module _ (limit : ℕ) (depth : ℤ) (offset : ℕ) where
       → outcome ≡ Ok true → int_eq new.depth depth ≡ false → Seeking start new
   seeking_on start here outcome new k h holds other =
       cases h (onward_read limit start (following depth here) outcome new (onward_follow start here depth k.onward) h) (plain_once start here outcome new k h)
+      (λ n o x s. k.steps (suc n) o x (new, rw holds at h, other, s))
     where
       mid : CursorView
       mid = following depth here
 
-      cases : HasRead limit mid outcome new → Onward start new → (start.follows ≡ false → UnlessMemory outcome (IsReadOnce limit start new)) → Seeking start new
-      cases (an_entry e w some reads is same) onward once =
+      cases : HasRead limit mid outcome new → Onward start new → (start.follows ≡ false → UnlessMemory outcome (IsReadOnce limit start new)) → Leads start new → Seeking start new
+      cases (an_entry e w some reads is same) onward once steps =
           let elsewhere : int_eq mid.raw.depth depth ≡ false = rw same at other in
           rw same (record {
             onward = rw same at onward;
             first = λ t leads deep. absurd (differs mid.raw.depth depth elsewhere (ap (λ (c : CursorView). c.raw.depth) (first_mid start here k t leads deep)));
             inside = λ low. low_after e mid.raw.depth (low_follow here (k.inside low)) elsewhere;
             plain = rw (is, same) at once;
+            steps = rw same at steps;
             honestly = λ honest.
                 let i = k.honestly honest in
                 let kept = follow_keeps here k.onward.sound i.honest in
@@ -214,8 +231,8 @@ module _ (limit : ℕ) (depth : ℤ) (offset : ℕ) where
                   places = λ o x p. i.places o x (kept.places o x (place_on limit (has_depth depth) mid e w some reads elsewhere o x p));
                 };
           })
-      cases (the_end none is same) onward once = let x : ◌≡◌ {A = Result Bool Error} (Ok false) (Ok true) = sym is ∙ holds in absurd (cc)
-      cases (a_refusal x some is same why memory) onward once = let y : ◌≡◌ {A = Result Bool Error} (Err x) (Ok true) = sym is ∙ holds in absurd (cc)
+      cases (the_end none is same) onward once steps = let x : ◌≡◌ {A = Result Bool Error} (Ok false) (Ok true) = sym is ∙ holds in absurd (cc)
+      cases (a_refusal x some is same why memory) onward once steps = let y : ◌≡◌ {A = Result Bool Error} (Err x) (Ok true) = sym is ∙ holds in absurd (cc)
 
   -- one of that depth is the one
   found_at : (c : CursorView) (e : Entry) (w : View) → (length c.raw.rest.bytes ≡ 0 → ⊥) → Ok (e, w) ≡ next_of limit c.raw c.raw.rest → int_eq c.raw.depth depth ≡ true
@@ -233,13 +250,15 @@ module _ (limit : ℕ) (depth : ℤ) (offset : ℕ) where
   sought_to start here outcome new k h holds there =
       cases h (onward_read limit start (following depth here) outcome new (onward_follow start here depth k.onward) h) (plain_once start here outcome new k h)
       (true_entry limit start (following depth here) outcome new (onward_follow start here depth k.onward) h holds)
+      (k.steps zero _ new (at_depth (rw holds at h) there refl))
     where
       mid : CursorView
       mid = following depth here
 
       cases : HasRead limit mid outcome new → Onward start new → (start.follows ≡ false → UnlessMemory outcome (IsReadOnce limit start new)) → IsTrueEntry limit start new
+          → ((m : ℕ) × Searches limit m depth offset start (Ok (not (is_null new.entry))) new)
           → HasSought limit depth offset start (Ok (not (is_null new.entry))) new
-      cases (an_entry e w some reads is same) onward once true_one =
+      cases (an_entry e w some reads is same) onward once true_one steps =
           let deep : int_eq mid.raw.depth depth ≡ true = rw same at there in
           rw same (record {
             unit = rw same at onward.unit;
@@ -257,11 +276,12 @@ module _ (limit : ℕ) (depth : ℤ) (offset : ℕ) where
                 ap (λ (c : CursorView). c.reads + 1) m ∙ ap (λ n. start.reads + n) (sym (left_some mid.raw.rest some) ∙ ap (λ (c : CursorView). one_if_left c.raw.rest) m);
             refused_there = λ x t. absurd (cc);
             counted = λ never. let more = (onward_follow start here depth k.onward).more in omega (arith, more);
-            plain = rw (is, same) at once;
+            plain = λ f. ((rw (is, same) at once) f, tt);
+            steps = rw same at steps;
             inside = λ low. just_above e mid.raw.depth (low_follow here (k.inside low));
           })
-      cases (the_end none is same) onward once true_one = let x : ◌≡◌ {A = Result Bool Error} (Ok false) (Ok true) = sym is ∙ holds in absurd (cc)
-      cases (a_refusal x some is same why memory) onward once true_one = let y : ◌≡◌ {A = Result Bool Error} (Err x) (Ok true) = sym is ∙ holds in absurd (cc)
+      cases (the_end none is same) onward once true_one steps = let x : ◌≡◌ {A = Result Bool Error} (Ok false) (Ok true) = sym is ∙ holds in absurd (cc)
+      cases (a_refusal x some is same why memory) onward once true_one steps = let y : ◌≡◌ {A = Result Bool Error} (Err x) (Ok true) = sym is ∙ holds in absurd (cc)
 
   -- at the end of the bytes there is none, and the pair is set
   end_at : (c : CursorView) → length c.raw.rest.bytes ≡ 0
@@ -282,13 +302,16 @@ module _ (limit : ℕ) (depth : ℤ) (offset : ℕ) where
       → outcome ≡ Ok false → HasSought limit depth offset start (Ok false) (paired new)
   sought_end start here outcome new k h ends =
       cases h (onward_read limit start (following depth here) outcome new (onward_follow start here depth k.onward) h) (plain_once start here outcome new k h)
+      (k.steps zero _ (paired new) (at_end new (rw ends at h) refl refl))
     where
       mid : CursorView
       mid = following depth here
 
-      cases : HasRead limit mid outcome new → Onward start new → (start.follows ≡ false → UnlessMemory outcome (IsReadOnce limit start new)) → HasSought limit depth offset start (Ok false) (paired new)
-      cases (an_entry e w some reads is same) onward once = let x : ◌≡◌ {A = Result Bool Error} (Ok true) (Ok false) = sym is ∙ ends in absurd (cc)
-      cases (the_end none is same) onward once =
+      cases : HasRead limit mid outcome new → Onward start new → (start.follows ≡ false → UnlessMemory outcome (IsReadOnce limit start new))
+          → ((m : ℕ) × Searches limit m depth offset start (Ok false) (paired new))
+          → HasSought limit depth offset start (Ok false) (paired new)
+      cases (an_entry e w some reads is same) onward once steps = let x : ◌≡◌ {A = Result Bool Error} (Ok true) (Ok false) = sym is ∙ ends in absurd (cc)
+      cases (the_end none is same) onward once steps =
           let u = rw same at onward.unit in
           rw same (record {
             unit = record { encoding = u.encoding; abbreviations = u.abbreviations; end = u.end; follows = u.follows };
@@ -307,10 +330,11 @@ module _ (limit : ℕ) (depth : ℤ) (offset : ℕ) where
                 none_left ∙ ap (λ (c : CursorView). c.reads + one_if_left c.raw.rest) m;
             refused_there = λ x t. absurd (cc);
             counted = λ never. absurd (never refl);
-            plain = rw (is, same) at once;
+            plain = λ f. ((rw (is, same) at once) f, tt);
+            steps = rw same at steps;
             inside = λ low. let l = low_follow here (k.inside low) in omega (arith, ints, l);
           })
-      cases (a_refusal x some is same why memory) onward once = let y : ◌≡◌ {A = Result Bool Error} (Err x) (Ok false) = sym is ∙ ends in absurd (cc)
+      cases (a_refusal x some is same why memory) onward once steps = let y : ◌≡◌ {A = Result Bool Error} (Err x) (Ok false) = sym is ∙ ends in absurd (cc)
 
   -- a refusal ends the walk
   refusal_at : (c : CursorView) (e : Error) → (length c.raw.rest.bytes ≡ 0 → ⊥) → Err e ≡ next_of limit c.raw c.raw.rest
@@ -327,18 +351,22 @@ module _ (limit : ℕ) (depth : ℤ) (offset : ℕ) where
       → (x : Error) → outcome ≡ Err x → HasSought limit depth offset start (Err x) new
   sought_out start here outcome new k h x fails =
       cases h (onward_read limit start (following depth here) outcome new (onward_follow start here depth k.onward) h) (plain_once start here outcome new k h)
+      (plain_up_to start here outcome new k h)
       (λ y same. true_refusal limit start (following depth here) outcome new (onward_follow start here depth k.onward) h y (fails ∙ same))
       (refused_place limit (has_depth depth) (following depth here) outcome new h x fails)
+      (k.steps zero _ new (at_refusal x (rw fails at h) refl))
     where
       mid : CursorView
       mid = following depth here
 
       cases : HasRead limit mid outcome new → Onward start new → (start.follows ≡ false → UnlessMemory outcome (IsReadOnce limit start new))
+          → (start.follows ≡ false → OnErr outcome (IsReadUpTo limit start new))
           → ((y : Error) → ◌≡◌ {A = Result Bool Error} (Err x) (Err y) → IsRefused limit start y new) → IsPlaceAhead limit (has_depth depth) mid.raw new.offset new.depth
+          → ((m : ℕ) × Searches limit m depth offset start (Err x) new)
           → HasSought limit depth offset start (Err x) new
-      cases (an_entry e w some reads is same) onward once refused place = let y : ◌≡◌ {A = Result Bool Error} (Ok true) (Err x) = sym is ∙ fails in absurd (cc)
-      cases (the_end none is same) onward once refused place = let y : ◌≡◌ {A = Result Bool Error} (Ok false) (Err x) = sym is ∙ fails in absurd (cc)
-      cases (a_refusal y some is same why memory) onward once refused place =
+      cases (an_entry e w some reads is same) onward once up refused place steps = let y : ◌≡◌ {A = Result Bool Error} (Ok true) (Err x) = sym is ∙ fails in absurd (cc)
+      cases (the_end none is same) onward once up refused place steps = let y : ◌≡◌ {A = Result Bool Error} (Ok false) (Err x) = sym is ∙ fails in absurd (cc)
+      cases (a_refusal y some is same why memory) onward once up refused place steps =
           let z : ◌≡◌ {A = Result Bool Error} (Err x) (Err y) = sym fails ∙ is in
           let one : x ≡ y = cc in
           rw same (record {
@@ -359,7 +387,8 @@ module _ (limit : ℕ) (depth : ℤ) (offset : ℕ) where
                 ap (λ (c : CursorView). c.reads + 1) m ∙ ap (λ n. start.reads + n) (sym (left_some mid.raw.rest some) ∙ ap (λ (c : CursorView). one_if_left c.raw.rest) m);
             refused_there = λ v h t leads at. first_place start here k t leads at;
             counted = λ never. let more = (onward_follow start here depth k.onward).more in omega (arith, more);
-            plain = rw (fails, same) at once;
+            plain = λ f. ((rw (fails, same) at once) f, (rw (fails, same) at up) f);
+            steps = rw same at steps;
             inside = λ low. let l = low_follow here (k.inside low) in omega (arith, ints, l);
           })
 

@@ -17,7 +17,7 @@ use Rattle.gimli_units.specs.CursorMoves.{CursorView, next_of, rows_of, place_of
 use Rattle.gimli_units.specs.CursorRead.{after_entry, after_refusal, after_end, HasRead, an_entry, the_end, a_refusal, HasSought}
 use Rattle.gimli_units.proofs.CursorSteps.{read_goes, rows_entry, rows_end, rows_refusal, rows_over}
 use Rattle.gimli_units.specs.CursorLent.{HasReadOn, HasWalked, HasWalkedOver}
-use Rattle.gimli_units.proofs.Onward.{Onward, same_unit, onward_start, onward_read, read_once, true_entry, true_refusal, true_shorter, no_entry, unless_then}
+use Rattle.gimli_units.proofs.Onward.{Onward, same_unit, onward_start, onward_read, read_once, read_up_to, true_entry, true_refusal, true_shorter, no_entry, unless_then}
 
 module _ (limit : ℕ) where
   -- where a cursor stands is a place ahead of it
@@ -129,6 +129,7 @@ module _ (limit : ℕ) where
         true_entry = λ yes. (is_true, entry);
         refused = λ e fails. absurd (cc);
         once = (rw holds at once) ∙ k.once;
+        counted = tt;
         shorter = λ yes. true_shorter limit start new is_true on.unit;
         none = λ no. absurd (cc);
         more = on.more;
@@ -147,6 +148,7 @@ module _ (limit : ℕ) where
         true_entry = λ yes. absurd (never yes);
         refused = λ e fails. (true_refusal limit start here outcome new k.onward h e fails, k.places _ _ (refused_place is_entry here outcome new h e fails));
         once = unless_then outcome (read_once limit here outcome new h) (λ o. o ∙ k.once);
+        counted = read_up_to limit start here outcome new k.onward k.once h;
         shorter = λ yes. absurd (never yes);
         none = λ no. rw (no_entry limit here outcome new h never) refl;
         more = on.more;
@@ -180,6 +182,7 @@ has_walked_over limit c outcome new entry s = record {
   refused_there = λ e fails t leads. s.refused_there e fails t leads refl;
   not_found = λ no some. s.no no;
   counted = λ some never. s.counted never;
+  steps = λ some. s.steps;
   plain = s.plain;
   shorter = λ yes. true_shorter limit c new (s.yes yes).0 s.unit;
   none = λ no. (s.no no).0;
@@ -210,7 +213,8 @@ has_stayed limit c null = record {
   refused_there = λ e fails. absurd (cc);
   not_found = λ no some. absurd (cc);
   counted = λ some. absurd (cc);
-  plain = λ k. refl;
+  steps = λ some. absurd (cc);
+  plain = λ k. (refl, tt);
   shorter = λ yes. absurd (cc);
   none = λ no. null;
   more = omega arith;
@@ -229,6 +233,7 @@ has_read_on limit c outcome new sound h =
       true_entry = true_entry limit c c outcome new start h;
       refused = true_refusal limit c c outcome new start h;
       offset = refused_offset h;
+      depth = refused_depth h;
       reads = one_read h;
       once = read_once limit c outcome new h;
       none = λ no. rw (no_entry limit c outcome new h (λ yes. let x : ◌≡◌ {A = Result Bool Error} (Ok false) (Ok true) = sym no ∙ yes in cc)) refl;
@@ -241,6 +246,11 @@ has_read_on limit c outcome new sound h =
     refused_offset (an_entry e w some reads is same) = rw is tt
     refused_offset (the_end none is same) = rw is tt
     refused_offset (a_refusal x some is same why memory) = rw (is, same) refl
+
+    refused_depth : HasRead limit c outcome new → OnErr outcome (new.depth ≡ c.raw.depth)
+    refused_depth (an_entry e w some reads is same) = rw is tt
+    refused_depth (the_end none is same) = rw is tt
+    refused_depth (a_refusal x some is same why memory) = rw (is, same) refl
 
     one_read : HasRead limit c outcome new → new.reads ≡ c.reads + one_if_left c.raw.rest
     one_read (an_entry e w some reads is same) = let k : (length c.raw.rest.bytes == 0) ≡ false = ne_eqb (length c.raw.rest.bytes) 0 some in rw (same, k) refl

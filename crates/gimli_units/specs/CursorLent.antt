@@ -11,8 +11,8 @@ use Rattle.gimli_units.specs.declared.entry.DebuggingInformationEntry.{Debugging
 use Rattle.gimli_units.specs.Entry.{entry_of, is_null}
 use Rattle.gimli_units.specs.RawPlace.{next_offset_of}
 use Rattle.gimli_units.specs.CursorPlace.{some_of, is_entry, has_depth, next_row, next_in_depth_first_order, next_of_depth, first_of_rows}
-use Rattle.gimli_units.specs.CursorMoves.{CursorView, Goes, IsHonestFor, followed_to, view_from, rows_from, one_if_left, IsTrueEntry, IsRefused, IsAheadOf, IsNotFound, IsReadOnce, AreFewReads, IsFurther, IsSameUnit}
-use Rattle.gimli_units.specs.CursorRead.{Stands}
+use Rattle.gimli_units.specs.CursorMoves.{CursorView, Goes, IsHonestFor, followed_to, view_from, rows_from, one_if_left, IsTrueEntry, IsRefused, IsAheadOf, IsNotFound, IsReadOnce, IsReadUpTo, AreFewReads, IsFurther, IsSameUnit}
+use Rattle.gimli_units.specs.CursorRead.{Stands, Searches}
 
 -- A step to the next entry, a null too: the place moves as the definition says, unless memory is refused; and whatever the references that were
 -- followed before, what is answered is true. One entry is read where bytes are left.
@@ -21,6 +21,7 @@ pub record HasReadOn (limit : ℕ) (old : CursorView) (outcome : Result Bool Err
   pub true_entry : outcome ≡ Ok true → IsTrueEntry limit old new
   pub refused : (e : Error) → outcome ≡ Err e → IsRefused limit old e new
   pub offset : OnErr outcome (new.offset ≡ next_offset_of old.raw)
+  pub depth : OnErr outcome (new.depth ≡ old.raw.depth)
   pub reads : new.reads ≡ old.reads + one_if_left old.raw.rest
   pub once : UnlessMemory outcome (IsReadOnce limit old new)
   pub none : outcome ≡ Ok false → is_null new.entry ≡ true
@@ -35,6 +36,7 @@ pub record HasWalked (limit : ℕ) (old : CursorView) (outcome : Result Bool Err
   pub true_entry : outcome ≡ Ok true → IsTrueEntry limit old new × (is_null new.entry ≡ false)
   pub refused : (e : Error) → outcome ≡ Err e → IsRefused limit old e new × IsAheadOf limit is_entry old new
   pub once : UnlessMemory outcome (IsReadOnce limit old new)
+  pub counted : OnErr outcome (IsReadUpTo limit old new)
   pub shorter : outcome ≡ Ok true → length new.raw.rest.bytes < length old.raw.rest.bytes
   pub none : outcome ≡ Ok false → is_null new.entry ≡ true
   pub more : old.reads ≤ new.reads
@@ -55,7 +57,9 @@ pub record HasWalkedOver (limit : ℕ) (old : CursorView) (outcome : Result Bool
   pub refused_there : (e : Error) → outcome ≡ Err e → (t : ℕ) → followed_to old ≡ Some t → (new.offset ≡ t) × (new.depth ≡ old.depth)
   pub not_found : outcome ≡ Ok false → is_null old.entry ≡ false → IsNotFound limit old.depth old.offset old new
   pub counted : is_null old.entry ≡ false → (outcome ≡ Ok false → ⊥) → old.reads < new.reads
-  pub plain : old.follows ≡ false → UnlessMemory outcome (IsReadOnce limit old new)
+  pub steps : is_null old.entry ≡ false → (n : ℕ) × Searches limit n old.depth old.offset old outcome new
+  pub plain : old.follows ≡ false
+      → UnlessMemory outcome (IsReadOnce limit old new) × OnErr outcome (IsReadUpTo limit old new)
   pub shorter : outcome ≡ Ok true → length new.raw.rest.bytes < length old.raw.rest.bytes
   pub none : outcome ≡ Ok false → is_null new.entry ≡ true
   pub more : old.reads ≤ new.reads

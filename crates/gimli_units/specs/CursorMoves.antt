@@ -139,6 +139,12 @@ reads_ahead a = length a.rows + elim a.refusal [ None ↦ 0 | Some e ↦ 1 ]
 abbrev pub IsReadOnce : ℕ → CursorView → CursorView → Type 0
 IsReadOnce limit old new = new.reads + reads_ahead (rows_of limit new.raw) ≡ old.reads + reads_ahead (rows_of limit old.raw)
 
+-- each entry before the one that was refused was read once, and so was that one
+abbrev pub IsReadUpTo : ℕ → CursorView → CursorView → Type 0
+IsReadUpTo limit old new =
+    new.reads + reads_ahead (rows_from limit old.raw new.offset new.depth)
+    ≡ old.reads + reads_ahead (rows_of limit old.raw) + 1
+
 -- behind a current entry the reader has the depth that the entry makes
 abbrev pub StandsBehind : CursorView → Type 0
 StandsBehind c = is_null c.entry ≡ false → c.raw.depth ≡ depth_after c.entry c.depth

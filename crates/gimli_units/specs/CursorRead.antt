@@ -1,5 +1,6 @@
 -- What one read makes of a cursor, and what a search for a depth does, of which the steps are made (DWARF 5, 2.3 and 7.5.2).
-use Rattle.std.specs.Prelude.{◌≡◌, ℕ, ◌+◌, ◌<◌, ◌≤◌, ℤ, pos, ◌-ℤ◌, ◌≤ℤ◌, Bool, true, false, int_le, if◌then◌else◌, length, Option, Some, None, Result, Ok, Err}
+use Rattle.std.specs.Prelude.{◌≡◌, ℕ, zero, suc, not, ◌+◌, ◌<◌, ◌≤◌, ℤ, pos, ◌-ℤ◌, ◌≤ℤ◌, Bool, true, false, int_le, if◌then◌else◌, length, Option, Some, None, Result, Ok, Err, OnErr}
+use Rattle.std.specs.Ordering.{int_eq}
 use Rattle.gimli_base.specs.declared.error.Error.{Error}
 use Rattle.gimli_base.specs.declared.error.Error.TheVariants.{OutOfMemory}
 use Rattle.gimli_base.specs.View.{View, ended}
@@ -9,7 +10,7 @@ use Rattle.gimli_units.specs.RawPlace.{RawPlace, next_offset_of, depth_after}
 use Rattle.gimli_units.specs.Kind.{kind_of}
 use Rattle.gimli_units.specs.Honest.{target}
 use Rattle.gimli_units.specs.CursorPlace.{Moved, has_depth, seek, first_of_rows}
-use Rattle.gimli_units.specs.CursorMoves.{CursorView, next_of, rows_of, rows_from, place_of, followed_to, view_from, takes_memory_at, IsHonestFor, IsSameUnit, IsTrueEntry, IsRefused, IsNotFound, IsAheadOf, IsFurther, AreFewReads, IsReadOnce, one_if_left}
+use Rattle.gimli_units.specs.CursorMoves.{CursorView, next_of, rows_of, rows_from, place_of, followed_to, view_from, takes_memory_at, IsHonestFor, IsSameUnit, IsTrueEntry, IsRefused, IsNotFound, IsAheadOf, IsFurther, AreFewReads, IsReadOnce, IsReadUpTo, one_if_left}
 
 -- a reader of the same unit that stands elsewhere
 abbrev pub stands_at : RawPlace → View → ℤ → RawPlace
@@ -57,6 +58,24 @@ following sought c = record { raw = stands_if c.raw (target_for sought c) c.dept
 abbrev pub Stands : ℕ → Result Bool Error → CursorView → Moved → Type 0
 Stands limit outcome new m = UnlessMemory outcome (record { outcome = outcome; place = place_of limit new } ≡ m)
 
+-- where a search for a depth ends: at what has that depth, at the end of the bytes, or at a refusal
+pub data EndsSearch (limit : ℕ) (depth : ℤ) (offset : ℕ) (here : CursorView) (outcome : Result Bool Error) (new : CursorView) : Type 0 where
+  at_depth : HasRead limit (following depth here) (Ok true) new → int_eq new.depth depth ≡ true
+      → outcome ≡ Ok (not (is_null new.entry)) → EndsSearch limit depth offset here outcome new
+  at_end : (last : CursorView) → HasRead limit (following depth here) (Ok false) last
+      → outcome ≡ Ok false → new ≡ record last { offset = offset; depth = depth }
+      → EndsSearch limit depth offset here outcome new
+  at_refusal : (e : Error) → HasRead limit (following depth here) (Err e) new
+      → outcome ≡ Err e → EndsSearch limit depth offset here outcome new
+
+-- A search for a depth, read by read, whatever the references: n entries of other depths are passed, each left for where its
+-- reference leads, if that is followed; and there the search ends.
+abbrev pub Searches : ℕ → ℕ → ℤ → ℕ → CursorView → Result Bool Error → CursorView → Type 0
+Searches limit zero depth offset here outcome new = EndsSearch limit depth offset here outcome new
+Searches limit (suc n) depth offset here outcome new =
+    (mid : CursorView) × HasRead limit (following depth here) (Ok true) mid
+    × (int_eq mid.depth depth ≡ false) × Searches limit n depth offset mid outcome new
+
 -- An entry of this depth was sought: where the rows are honest, the first row ahead that has it was found. Whatever the references,
 -- what was answered is true, and where the current entry has that depth and a reference that is followed, one read was made, and what stands there
 -- was answered.
@@ -74,5 +93,7 @@ pub record HasSought (limit : ℕ) (depth : ℤ) (offset : ℕ) (old : CursorVie
   pub once : (t : ℕ) → followed_to old ≡ Some t → old.depth ≡ depth → new.reads ≡ old.reads + one_if_left (view_from old.raw t)
   pub refused_there : (e : Error) → outcome ≡ Err e → (t : ℕ) → followed_to old ≡ Some t → old.depth ≡ depth → (new.offset ≡ t) × (new.depth ≡ depth)
   pub counted : (outcome ≡ Ok false → ⊥) → old.reads < new.reads
-  pub plain : old.follows ≡ false → UnlessMemory outcome (IsReadOnce limit old new)
+  pub plain : old.follows ≡ false
+      → UnlessMemory outcome (IsReadOnce limit old new) × OnErr outcome (IsReadUpTo limit old new)
   pub inside : depth ≤ℤ old.raw.depth → (depth -ℤ pos 1) ≤ℤ new.raw.depth
+  pub steps : (n : ℕ) × Searches limit n depth offset old outcome new

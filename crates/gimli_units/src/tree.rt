@@ -1,6 +1,6 @@
 //! The entries of a unit as a tree.
 
-ghost use Rattle.std.specs.Prelude.{◌≡◌, ℕ, ◌+◌, ◌-◌, ◌<◌, ◌≤◌, ◌^◌, length, unsigned_abs, Ok, Err, Some, None, false, true, pos, IfOk, IfErr, IfSome, IsOk, OnErr, [], ◌∷◌};
+ghost use Rattle.std.specs.Prelude.{◌≡◌, ℕ, ◌+◌, ◌-◌, ◌<◌, ◌≤◌, ◌^◌, length, unsigned_abs, Ok, Err, Some, None, false, true, pos, IfOk, IfErr, IfSome, IsOk, OnErr, is_some, [], ◌∷◌};
 ghost use Rattle.std.specs.Option.{option_map};
 ghost use Rattle.gimli_base.specs.declared.error.Error.{Error as SpecError};
 ghost use Rattle.gimli_base.specs.declared.error.Error.TheVariants.{OutOfMemory};
@@ -303,6 +303,9 @@ impl<'abbrev, 'tree, R: Reader, A: Allocator> EntriesTreeIter<'abbrev, 'tree, R,
         ensures few { IfOk result (λ o. IfSome o (λ node. AreFewReads self.old.tree.now.cursor node.tree.now.cursor)) }
         ensures gone_on { IfOk result (λ o. IfSome o (λ node. HasGoneOn R.Offset.limit self.old.depth self.old.tree.now (Ok true) node.tree.now)) }
         ensures inside { unsigned_abs self.old.depth < 2 ^ 63 → IfOk result (λ o. IfSome o (λ node. IsInside self.old.depth node.tree.now)) }
+        ensures as_advance { let gone_on = HasGoneOn R.Offset.limit self.old.depth self.old.tree.now in
+            self.old.open ≡ true → unsigned_abs self.old.depth < 2 ^ 63
+            → (last : TreeView) × gone_on (answer_of is_some result) last }
         ensures closed { self.old.open ≡ false → result ≡ Ok None }
         ensures over { IsOver self.old.tree.now.cursor → result ≡ Ok None }
     {

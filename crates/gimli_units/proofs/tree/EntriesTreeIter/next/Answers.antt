@@ -1,4 +1,4 @@
-use Rattle.std.proofs.Common.{rules, ◌≡◌, sym, ◌∙◌, Ok, Err, false}
+use Rattle.std.proofs.Common.{rules, ◌≡◌, sym, ◌∙◌, Ok, Err, true, false}
 use Rattle.gimli_units.proofs.TreeSteps.{end_told}
 use Rattle.gimli_units.proofs.tree.EntriesTreeIter.next.Goals as goal
 
@@ -14,3 +14,19 @@ pub returns-then-not-branch-clause-answers : goal.returns-then-not-branch-clause
 returns-then-not-branch-clause-answers g c fits honest =
     let no : c.advance.result ≡ Ok false = search rules in
     end_told g.R.Offset.ReaderOffset.limit c.args.self.now.tree.now c.advance.new.self.tree.now c.args.self.now.depth c.args.self.now.«open» (λ o. rw no at c.advance.ensures.gone_on o fits) honest
+
+pub returns-in_err-advance-clause-as_advance : goal.returns-in_err-advance-clause-as_advance
+returns-in_err-advance-clause-as_advance g c opened near =
+    let r : c.from_residual.result ≡ Err c.in_err-advance.field-0.0 = search rules in
+    let was = c.in_err-advance.was in
+    rw r (c.advance.new.self.tree.now, rw was at c.advance.ensures.gone_on opened near)
+
+pub returns-then-not-branch-clause-as_advance : goal.returns-then-not-branch-clause-as_advance
+returns-then-not-branch-clause-as_advance g c opened near =
+    let no : c.advance.result ≡ Ok false = search rules in
+    (c.advance.new.self.tree.now, rw no at c.advance.ensures.gone_on opened near)
+
+pub returns-clause-as_advance : goal.returns-clause-as_advance
+returns-clause-as_advance g c opened near =
+    let yes : c.advance.result ≡ Ok true = search rules in
+    (c.advance.new.self.tree.now, rw yes at c.advance.ensures.gone_on opened near)
