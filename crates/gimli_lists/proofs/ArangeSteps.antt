@@ -1,13 +1,14 @@
 -- The next range of a set, by the next raw entry.
-use Rattle.std.specs.Prelude.{◌≡◌, ℕ, true, Option, Some, None, Result, Ok, Err}
+use Rattle.std.specs.Prelude.{◌≡◌, ℕ, true, [], Option, Some, None, Result, Ok, Err}
+use Rattle.std.specs.Option.{option_transpose}
 use Rattle.std.specs.Result.{result_transpose}
-use Rattle.std.proofs.Common.{sym, ap, ◌∙◌}
+use Rattle.std.proofs.Common.{refl, sym, ap, ◌∙◌}
 use Rattle.gimli_base.specs.declared.error.Error.{Error}
 use Rattle.gimli_base.specs.View.{View}
 use Rattle.gimli_base.specs.Reading.{is_size}
 use Rattle.gimli_lists.specs.declared.aranges.entries.ArangeEntry.{ArangeEntry}
-use Rattle.gimli_lists.specs.Aranges.{raw_entry, converted, answer_to, first_of_tuples}
-use Rattle.gimli_lists.proofs.TupleSteps.{some_bytes, through, continued, first_through}
+use Rattle.gimli_lists.specs.Aranges.{raw_entry, converted, answer_to, first_of_tuples, raw_entries, aranges_of}
+use Rattle.gimli_lists.proofs.TupleSteps.{some_bytes, through, continued, first_through, made_of-none}
 
 module _ (z : ℕ) (sized : is_size z ≡ true) where
   abbrev Answer : Type 0
@@ -50,3 +51,17 @@ module _ (z : ℕ) (sized : is_size z ≡ true) where
   -- the raw entry stands for none
   pub range_dropped : (v : View) (e : ArangeEntry) (w : View) → NextRaw v (Some e) w → Ok None ≡ converted z e → first_of_tuples (answer_to z) z v ≡ first_of_tuples (answer_to z) z w
   range_dropped v e w r h = by_answer v e w (Ok None) r h
+
+-- an answer of none is that of an iterator which has none
+none_transposed : {A : Type 0} → (o : Option (Result A Error)) → Ok None ≡ option_transpose o → o ≡ None
+none_transposed None h = refl
+none_transposed (Some (Ok a)) h = absurd (cc)
+none_transposed (Some (Err e)) h = absurd (cc)
+
+-- where there is no next range, none is ahead
+pub ahead_none : (z : ℕ) (v : View) → is_size z ≡ true → Ok None ≡ option_transpose (first_of_tuples (answer_to z) z v).0 → aranges_of z v ≡ []
+ahead_none z v sized h = made_of-none z (some_bytes z sized) (answer_to z) v (none_transposed (first_of_tuples (answer_to z) z v).0 h)
+
+-- and where there is no next raw entry
+pub raw_none : (z : ℕ) (v : View) → is_size z ≡ true → ◌≡◌ {A = Result (Option ArangeEntry) Error} (Ok None) (Ok (first_of_tuples raw_entry z v).0) → raw_entries z v ≡ []
+raw_none z v sized h = made_of-none z (some_bytes z sized) raw_entry v (let same : None ≡ (first_of_tuples raw_entry z v).0 = cc in sym same)

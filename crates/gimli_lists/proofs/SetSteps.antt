@@ -1,6 +1,6 @@
 -- The sets ahead of a place, as the reading of a header moves it.
-use Rattle.std.specs.Prelude.{◌≡◌, ℕ, zero, suc, ◌+◌, ◌-◌, ◌<◌, ◌≤◌, ◌==◌, true, false, [], ◌∷◌, ◌++◌, length, Option, Some, Result, Ok, Err}
-use Rattle.std.specs.Option.{option_to_list}
+use Rattle.std.specs.Prelude.{◌≡◌, ℕ, zero, suc, ◌+◌, ◌-◌, ◌<◌, ◌≤◌, ◌==◌, true, false, [], ◌∷◌, ◌++◌, length, Option, Some, None, Result, Ok, Err}
+use Rattle.std.specs.Option.{option_to_list, option_transpose}
 use Rattle.std.proofs.Common.{refl, sym, ap, ◌∙◌, arith, inl, inr}
 use Rattle.std.proofs.lemmas.Bool.{ne_eqb}
 use Rattle.std.proofs.lemmas.Bool.Decides.{eqb_tells}
@@ -94,3 +94,23 @@ module _ (limit : ℕ) where
       read (Ok q) is some =
           let place = ap (λ w. record { rest = w; offset = p.offset + whole_length q.0 }) (set_at-read limit p.offset p.rest q.0 q.1 is).rest in
           ahead_more p q.0 q.1 some is ∙ ap (λ l. Ok q.0 ∷ sets_ahead limit l) (sym place)
+
+  none_left : (p q : SetsPlace) → ◌≡◌ {A = Next} (None, q) (next_set limit p) → length p.rest.bytes ≡ 0
+  unfolding next_set
+  none_left p q h = elim (eqb_tells (length p.rest.bytes) 0) [
+    | inl none ↦ none.1
+    | inr some ↦ absurd (read (set_at limit p.offset p.rest) (rw some.0 at h))
+  ]
+    where
+      read : (r : Reads ArangeSet) → ◌≡◌ {A = Next} (None, q) (next_by p r) → ⊥
+      read (Err e) is = cc (ap (λ (n : Next). n.0) is)
+      read (Ok x) is = cc (ap (λ (n : Next). n.0) is)
+
+  -- where there is no next set, none is ahead
+  pub ahead_none : (p : SetsPlace) → Ok None ≡ option_transpose (next_set limit p).0 → sets_ahead limit p ≡ []
+  ahead_none p h = by (next_set limit p) refl h
+    where
+      by : (n : Next) → n ≡ next_set limit p → Ok None ≡ option_transpose n.0 → sets_ahead limit p ≡ []
+      by (None, q) is h = ahead_ended p (none_left p q is)
+      by (Some (Ok s), q) is h = absurd (cc)
+      by (Some (Err e), q) is h = absurd (cc)

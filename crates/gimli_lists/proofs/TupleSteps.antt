@@ -130,6 +130,24 @@ module _ (z : ℕ) (some : 0 < z) where
           (λ e. rw (first_over v le e, tuples_of-more v le, e) behind),
         )
 
+    -- where nothing is made of any tuple, there is no first
+    pub made_of-none : (v : View) → (first_of_tuples f z v).0 ≡ None → filter_map f (tuples_of z v) ≡ []
+    made_of-none v = by_tuples Holds short more v
+      where
+        Holds : View → Type 0
+        Holds v = (first_of_tuples f z v).0 ≡ None → filter_map f (tuples_of z v) ≡ []
+
+        short : (v : View) → length v.bytes < 2 * z → Holds v
+        short v lt none = rw (tuples_of-short v lt) refl
+
+        more : (v : View) → 2 * z ≤ length v.bytes → Holds (cut (2 * z) v) → Holds v
+        more v le behind = by_cases Holds v (
+          (λ b e none.
+              let one : Some b ≡ None = sym (ap (λ (p : First). p.0) (first_next v b le e)) ∙ none in
+              absurd (cc)),
+          (λ e none. rw (tuples_of-more v le, e) (behind (sym (ap (λ (p : First). p.0) (first_over v le e)) ∙ none))),
+        )
+
     -- bytes are taken where something is made
     pub first_shorter : (v : View) (b : B) (w : View) → ◌≡◌ {A = First} (Some b, w) (first_of_tuples f z v) → length w.bytes < length v.bytes
     first_shorter v b w = by_tuples Holds short more v

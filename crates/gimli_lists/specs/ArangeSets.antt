@@ -1,5 +1,5 @@
 -- The sets of ranges of addresses in a section, and the header of each (DWARF 5, 6.1.2 and 7.21).
-use Rattle.std.specs.Prelude.{ℕ, zero, suc, ◌+◌, ◌-◌, ◌*◌, ◌%◌, ◌==◌, ◌||◌, if◌then◌else◌, List, [], ◌∷◌, length, Option, Some, None, Result, Ok, Err}
+use Rattle.std.specs.Prelude.{◌≡◌, ℕ, zero, suc, ◌+◌, ◌-◌, ◌*◌, ◌%◌, ◌==◌, ◌||◌, if◌then◌else◌, List, [], ◌∷◌, length, Option, Some, None, Result, Ok, Err, MatchOption}
 use Rattle.gimli_base.specs.declared.common.Encoding.{Encoding}
 use Rattle.gimli_base.specs.declared.common.Format.{Format}
 use Rattle.gimli_base.specs.declared.error.Error.{Error}
@@ -90,3 +90,9 @@ next_set limit p =
       | Ok q ↦ (Some (Ok q.0), record { rest = q.1; offset = p.offset + whole_length q.0 })
       | Err e ↦ (Some (Err e), record { rest = ended p.rest; offset = p.offset })
     ]
+
+-- What an iterator answers at a place, and the place that it leaves: the next answer. The answers ahead are that one, and then those
+-- ahead of the place that is left; where there is no next one, none is ahead.
+pub record IsNextSet (limit : ℕ) (p : SetsPlace) (a : Option (Result ArangeSet Error)) (q : SetsPlace) : Type 0 where
+  pub is : (a, q) ≡ next_set limit p
+  pub ahead : MatchOption a (sets_ahead limit p ≡ []) (λ x. sets_ahead limit p ≡ x ∷ sets_ahead limit q)

@@ -1,5 +1,5 @@
 -- The ranges of addresses of a set: its tuples, and what each stands for (DWARF 5, 6.1.2 and 7.21).
-use Rattle.std.specs.Prelude.{ℕ, zero, suc, ◌+◌, ◌*◌, ◌/◌, ◌==◌, ◌&&◌, nat_lt, nat_le, if◌then◌else◌, is_some, List, [], ◌∷◌, length, take, drop, slice_get, Option, Some, None, option_and_then, Result, Ok}
+use Rattle.std.specs.Prelude.{◌≡◌, ℕ, zero, suc, ◌+◌, ◌*◌, ◌/◌, ◌==◌, ◌&&◌, nat_lt, nat_le, if◌then◌else◌, is_some, List, [], ◌∷◌, length, take, drop, slice_get, Option, Some, None, option_and_then, MatchOption, Result, Ok}
 use Rattle.std.specs.List.{filter_map, position_or_len}
 use Rattle.std.specs.Result.{result_transpose}
 use Rattle.gimli_base.specs.declared.common.Encoding.{Encoding}
@@ -76,3 +76,13 @@ next_raw_entry p = let q = first_of_tuples raw_entry p.encoding.address_size p.r
 -- the next range of a set or its refusal, and the place that its reading leaves
 abbrev pub next_arange : ArangesPlace → Option (Result ArangeEntry Error) × ArangesPlace
 next_arange p = let q = first_of_tuples (answer_to p.encoding.address_size) p.encoding.address_size p.rest in (q.0, with_rest p q.1)
+
+-- the ranges ahead of a place, each or its refusal
+abbrev pub aranges_ahead : ArangesPlace → List (Result ArangeEntry Error)
+aranges_ahead p = aranges_of p.encoding.address_size p.rest
+
+-- What an iterator answers at a place, and the place that it leaves: the next range. The ranges ahead are that one, and then those
+-- ahead of the place that is left; where there is no next one, none is ahead.
+pub record IsNextArange (p : ArangesPlace) (a : Option (Result ArangeEntry Error)) (q : ArangesPlace) : Type 0 where
+  pub is : (a, q) ≡ next_arange p
+  pub ahead : MatchOption a (aranges_ahead p ≡ []) (λ x. aranges_ahead p ≡ x ∷ aranges_ahead q)

@@ -1,13 +1,13 @@
 //! Sets of ranges of addresses (DWARF 5, 6.1.2).
 
-ghost use Rattle.std.specs.Prelude.{◌≡◌, ◌+◌, ◌*◌, ◌%◌, ◌<◌, ◌++◌, length, IsTrue, MatchResult, IfOk, OnSome};
+ghost use Rattle.std.specs.Prelude.{◌≡◌, ◌+◌, ◌*◌, ◌%◌, ◌<◌, ◌++◌, length, IsTrue, MatchResult, IfOk, OnSome, Ok, None, []};
 ghost use Rattle.std.specs.Fn.{FnOnceTakesAt, FnOnceReturnsAt};
 ghost use Rattle.std.specs.Iterator.{at_most};
 ghost use Rattle.std.specs.Option.{option_map, option_to_list, option_transpose};
 ghost use Rattle.gimli_base.specs.declared.common.SectionId.TheVariants.{DebugAranges as ArangesSection};
 ghost use Rattle.gimli_base.specs.Offset.{answer_of};
 ghost use Rattle.gimli_base.specs.Reading.{read, is_size};
-ghost use Rattle.gimli_lists.specs.ArangeSets.{ArangeSet, SetsPlace, fields_size, padding_size, set_fields_at, set_at, set_from, next_set, sets_ahead, sets_of};
+ghost use Rattle.gimli_lists.specs.ArangeSets.{ArangeSet, SetsPlace, fields_size, padding_size, set_fields_at, set_at, set_from, next_set, sets_ahead, sets_of, IsNextSet};
 ghost use Rattle.gimli_lists.specs.Aranges.{ArangesPlace};
 
 use gimli_base::{
@@ -142,6 +142,7 @@ impl<R: Reader> ArangeHeaderIter<R> {
         ensures value { answer_of (option_map ⟦<ArangeHeader<R> as HasArangeSet>⟧.set) result ≡ option_transpose (next_set R.Offset.limit self.old).0 }
         ensures left { self.new ≡ (next_set R.Offset.limit self.old).1 }
         ensures ahead { sets_ahead R.Offset.limit self.old ≡ option_to_list (next_set R.Offset.limit self.old).0 ++ sets_ahead R.Offset.limit self.new }
+        ensures ended { result ≡ Ok None → sets_ahead R.Offset.limit self.old ≡ [] }
         ensures takes { MatchResult result (λ header. OnSome header (length self.new.rest.bytes < length self.old.rest.bytes)) (λ _. length self.new.rest.bytes < length self.old.rest.bytes) }
     {
         next_header(&mut self.input, &mut self.offset)
@@ -151,7 +152,7 @@ impl<R: Reader> ArangeHeaderIter<R> {
 impl<R: Reader> Iterator for ArangeHeaderIter<R> {
     type Item = Result<ArangeHeader<R>>;
 
-    ghost next_gives = { λ s r t. (option_map (answer_of ⟦<ArangeHeader<R> as HasArangeSet>⟧.set) r, t) ≡ next_set R.Offset.limit s };
+    ghost next_gives = { λ s r t. IsNextSet R.Offset.limit s (option_map (answer_of ⟦<ArangeHeader<R> as HasArangeSet>⟧.set) r) t };
 
     ghost remaining = { λ s. at_most (length s.rest.bytes) };
 

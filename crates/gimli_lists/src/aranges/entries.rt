@@ -1,10 +1,10 @@
 //! The ranges of a set, and how its tuples are read (DWARF 5, 6.1.2).
 
-ghost use Rattle.std.specs.Prelude.{◌≡◌, ◌<◌, ◌++◌, length, IsTrue, MatchResult, OnSome};
+ghost use Rattle.std.specs.Prelude.{◌≡◌, ◌<◌, ◌++◌, length, IsTrue, MatchResult, OnSome, Ok, None, []};
 ghost use Rattle.std.specs.Iterator.{at_most};
 ghost use Rattle.std.specs.Option.{option_to_list, option_transpose};
 ghost use Rattle.gimli_base.specs.Reading.{is_size};
-ghost use Rattle.gimli_lists.specs.Aranges.{ArangesPlace, next_tuple, raw_entry, converted, answer_to, first_of_tuples, next_raw_entry, next_arange, raw_entries, aranges_of};
+ghost use Rattle.gimli_lists.specs.Aranges.{ArangesPlace, next_tuple, raw_entry, converted, answer_to, first_of_tuples, next_raw_entry, next_arange, raw_entries, aranges_of, aranges_ahead, IsNextArange};
 
 use crate::Range;
 use crate::rnglists::raw::RawRange;
@@ -59,6 +59,7 @@ impl<R: Reader> ArangeEntryIter<R> {
         ensures value { result ≡ option_transpose (next_arange self.old).0 }
         ensures left { self.new ≡ (next_arange self.old).1 }
         ensures ahead { aranges_of self.old.encoding.address_size self.old.rest ≡ option_to_list (next_arange self.old).0 ++ aranges_of self.new.encoding.address_size self.new.rest }
+        ensures ended { result ≡ Ok None → aranges_ahead self.old ≡ [] }
         ensures takes { MatchResult result (λ entry. OnSome entry (length self.new.rest.bytes < length self.old.rest.bytes)) (λ _. length self.new.rest.bytes < length self.old.rest.bytes) }
     {
         next_range(&mut self.input, self.encoding.address_size)
@@ -70,6 +71,8 @@ impl<R: Reader> ArangeEntryIter<R> {
         ensures value { result ≡ Ok (next_raw_entry self.old).0 }
         ensures left { self.new ≡ (next_raw_entry self.old).1 }
         ensures ahead { raw_entries self.old.encoding.address_size self.old.rest ≡ option_to_list (next_raw_entry self.old).0 ++ raw_entries self.new.encoding.address_size self.new.rest }
+        ensures ended { let size = self.old.encoding.address_size in
+            result ≡ Ok None → raw_entries size self.old.rest ≡ [] }
         ensures takes { MatchResult result (λ entry. OnSome entry (length self.new.rest.bytes < length self.old.rest.bytes)) (λ _. length self.new.rest.bytes < length self.old.rest.bytes) }
     {
         next_entry(&mut self.input, self.encoding.address_size)
@@ -89,7 +92,7 @@ impl<R: Reader> ArangeEntryIter<R> {
 impl<R: Reader> Iterator for ArangeEntryIter<R> {
     type Item = Result<ArangeEntry>;
 
-    ghost next_gives = { λ s r t. (r, t) ≡ next_arange s };
+    ghost next_gives = { λ s r t. IsNextArange s r t };
 
     ghost remaining = { λ s. at_most (length s.rest.bytes) };
 
