@@ -54,6 +54,7 @@ widths =
     (0x1f02, Unknown) ∷  -- GNU_str_index
     (0x1f20, Word) ∷  -- GNU_ref_alt
     (0x1f21, Word) ∷  -- GNU_strp_alt
+    (0x3f01, Unknown) ∷  -- own_addrx_offset
     []
 
 abbrev pub width_in : ℕ → List (ℕ × Width) → Width

@@ -74,7 +74,7 @@ fn number_of_form(name: &str) -> Option<u64> {
         DW_FORM_udata DW_FORM_ref_addr DW_FORM_ref_udata DW_FORM_indirect DW_FORM_sec_offset DW_FORM_flag_present
         DW_FORM_data16 DW_FORM_line_strp DW_FORM_ref_sig8 DW_FORM_implicit_const DW_FORM_rnglistx DW_FORM_strx1
         DW_FORM_strx4 DW_FORM_addrx4 DW_FORM_GNU_addr_index DW_FORM_GNU_str_index DW_FORM_GNU_ref_alt
-        DW_FORM_GNU_strp_alt
+        DW_FORM_GNU_strp_alt DW_FORM_own_addrx_offset
     )
 }
 

@@ -166,6 +166,10 @@ fn write_type<Offset: ReaderOffset, W: Write>(
             let (signature, offset) = (type_signature.0, type_offset.0.into_u64());
             write!(out, " split_type 0x{signature:x} 0x{offset:x}")
         }
+        UnitType::Vendor(code) => {
+            let code = code.0;
+            write!(out, " vendor 0x{code:x}")
+        }
     }
 }
 

@@ -7,7 +7,7 @@ use Rattle.gimli_base.specs.declared.error.Error.TheVariants.{UnknownVersion, Un
 use Rattle.gimli_base.specs.View.{View}
 use Rattle.gimli_base.specs.Reading.{Reads, ◌>>=◌, made, byte_at, uint_at, offset_at, address_size_at, initial_length_at, split_at}
 use Rattle.gimli_units.specs.declared.unit_type.UnitType.{UnitType}
-use Rattle.gimli_units.specs.declared.unit_type.UnitType.TheVariants.{Compilation, TypeUnit, Partial, Skeleton, SplitCompilation, SplitType}
+use Rattle.gimli_units.specs.declared.unit_type.UnitType.TheVariants.{Compilation, TypeUnit, Partial, Skeleton, SplitCompilation, SplitType, Vendor}
 use Rattle.gimli_units.specs.Unit.{UnitView}
 use Rattle.gimli_headers.specs.declared.parse.Common.{Common as CommonFields}
 
@@ -53,6 +53,10 @@ common_at limit section format v = uint_at 2 v >>= λ version.
 unfoldable pub signature_at : ℕ → Format → View → Reads (ℕ × ℕ)
 signature_at limit format v = uint_at 8 v >>= λ signature. made (λ offset. (signature.0, offset)) (offset_at limit format signature.1)
 
+-- the codes of types that vendors define, up to the greatest byte
+abbrev pub is_vendor : ℕ → Bool
+is_vendor code = nat_le 0x80 code
+
 -- what the type of a code adds
 unfoldable pub type_at : ℕ → Format → ℕ → View → Reads (UnitType ℕ)
 type_at limit format code v =
@@ -62,6 +66,7 @@ type_at limit format code v =
     else if code == 4 then made (λ id. Skeleton (record { 0 = id })) (uint_at 8 v)
     else if code == 5 then made (λ id. SplitCompilation (record { 0 = id })) (uint_at 8 v)
     else if code == 6 then made (λ p. SplitType (record { 0 = p.0 }) (record { 0 = p.1 })) (signature_at limit format v)
+    else if is_vendor code then Ok (Vendor (record { 0 = code }), v)
     else Err (UnknownUnitType (record { 0 = code }))
 
 -- the fields behind the length; an unknown type is refused behind the fields that all have

@@ -12,8 +12,8 @@ use Rattle.gimli_base.specs.Later.{split_at-front}
 use Rattle.gimli_base.specs.Taken.{TakenAfter, TakesAfter, Takes, taken, taken_length, TakenAfter-none, TakenAfter-trans, behind_takes, then_takes, made_takes, if_takes, ok_takes, err_takes, byte_at-takes, uint_at-takes, offset_at-takes, address_size_at-takes, initial_length_at-takes, split_at-takes}
 use Rattle.gimli_units.specs.Unit.{UnitView, whole_length, header_size, added_size, size_of_header}
 use Rattle.gimli_units.specs.declared.unit_type.UnitType.{UnitType}
-use Rattle.gimli_units.specs.declared.unit_type.UnitType.TheVariants.{Compilation, Partial, Skeleton, SplitCompilation}
-use Rattle.gimli_headers.specs.Header.{Common, is_old, old_common_at, new_common_at, common_at, signature_at, type_at, fields_at, unit_of, unit_in, unit_at}
+use Rattle.gimli_units.specs.declared.unit_type.UnitType.TheVariants.{Compilation, Partial, Skeleton, SplitCompilation, Vendor}
+use Rattle.gimli_headers.specs.Header.{Common, is_old, old_common_at, new_common_at, common_at, signature_at, is_vendor, type_at, fields_at, unit_of, unit_in, unit_at}
 
 -- the number of bytes of the fields that every header has, behind the length field
 abbrev pub common_size : Format → Common → ℕ
@@ -79,7 +79,8 @@ module _ (limit : ℕ) (format : Format) where
         (λ _. if_takes n kind_size v (code == 4) _ _ (λ _. id_takes (λ id. Skeleton (record { 0 = id })) v (λ id. refl))
         (λ _. if_takes n kind_size v (code == 5) _ _ (λ _. id_takes (λ id. SplitCompilation (record { 0 = id })) v (λ id. refl))
         (λ _. if_takes n kind_size v (code == 6) _ _ (λ _. made_takes n kind_size v _ (signature_at limit format v) (signature_at-takes v))
-        (λ _. err_takes {A = UnitType ℕ} n kind_size v _))))))
+        (λ _. if_takes n kind_size v (is_vendor code) _ _ (λ _. ok_takes n kind_size v (Vendor (record { 0 = code }), v) (TakenAfter-none _ _ v (omega arith)))
+        (λ _. err_takes {A = UnitType ℕ} n kind_size v _)))))))
 
   -- the fields take as many bytes as they say
   pub fields_at-takes : (section : SectionId) (v : View) → TakesAfter 0 (fields_size format) v (fields_at limit section format v)

@@ -19,9 +19,9 @@ ghost use Rattle.gimli_units.specs.UnitKind.{map_type};
 ghost use Rattle.gimli_units.specs.UnitHeld.{unit_view};
 
 use gimli_base::{
-    DW_UT_compile, DW_UT_partial, DW_UT_skeleton, DW_UT_split_compile, DW_UT_split_type,
-    DW_UT_type, DebugAbbrevOffset, DebugTypeSignature, DwUt, DwoId, Encoding, Error, Format,
-    Reader, Result, SectionId,
+    DW_UT_compile, DW_UT_lo_user, DW_UT_partial, DW_UT_skeleton, DW_UT_split_compile,
+    DW_UT_split_type, DW_UT_type, DebugAbbrevOffset, DebugTypeSignature, DwUt, DwoId, Encoding,
+    Error, Format, Reader, Result, SectionId,
 };
 use gimli_units::{UnitHeader, UnitOffset, UnitSectionOffset, UnitType};
 
@@ -140,6 +140,7 @@ fn parse_type<R: Reader>(input: &mut R, format: Format, code: DwUt) -> Result<Un
                 type_offset,
             })
         }
+        _ if code.0 >= DW_UT_lo_user.0 => Ok(UnitType::Vendor(code)),
         _ => Err(Error::UnknownUnitType(code)),
     }
 }

@@ -11,8 +11,9 @@ use Rattle.gimli_base.specs.View.{View, cut, ended}
 use Rattle.gimli_base.specs.Reading.{Reads, ◌>>=◌, made, eof, byte_at, bytes_at, uint_at, as_offset, uint_offset_at, uleb_within, uleb_at, uleb16_at, split_at, find_at, text_at, word_size_of, skip_at, skip_leb_at}
 use Rattle.gimli_base.specs.Later.{IsLater, LeavesLater, IsLater-length, byte_at-later, uleb16_at-later, split_at-later}
 use Rattle.gimli_units.specs.EntryReads.{none_later, uint_offset-later, uleb_offset-later, form_at-later}
-use Rattle.gimli_units.specs.Layout.{Layout, byte, number, section_or, address, uleb, sleb, offset, word_offset, reference, offset_leb, block, block_leb, text, nothing, constant, layout_of}
+use Rattle.gimli_units.specs.Layout.{Layout, byte, number, section_or, address, uleb, sleb, offset, word_offset, reference, offset_leb, offset_leb_and, block, block_leb, text, nothing, constant, layout_of}
 use Rattle.gimli_units.specs.Form.{uleb_offset_at, chain, form_at}
+use Rattle.gimli_units.specs.PassReads.{leb-later}
 use Rattle.gimli_units.specs.Passing.{pass, pass_direct, pass_at, NamesPlaceOf}
 
 -- each refusal of a read names a place of this view, if any
@@ -170,6 +171,8 @@ pass_refuses limit e (constant f) v = skip_refuses 0 v
 pass_refuses limit e (uleb f) v = leb_refuses v
 pass_refuses limit e (sleb f) v = leb_refuses v
 pass_refuses limit e (offset_leb f) v = leb_refuses v
+pass_refuses limit e (offset_leb_and n f) v =
+    then_refuses v (skip_leb_at v) _ (leb-later v) (leb_refuses v) (λ p. skip_refuses n p.1)
 pass_refuses limit e (block n f) v = block_refuses v (uint_offset_at limit n v) (uint_offset-later limit n v) (uint_offset_refuses limit n v)
 pass_refuses limit e (block_leb f) v = block_refuses v (uleb_offset_at limit v) (uleb_offset-later limit v) (uleb_offset_refuses limit v)
 pass_refuses limit e (text f) v = made_refuses v _ (text_at v) (text_refuses v)

@@ -13,7 +13,7 @@ use Rattle.gimli_base.specs.Passed.{skip_at-none}
 use Rattle.gimli_base.specs.Width.{form_size}
 use Rattle.gimli_base.specs.Offset.{sum_of}
 use Rattle.std.specs.Prelude.{nat_lt, IfErr}
-use Rattle.gimli_units.specs.Layout.{Layout, byte, number, section_or, address, uleb, sleb, offset, word_offset, reference, offset_leb, block, block_leb, text, nothing, constant, layout_of}
+use Rattle.gimli_units.specs.Layout.{Layout, byte, number, section_or, address, uleb, sleb, offset, word_offset, reference, offset_leb, offset_leb_and, block, block_leb, text, nothing, constant, layout_of}
 use Rattle.gimli_units.specs.Form.{form_at, chain}
 use Rattle.gimli_units.specs.WidthLaw.{form_size-known}
 use Rattle.gimli_units.specs.Passing.{pass, pass_at, pass_direct, known_size, size_of, pass_all, somewhere, without_place, NamesPlaceOf}
@@ -38,6 +38,7 @@ size_passes limit n e (constant f) v h = let k : n ≡ 0 = cc in ap (λ m. skip_
 size_passes limit n e (uleb f) v h = cc
 size_passes limit n e (sleb f) v h = cc
 size_passes limit n e (offset_leb f) v h = cc
+size_passes limit n e (offset_leb_and m f) v h = cc
 size_passes limit n e (block m f) v h = cc
 size_passes limit n e (block_leb f) v h = cc
 size_passes limit n e (text f) v h = cc

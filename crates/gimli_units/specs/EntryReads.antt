@@ -10,7 +10,7 @@ use Rattle.gimli_base.specs.Later.{LeavesLater, IsLater-none, IsLater-length, th
 use Rattle.gimli_base.specs.Abbreviations.{Specification, Declaration, Map}
 use Rattle.gimli_units.specs.Value.{Value}
 use Rattle.gimli_units.specs.declared.value.AttributeValue.TheVariants.{SecOffset}
-use Rattle.gimli_units.specs.Layout.{Layout, byte, number, section_or, address, uleb, sleb, offset, word_offset, reference, offset_leb, block, block_leb, text, nothing, constant, layout_of}
+use Rattle.gimli_units.specs.Layout.{Layout, byte, number, section_or, address, uleb, sleb, offset, word_offset, reference, offset_leb, offset_leb_and, block, block_leb, text, nothing, constant, layout_of}
 use Rattle.gimli_units.specs.Form.{is_section_name, uleb_offset_at, value_in, direct_at, chain, form_at, number_of, value_at}
 use Rattle.gimli_units.specs.Entry.{Entry, attribute_at, attributes_at, abbreviation_at, content_at, entry_at}
 
@@ -49,6 +49,9 @@ value_in-later limit e name c (word_offset f) v = made_leaves_later 0 v f (offse
 value_in-later limit e name c (reference f) v =
     made_leaves_later 0 v f _ (if_leaves_later 0 v (e.version == 2) _ _ (sized_offset-later limit e.address_size v) (word_offset-later limit e.format v))
 value_in-later limit e name c (offset_leb f) v = made_leaves_later 0 v f (uleb_offset_at limit v) (uleb_offset-later limit v)
+value_in-later limit e name c (offset_leb_and n f) v =
+    then_leaves_later 0 0 v (uleb_offset_at limit v) _ (uleb_offset-later limit v)
+    (λ p. made_leaves_later 0 p.1 (f p.0) (uint_at n p.1) (none_later n p.1 _ (uint_at-later n p.1)))
 value_in-later limit e name c (block n f) v = made_leaves_later 0 v f _ (split-later v (uint_offset_at limit n v) (uint_offset-later limit n v))
 value_in-later limit e name c (block_leb f) v = made_leaves_later 0 v f _ (split-later v (uleb_offset_at limit v) (uleb_offset-later limit v))
 value_in-later limit e name c (text f) v = made_leaves_later 0 v f (text_at v) (none_later 1 v _ (text_at-later v))

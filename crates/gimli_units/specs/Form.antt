@@ -6,7 +6,7 @@ use Rattle.gimli_base.specs.View.{View}
 use Rattle.gimli_base.specs.Reading.{Reads, ◌>>=◌, made, eof, byte_at, uint_at, split_at, uleb_at, uleb16_at, sleb_at, as_offset, uint_offset_at, offset_at, sized_offset_at, address_at, text_at, word_size_of}
 use Rattle.gimli_units.specs.Value.{Value}
 use Rattle.gimli_units.specs.declared.value.AttributeValue.TheVariants.{SecOffset}
-use Rattle.gimli_units.specs.Layout.{Layout, byte, number, section_or, address, uleb, sleb, offset, word_offset, reference, offset_leb, block, block_leb, text, nothing, constant, layout_of}
+use Rattle.gimli_units.specs.Layout.{Layout, byte, number, section_or, address, uleb, sleb, offset, word_offset, reference, offset_leb, offset_leb_and, block, block_leb, text, nothing, constant, layout_of}
 
 -- the names whose data4 or data8, where it has the format's width, is an offset into a section
 unfoldable pub section_names : List ℕ
@@ -52,6 +52,7 @@ value_in limit e name c (offset n f) v = made f (uint_offset_at limit n v)
 value_in limit e name c (word_offset f) v = made f (offset_at limit e.format v)
 value_in limit e name c (reference f) v = made f (if e.version == 2 then sized_offset_at limit e.address_size v else offset_at limit e.format v)
 value_in limit e name c (offset_leb f) v = made f (uleb_offset_at limit v)
+value_in limit e name c (offset_leb_and n f) v = uleb_offset_at limit v >>= λ p. made (f p.0) (uint_at n p.1)
 value_in limit e name c (block n f) v = made f (uint_offset_at limit n v >>= λ p. split_at p.0 p.1)
 value_in limit e name c (block_leb f) v = made f (uleb_offset_at limit v >>= λ p. split_at p.0 p.1)
 value_in limit e name c (text f) v = made f (text_at v)

@@ -2,7 +2,7 @@
 use Rattle.std.specs.Prelude.{ℕ, ℤ, true, not, ◌==◌, if◌then◌else◌, List, [], ◌∷◌, Option, Some, None}
 use Rattle.gimli_base.specs.View.{View}
 use Rattle.gimli_units.specs.Value.{Value}
-use Rattle.gimli_units.specs.declared.value.AttributeValue.TheVariants.{Addr, Block, Data1, Data2, Data4, Data8, Data16, Sdata, Udata, Exprloc, Flag, SecOffset, String, UnitRef, DebugStrRef, DebugStrRefSup, DebugLineStrRef, DebugInfoRef, DebugInfoRefSup, DebugTypesRef, DebugStrOffsetsIndex, DebugAddrIndex, DebugLocListsIndex, DebugRngListsIndex}
+use Rattle.gimli_units.specs.declared.value.AttributeValue.TheVariants.{Addr, Block, Data1, Data2, Data4, Data8, Data16, Sdata, Udata, Exprloc, Flag, SecOffset, String, UnitRef, DebugStrRef, DebugStrRefSup, DebugLineStrRef, DebugInfoRef, DebugInfoRefSup, DebugTypesRef, DebugStrOffsetsIndex, DebugAddrIndex, DebugAddrIndexOffset, DebugLocListsIndex, DebugRngListsIndex}
 
 -- The bytes of a value, and the value that is made of what they hold.
 pub data Layout : Type 0 where
@@ -16,6 +16,7 @@ pub data Layout : Type 0 where
   word_offset : (ℕ → Value) → Layout  -- as many bytes as the format's offsets have, an offset
   reference : (ℕ → Value) → Layout  -- in version 2 as many bytes as addresses have, else as word_offset
   offset_leb : (ℕ → Value) → Layout  -- an unsigned LEB128 number, an offset or index
+  offset_leb_and : ℕ → (ℕ → ℕ → Value) → Layout  -- an unsigned LEB128 number, an offset or index, and then n bytes
   block : ℕ → (View → Value) → Layout  -- a length of n bytes, and that many bytes
   block_leb : (View → Value) → Layout  -- a length in LEB128, and that many bytes
   text : (View → Value) → Layout  -- bytes up to a zero, which is passed too
@@ -54,6 +55,9 @@ str_index n = DebugStrOffsetsIndex (record { 0 = n })
 
 abbrev pub addr_index : ℕ → Value
 addr_index n = DebugAddrIndex (record { 0 = n })
+
+abbrev pub addr_index_offset : ℕ → ℕ → Value
+addr_index_offset n m = DebugAddrIndexOffset (record { 0 = n }) m
 
 abbrev pub loclists_index : ℕ → Value
 loclists_index n = DebugLocListsIndex (record { 0 = n })
@@ -110,6 +114,7 @@ forms =
     (0x1f02, offset_leb str_index) ∷  -- GNU_str_index
     (0x1f20, word_offset debug_info_sup) ∷  -- GNU_ref_alt
     (0x1f21, word_offset debug_str_sup) ∷  -- GNU_strp_alt
+    (0x3f01, offset_leb_and 4 addr_index_offset) ∷  -- own_addrx_offset
     []
 
 abbrev pub found_in : ℕ → List (ℕ × Layout) → Option Layout

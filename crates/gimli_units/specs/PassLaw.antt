@@ -9,7 +9,7 @@ use Rattle.gimli_base.specs.Passed.{PassesAs, byte_at-passed, split_at-passed, u
 use Rattle.gimli_base.specs.Abbreviations.{Specification}
 use Rattle.gimli_units.specs.Value.{Value}
 use Rattle.gimli_units.specs.declared.value.AttributeValue.TheVariants.{SecOffset}
-use Rattle.gimli_units.specs.Layout.{Layout, byte, number, section_or, address, uleb, sleb, offset, word_offset, reference, offset_leb, block, block_leb, text, nothing, constant, layout_of}
+use Rattle.gimli_units.specs.Layout.{Layout, byte, number, section_or, address, uleb, sleb, offset, word_offset, reference, offset_leb, offset_leb_and, block, block_leb, text, nothing, constant, layout_of}
 use Rattle.gimli_units.specs.Form.{is_section_name, uleb_offset_at, value_in, direct_at, form_at, number_of, value_at}
 use Rattle.gimli_units.specs.Passing.{pass, pass_direct, pass_at, pass_all}
 use Rattle.gimli_units.specs.Entry.{Attr, attribute_at, attributes_at}
@@ -32,6 +32,11 @@ uleb_offset-passed limit v o w e = let m = offset_read limit (uleb_at v) o w e i
 block-passed : (r : Reads ℕ) → PassesAs (r >>= λ p. skip_at p.0 p.1) (r >>= λ p. split_at p.0 p.1)
 block-passed (Ok p) a w e = split_at-passed p.0 p.1 a w e
 block-passed (Err x) a w e = absurd (cc)
+
+-- n bytes, behind a number that passes as it is read
+behind-passed : (n : ℕ) (p : Passed) (r : Reads ℕ) (f : ℕ → ℕ → Value) → PassesAs p r → PassesAs (p >>= λ q. skip_at n q.1) (r >>= λ q. made (f q.0) (uint_at n q.1))
+behind-passed n p (Ok q) f h a w e = rw (h q.0 q.1 refl) (made_passed _ (f q.0) (uint_at n q.1) (uint_at-passed n q.1) a w e)
+behind-passed n p (Err x) f h a w e = absurd (cc)
 
 text-passed : (r : Reads View) → PassesAs (made (λ _. tt) r) r
 text-passed (Ok p) a w e = ap (λ (q : View × View). Ok (tt, q.1)) (let same : ◌≡◌ {A = View × View} p (a, w) = cc in same)
@@ -66,6 +71,7 @@ in-passed limit e name c (offset n f) v = made_passed _ f (uint_offset_at limit 
 in-passed limit e name c (word_offset f) v = made_passed _ f (offset_at limit e.format v) (offset_at-passed limit e.format v)
 in-passed limit e name c (reference f) v = made_passed _ f _ (reference-passed limit e (e.version == 2) v)
 in-passed limit e name c (offset_leb f) v = made_passed _ f (uleb_offset_at limit v) (uleb_offset-passed limit v)
+in-passed limit e name c (offset_leb_and n f) v = behind-passed n (skip_leb_at v) (uleb_offset_at limit v) f (uleb_offset-passed limit v)
 in-passed limit e name c (block n f) v = made_passed _ f _ (block-passed (uint_offset_at limit n v))
 in-passed limit e name c (block_leb f) v = made_passed _ f _ (block-passed (uleb_offset_at limit v))
 in-passed limit e name c (text f) v = made_passed _ f (text_at v) (text-passed (text_at v))

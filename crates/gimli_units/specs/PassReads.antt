@@ -8,7 +8,7 @@ use Rattle.gimli_base.specs.Reading.{Reads, ◌>>=◌, uint_offset_at, text_at, 
 use Rattle.gimli_base.specs.Later.{LeavesLater, IsLater-none, IsLater-length, then_leaves_later, made_leaves_later, ok_leaves_later, err_leaves_later, skip_at-later, skip_leb_at-later, text_at-later}
 use Rattle.gimli_base.specs.Passed.{PassesAs}
 use Rattle.gimli_base.specs.Abbreviations.{Specification}
-use Rattle.gimli_units.specs.Layout.{Layout, byte, number, section_or, address, uleb, sleb, offset, word_offset, reference, offset_leb, block, block_leb, text, nothing, constant, layout_of}
+use Rattle.gimli_units.specs.Layout.{Layout, byte, number, section_or, address, uleb, sleb, offset, word_offset, reference, offset_leb, offset_leb_and, block, block_leb, text, nothing, constant, layout_of}
 use Rattle.gimli_units.specs.Form.{uleb_offset_at, form_at}
 use Rattle.gimli_units.specs.EntryReads.{none_later, uint_offset-later, uleb_offset-later, form_at-later}
 use Rattle.gimli_units.specs.Passing.{pass, pass_direct, pass_at, pass_all, without_place}
@@ -19,7 +19,7 @@ Passed = Reads (Unit {0})
 skipped-later : (n : ℕ) (v : View) → LeavesLater 0 v (skip_at n v)
 skipped-later n v = none_later n v (skip_at n v) (skip_at-later n v)
 
-leb-later : (v : View) → LeavesLater 0 v (skip_leb_at v)
+pub leb-later : (v : View) → LeavesLater 0 v (skip_leb_at v)
 leb-later v = none_later 1 v (skip_leb_at v) (skip_leb_at-later v)
 
 -- that many bytes, behind their number
@@ -39,6 +39,7 @@ pass-later limit e (constant f) v = skipped-later 0 v
 pass-later limit e (uleb f) v = leb-later v
 pass-later limit e (sleb f) v = leb-later v
 pass-later limit e (offset_leb f) v = leb-later v
+pass-later limit e (offset_leb_and n f) v = then_leaves_later 0 0 v (skip_leb_at v) _ (leb-later v) (λ p. skipped-later n p.1)
 pass-later limit e (block n f) v = block-later v (uint_offset_at limit n v) (uint_offset-later limit n v)
 pass-later limit e (block_leb f) v = block-later v (uleb_offset_at limit v) (uleb_offset-later limit v)
 pass-later limit e (text f) v = made_leaves_later 0 v (λ _. tt) (text_at v) (none_later 1 v _ (text_at-later v))

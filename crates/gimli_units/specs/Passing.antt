@@ -6,7 +6,7 @@ use Rattle.gimli_base.specs.declared.error.Error.TheVariants.{UnknownForm, Unexp
 use Rattle.gimli_base.specs.View.{View}
 use Rattle.gimli_base.specs.Reading.{Reads, ◌>>=◌, made, uint_offset_at, text_at, word_size_of, skip_at, skip_leb_at}
 use Rattle.gimli_base.specs.Abbreviations.{Specification}
-use Rattle.gimli_units.specs.Layout.{Layout, byte, number, section_or, address, uleb, sleb, offset, word_offset, reference, offset_leb, block, block_leb, text, nothing, constant, layout_of}
+use Rattle.gimli_units.specs.Layout.{Layout, byte, number, section_or, address, uleb, sleb, offset, word_offset, reference, offset_leb, offset_leb_and, block, block_leb, text, nothing, constant, layout_of}
 use Rattle.gimli_units.specs.Form.{uleb_offset_at, form_at}
 
 -- the number of bytes of a layout, where it does not depend on the bytes
@@ -23,6 +23,7 @@ size_of e (constant f) = Some 0
 size_of e (uleb f) = None
 size_of e (sleb f) = None
 size_of e (offset_leb f) = None
+size_of e (offset_leb_and n f) = None
 size_of e (block n f) = None
 size_of e (block_leb f) = None
 size_of e (text f) = None
@@ -41,6 +42,7 @@ pass limit e (constant f) v = skip_at 0 v
 pass limit e (uleb f) v = skip_leb_at v
 pass limit e (sleb f) v = skip_leb_at v
 pass limit e (offset_leb f) v = skip_leb_at v
+pass limit e (offset_leb_and n f) v = skip_leb_at v >>= λ p. skip_at n p.1
 pass limit e (block n f) v = uint_offset_at limit n v >>= λ p. skip_at p.0 p.1
 pass limit e (block_leb f) v = uleb_offset_at limit v >>= λ p. skip_at p.0 p.1
 pass limit e (text f) v = made (λ _. tt) (text_at v)

@@ -5,7 +5,7 @@ use Rattle.gimli_base.specs.declared.common.SectionId.{SectionId}
 use Rattle.gimli_base.specs.declared.error.Error.{Error}
 use Rattle.gimli_base.specs.declared.error.Error.TheVariants.{OffsetOutOfBounds, NoEntryAtGivenOffset}
 use Rattle.gimli_units.specs.declared.unit_type.UnitType.{UnitType}
-use Rattle.gimli_units.specs.declared.unit_type.UnitType.TheVariants.{Compilation, TypeUnit, Partial, Skeleton, SplitCompilation, SplitType}
+use Rattle.gimli_units.specs.declared.unit_type.UnitType.TheVariants.{Compilation, TypeUnit, Partial, Skeleton, SplitCompilation, SplitType, Vendor}
 use Rattle.gimli_base.specs.declared.common.Format.{Format}
 use Rattle.gimli_base.specs.declared.common.SectionId.TheVariants.{DebugInfo, DebugTypes}
 use Rattle.gimli_base.specs.Offset.{answer_of}
@@ -78,6 +78,7 @@ added_size format Partial = 0
 added_size format (Skeleton id) = 8
 added_size format (SplitCompilation id) = 8
 added_size format (SplitType signature offset) = 8 + word_size_of format
+added_size format (Vendor code) = 0
 
 -- the number of bytes of a header by its format, its version and its type: the length field, the version, the offset of
 -- the abbreviations, the size of an address, in version 5 the type, and what the type adds

@@ -2,7 +2,7 @@
 use Rattle.std.specs.Prelude.{ℕ}
 use Rattle.gimli_base.specs.View.{View}
 use Rattle.gimli_units.specs.declared.value.AttributeValue.{AttributeValue}
-use Rattle.gimli_units.specs.declared.value.AttributeValue.TheVariants.{Addr, Block, Data1, Data2, Data4, Data8, Data16, Sdata, Udata, Exprloc, Flag, SecOffset, DebugAddrBase, DebugAddrIndex, UnitRef, DebugInfoRef, DebugInfoRefSup, DebugLineRef, LocationListsRef, DebugLocListsBase, DebugLocListsIndex, DebugMacinfoRef, DebugMacroRef, RangeListsRef, DebugRngListsBase, DebugRngListsIndex, DebugTypesRef, DebugStrRef, DebugStrRefSup, DebugStrOffsetsBase, DebugStrOffsetsIndex, DebugLineStrRef, String, Encoding, DecimalSign, Endianity, Accessibility, Visibility, Virtuality, Language, AddressClass, IdentifierCase, CallingConvention, Inline, Ordering, FileIndex, DwoId}
+use Rattle.gimli_units.specs.declared.value.AttributeValue.TheVariants.{Addr, Block, Data1, Data2, Data4, Data8, Data16, Sdata, Udata, Exprloc, Flag, SecOffset, DebugAddrBase, DebugAddrIndex, DebugAddrIndexOffset, UnitRef, DebugInfoRef, DebugInfoRefSup, DebugLineRef, LocationListsRef, DebugLocListsBase, DebugLocListsIndex, DebugMacinfoRef, DebugMacroRef, RangeListsRef, DebugRngListsBase, DebugRngListsIndex, DebugTypesRef, DebugStrRef, DebugStrRefSup, DebugStrOffsetsBase, DebugStrOffsetsIndex, DebugLineStrRef, String, Encoding, DecimalSign, Endianity, Accessibility, Visibility, Virtuality, Language, AddressClass, IdentifierCase, CallingConvention, Inline, Ordering, FileIndex, DwoId}
 use Rattle.gimli_units.specs.declared.attribute.Attribute.{Attribute}
 
 -- a value, by what its readers and offsets stand for
@@ -21,6 +21,7 @@ map_value f g (Flag x) = Flag x
 map_value f g (SecOffset o) = SecOffset (g o)
 map_value f g (DebugAddrBase o) = DebugAddrBase (record { 0 = g o.0 })
 map_value f g (DebugAddrIndex o) = DebugAddrIndex (record { 0 = g o.0 })
+map_value f g (DebugAddrIndexOffset o x) = DebugAddrIndexOffset (record { 0 = g o.0 }) x
 map_value f g (UnitRef o) = UnitRef (record { 0 = g o.0 })
 map_value f g (DebugInfoRef o) = DebugInfoRef (record { 0 = g o.0 })
 map_value f g (DebugInfoRefSup o) = DebugInfoRefSup (record { 0 = g o.0 })

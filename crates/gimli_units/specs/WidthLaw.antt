@@ -5,7 +5,7 @@ use Rattle.gimli_base.specs.declared.common.Encoding.{Encoding}
 use Rattle.gimli_base.specs.declared.width.Width.{Width}
 use Rattle.gimli_base.specs.declared.width.Width.TheVariants.{Fixed, Address, Word, Reference, Unknown}
 use Rattle.gimli_base.specs.Width.{widths, width_in, width_of, size_in, form_size}
-use Rattle.gimli_units.specs.Layout.{Layout, byte, number, section_or, address, uleb, sleb, offset, word_offset, reference, offset_leb, block, block_leb, text, nothing, constant, forms, found_in, layout_of}
+use Rattle.gimli_units.specs.Layout.{Layout, byte, number, section_or, address, uleb, sleb, offset, word_offset, reference, offset_leb, offset_leb_and, block, block_leb, text, nothing, constant, forms, found_in, layout_of}
 use Rattle.gimli_units.specs.Passing.{size_of, known_size}
 
 -- the width of a layout
@@ -22,6 +22,7 @@ width_as (constant f) = Fixed 0
 width_as (uleb f) = Unknown
 width_as (sleb f) = Unknown
 width_as (offset_leb f) = Unknown
+width_as (offset_leb_and n f) = Unknown
 width_as (block n f) = Unknown
 width_as (block_leb f) = Unknown
 width_as (text f) = Unknown
@@ -44,6 +45,7 @@ size_as e (constant f) = refl
 size_as e (uleb f) = refl
 size_as e (sleb f) = refl
 size_as e (offset_leb f) = refl
+size_as e (offset_leb_and n f) = refl
 size_as e (block n f) = refl
 size_as e (block_leb f) = refl
 size_as e (text f) = refl

@@ -204,7 +204,7 @@ impl<R: Reader> UnitHeader<R> {
         let word = usize::from(format.word_size());
         let type_code = if self.encoding.version == 5 { 1 } else { 0 };
         let added = match self.unit_type {
-            UnitType::Compilation | UnitType::Partial => 0,
+            UnitType::Compilation | UnitType::Partial | UnitType::Vendor(_) => 0,
             UnitType::TypeUnit { .. } | UnitType::SplitType { .. } => 8 + word,
             UnitType::Skeleton(_) | UnitType::SplitCompilation(_) => 8,
         };

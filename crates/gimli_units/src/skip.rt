@@ -11,11 +11,12 @@ use gimli_base::{
     DW_FORM_addrx3, DW_FORM_addrx4, DW_FORM_block, DW_FORM_block1, DW_FORM_block2, DW_FORM_block4,
     DW_FORM_data1, DW_FORM_data2, DW_FORM_data4, DW_FORM_data8, DW_FORM_data16, DW_FORM_exprloc,
     DW_FORM_flag, DW_FORM_flag_present, DW_FORM_implicit_const, DW_FORM_line_strp,
-    DW_FORM_loclistx, DW_FORM_ref_addr, DW_FORM_ref_sig8, DW_FORM_ref_sup4, DW_FORM_ref_sup8,
-    DW_FORM_ref_udata, DW_FORM_ref1, DW_FORM_ref2, DW_FORM_ref4, DW_FORM_ref8, DW_FORM_rnglistx,
-    DW_FORM_sdata, DW_FORM_sec_offset, DW_FORM_string, DW_FORM_strp, DW_FORM_strp_sup,
-    DW_FORM_strx, DW_FORM_strx1, DW_FORM_strx2, DW_FORM_strx3, DW_FORM_strx4, DW_FORM_udata,
-    DwForm, Encoding, Error, Reader, ReaderOffset, Result,
+    DW_FORM_loclistx, DW_FORM_own_addrx_offset, DW_FORM_ref_addr, DW_FORM_ref_sig8,
+    DW_FORM_ref_sup4, DW_FORM_ref_sup8, DW_FORM_ref_udata, DW_FORM_ref1, DW_FORM_ref2,
+    DW_FORM_ref4, DW_FORM_ref8, DW_FORM_rnglistx, DW_FORM_sdata, DW_FORM_sec_offset,
+    DW_FORM_string, DW_FORM_strp, DW_FORM_strp_sup, DW_FORM_strx, DW_FORM_strx1, DW_FORM_strx2,
+    DW_FORM_strx3, DW_FORM_strx4, DW_FORM_udata, DwForm, Encoding, Error, Reader, ReaderOffset,
+    Result,
 };
 
 // Passes a form that is not indirect; where it is refused, the input is left anywhere.
@@ -81,6 +82,10 @@ fn skip_direct<R: Reader>(input: &mut R, encoding: Encoding, form: DwForm) -> Re
         | DW_FORM_rnglistx
         | DW_FORM_GNU_addr_index
         | DW_FORM_GNU_str_index => input.skip_leb128(),
+        DW_FORM_own_addrx_offset => {
+            input.skip_leb128()?;
+            input.skip(R::Offset::from_u8(4))
+        }
         _ => Err(Error::UnknownForm(form)),
     }
 }

@@ -1,7 +1,7 @@
 //! Types of units.
 
 use crate::UnitOffset;
-use gimli_base::{DebugTypeSignature, DwoId};
+use gimli_base::{DebugTypeSignature, DwUt, DwoId};
 
 /// The type of a unit, with what its header adds for it (DWARF 5, 7.5.1).
 #[derive(Clone, Copy, Debug, PartialEq, Eq)]
@@ -28,4 +28,6 @@ pub enum UnitType<Offset> {
         /// Where the type's entry stands in the unit.
         type_offset: UnitOffset<Offset>,
     },
+    /// A unit of a type that a vendor defines, with the type's code (DWARF 5, 7.5.1, table 7.2).
+    Vendor(DwUt),
 }

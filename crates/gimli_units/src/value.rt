@@ -42,6 +42,8 @@ pub enum AttributeValue<R, Offset = <R as Reader>::Offset> {
     DebugAddrBase(DebugAddrBase<Offset>),
     /// The number of an address among those of the unit.
     DebugAddrIndex(DebugAddrIndex<Offset>),
+    /// The number of an address among those of the unit, and an offset from it.
+    DebugAddrIndexOffset(DebugAddrIndex<Offset>, u32),
     /// An offset of an entry of the same unit.
     UnitRef(UnitOffset<Offset>),
     /// An offset of an entry in `.debug_info`.
@@ -145,6 +147,8 @@ impl<R: Reader> AttributeValue<R> {
             AttributeValue::SecOffset(value) => AttributeValue::SecOffset(*value),
             AttributeValue::DebugAddrBase(value) => AttributeValue::DebugAddrBase(*value),
             AttributeValue::DebugAddrIndex(value) => AttributeValue::DebugAddrIndex(*value),
+            AttributeValue::DebugAddrIndexOffset(index, offset) =>
+                AttributeValue::DebugAddrIndexOffset(*index, *offset),
             AttributeValue::UnitRef(value) => AttributeValue::UnitRef(*value),
             AttributeValue::DebugInfoRef(value) => AttributeValue::DebugInfoRef(*value),
             AttributeValue::DebugInfoRefSup(value) => AttributeValue::DebugInfoRefSup(*value),

@@ -1,12 +1,12 @@
 use crate::samples::{Input, input, reads};
-use gimli_base::{DwAt, DwForm, EndianSlice, LittleEndian};
+use gimli_base::{DebugAddrIndex, DwAt, DwForm, EndianSlice, LittleEndian};
 use gimli_units::{Attribute, AttributeValue, UnitOffset};
 use std::alloc::Global;
 use std::process::Abort;
 use std::test::Fail;
 
 // One value of each kind, in pairs that differ in what the kind holds.
-fn pairs<'a>() -> [(AttributeValue<Input<'a>>, AttributeValue<Input<'a>>); 3] {
+fn pairs<'a>() -> [(AttributeValue<Input<'a>>, AttributeValue<Input<'a>>); 4] {
     [
         (
             AttributeValue::String(input(b"foo")),
@@ -16,6 +16,10 @@ fn pairs<'a>() -> [(AttributeValue<Input<'a>>, AttributeValue<Input<'a>>); 3] {
         (
             AttributeValue::UnitRef(UnitOffset(5)),
             AttributeValue::UnitRef(UnitOffset(6)),
+        ),
+        (
+            AttributeValue::DebugAddrIndexOffset(DebugAddrIndex(5), 16),
+            AttributeValue::DebugAddrIndexOffset(DebugAddrIndex(5), 17),
         ),
     ]
 }

@@ -1,6 +1,7 @@
 use crate::samples::{Input, input, version_4};
 use gimli_base::{
-    DebugAbbrevOffset, DebugTypeSignature, DwoId, Encoding, Format, Reader, SectionId,
+    DW_UT_hi_user, DW_UT_lo_user, DebugAbbrevOffset, DebugTypeSignature, DwoId, Encoding, Format,
+    Reader, SectionId,
 };
 use gimli_units::{UnitHeader, UnitOffset, UnitSectionOffset, UnitType};
 use std::process::Abort;
@@ -61,7 +62,7 @@ fn split_type(signature: u64, offset: usize) -> UnitType<usize> {
 }
 
 // Each type of unit.
-fn unit_types() -> [UnitType<usize>; 6] {
+fn unit_types() -> [UnitType<usize>; 7] {
     [
         UnitType::Compilation,
         type_unit(5, 6),
@@ -69,6 +70,7 @@ fn unit_types() -> [UnitType<usize>; 6] {
         UnitType::Skeleton(DwoId(5)),
         UnitType::SplitCompilation(DwoId(5)),
         split_type(5, 6),
+        UnitType::Vendor(DW_UT_lo_user),
     ]
 }
 
@@ -82,10 +84,10 @@ fn shows_versions_and_sizes_that_no_bytes_give(rt: HostRuntime) {
 }
 
 // The sizes of the headers of each type in a format, in a version other than 5.
-fn sizes_of(format: Format) -> [usize; 6] {
+fn sizes_of(format: Format) -> [usize; 7] {
     match format {
-        Format::Dwarf32 => [11, 23, 11, 19, 19, 23],
-        Format::Dwarf64 => [23, 39, 23, 31, 31, 39],
+        Format::Dwarf32 => [11, 23, 11, 19, 19, 23, 11],
+        Format::Dwarf64 => [23, 39, 23, 31, 31, 39, 23],
     }
 }
 
@@ -126,6 +128,7 @@ fn types_with_other_parts_differ(rt: HostRuntime) {
         split_type(5, 7),
         UnitType::Skeleton(DwoId(7)),
         UnitType::SplitCompilation(DwoId(7)),
+        UnitType::Vendor(DW_UT_hi_user),
     ];
     for other in others {
         assert!(rt;

@@ -9,7 +9,10 @@ use std::test::Fail;
 
 // Whether a code is that of a form.
 fn is_form(code: u16) -> bool {
-    matches!(code, 0x01 | 0x03..=0x2c | 0x1f01 | 0x1f02 | 0x1f20 | 0x1f21)
+    matches!(
+        code,
+        0x01 | 0x03..=0x2c | 0x1f01 | 0x1f02 | 0x1f20 | 0x1f21 | 0x3f01
+    )
 }
 
 // Passes attributes of an input.

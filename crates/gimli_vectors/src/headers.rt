@@ -141,6 +141,10 @@ fn write_type<Offset: ReaderOffset>(
             write!(out, "split type")?;
             write_type_parts(out, type_signature.0, type_offset.0.into_u64())
         }
+        UnitType::Vendor(code) => {
+            let code = code.0;
+            write!(out, "vendor {code:x}")
+        }
     }
 }
 

@@ -39,6 +39,10 @@ pub(crate) fn write_value<R: Reader>(
         AttributeValue::Data16(number) => write!(out, "Data16 {number}"),
         AttributeValue::Sdata(number) => write!(out, "Sdata {number}"),
         AttributeValue::Flag(holds) => write!(out, "Flag {holds}"),
+        AttributeValue::DebugAddrIndexOffset(index, offset) => {
+            let index = index.0.into_u64();
+            write!(out, "DebugAddrIndexOffset {index} {offset}")
+        }
         _ => {
             let (name, number) = number_of(value);
             write!(out, "{name} {number}")

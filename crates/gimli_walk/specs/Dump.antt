@@ -6,7 +6,7 @@ use Rattle.gimli_base.specs.Refusal.{number_of}
 use Rattle.gimli_base.specs.View.{View}
 use Rattle.gimli_base.specs.Abbreviations.{map_at}
 use Rattle.gimli_units.specs.declared.unit_type.UnitType.{UnitType}
-use Rattle.gimli_units.specs.declared.unit_type.UnitType.TheVariants.{Compilation, TypeUnit, Partial, Skeleton, SplitCompilation, SplitType}
+use Rattle.gimli_units.specs.declared.unit_type.UnitType.TheVariants.{Compilation, TypeUnit, Partial, Skeleton, SplitCompilation, SplitType, Vendor}
 use Rattle.gimli_units.specs.Unit.{UnitView}
 use Rattle.gimli_headers.specs.Units.{Units, units_of}
 use Rattle.gimli_walk.specs.Lines.{Text, only, unit_line, error_line}
@@ -20,6 +20,7 @@ type_number Partial = 3
 type_number (Skeleton id) = 4
 type_number (SplitCompilation id) = 5
 type_number (SplitType signature offset) = 6
+type_number (Vendor code) = code.0
 
 -- a line before a text
 abbrev pub led_by : List ℕ → Text → Text

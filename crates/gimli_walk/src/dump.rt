@@ -107,5 +107,6 @@ fn number_of<O: ReaderOffset>(unit_type: UnitType<O>) -> u8
         UnitType::Skeleton(_) => 4,
         UnitType::SplitCompilation(_) => 5,
         UnitType::SplitType { .. } => 6,
+        UnitType::Vendor(code) => code.0,
     }
 }
