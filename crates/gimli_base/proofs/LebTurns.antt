@@ -1,5 +1,6 @@
 -- What a turn of a loop over the bytes of a LEB128 number shows, unsigned or signed.
-use Rattle.std.proofs.Common.{◌≡◌, ℕ, ◌+◌, ◌*◌, ◌<◌, ◌≤◌, ◌^◌, Ok, Err, refl, sym, ap, ◌∙◌, arith, rules, tests, add-one}
+use Rattle.std.proofs.Common.{◌≡◌, ℕ, ◌+◌, ◌*◌, ◌<◌, ◌≤◌, ◌^◌, Ok, Err, refl, sym, ap, ◌∙◌, arith}
+use Rattle.std.proofs.Common.{rules, tests, add-one}
 use Rattle.std.specs.Prelude.{if◌then◌else◌, nat_lt}
 use Rattle.std.proofs.Math.Nat.{pow-suc, pow-le-pow_right, mul-le-mul_right}
 use Rattle.gimli_base.specs.declared.error.Error.{Error}
@@ -7,11 +8,13 @@ use Rattle.gimli_base.specs.View.{View}
 use Rattle.gimli_base.specs.Reading.{Reads, made}
 
 -- a byte that is not below a limit
-pub not_below : {A : Type 0} (b limit : ℕ) (x y : Reads A) → limit ≤ b → (if nat_lt b limit then x else y) ≡ y
+pub not_below : {A : Type 0} (b limit : ℕ) (x y : Reads A) → limit ≤ b
+    → (if nat_lt b limit then x else y) ≡ y
 not_below b limit x y le = search (rules, tests)
 
 -- two makings are one
-made_twice : {A : Type 0} (f g h : A → A) (r : Reads A) → ((x : A) → f (g x) ≡ h x) → made f (made g r) ≡ made h r
+made_twice : {A : Type 0} (f g h : A → A) (r : Reads A) → ((x : A) → f (g x) ≡ h x)
+    → made f (made g r) ≡ made h r
 made_twice f g h (Ok p) e = rw (e p.0) refl
 made_twice f g h (Err x) e = refl
 
@@ -31,7 +34,8 @@ module _ {A : Type 0} (f : A → A) (whole rest : Reads A) (so_far : whole ≡ m
   turn_last x y w h e = sym (so_far ∙ ap (made f) h ∙ rw e refl)
 
   -- the rest is a byte in front of more
-  pub turn_more : (g h : A → A) (r : Reads A) → rest ≡ made g r → ((x : A) → f (g x) ≡ h x) → whole ≡ made h r
+  pub turn_more : (g h : A → A) (r : Reads A) → rest ≡ made g r → ((x : A) → f (g x) ≡ h x)
+      → whole ≡ made h r
   turn_more g h r e same = so_far ∙ ap (made f) e ∙ made_twice f g h r same
 
 -- seven more bits are scaled to the place of theirs

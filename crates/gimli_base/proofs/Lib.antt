@@ -1,3 +1,6 @@
+pub mod OneByte
+pub mod ItemTurns
+pub mod Both
 pub mod LebTurns
 pub mod UlebTurns
 pub mod SlebTurns

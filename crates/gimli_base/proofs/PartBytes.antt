@@ -1,7 +1,9 @@
 -- Numbers of less than eight bytes, in a word whose other bytes are 0.
-use Rattle.std.proofs.Common.{◌≡◌, ℕ, zero, suc, ◌+◌, ◌-◌, ◌≤◌, List, [], ◌∷◌, ◌++◌, length, take, drop, Ok, refl, sym, ap, ◌∙◌, arith, append_assoc}
+use Rattle.std.proofs.Common.{◌≡◌, ℕ, zero, suc, ◌+◌, ◌-◌, ◌≤◌, List, [], ◌∷◌, ◌++◌, length, take}
+use Rattle.std.proofs.Common.{drop, Ok, refl, sym, ap, ◌∙◌, arith, append_assoc}
 use Rattle.std.specs.Prelude.{Bool, true, false, replicate}
-use Rattle.std.proofs.lemmas.List.{append-nil, drop-drop, drop-replicate, take-replicate, reverse-append, length-take, length-drop}
+use Rattle.std.proofs.lemmas.List.{append-nil, drop-drop, drop-replicate, take-replicate}
+use Rattle.std.proofs.lemmas.List.{reverse-append, length-take, length-drop}
 use Rattle.std.proofs.lemmas.Grind.{replicate_next}
 use Rattle.gimli_base.specs.View.{View}
 use Rattle.gimli_base.specs.Reading.{bytes_at, uint_at, number}
@@ -23,11 +25,15 @@ behind_little : (n : ℕ) (xs : List ℕ) → number false (xs ++ replicate n 0)
 behind_little zero xs = rw (append-nil xs) refl
 behind_little (suc n) xs =
     let next : suc n ≡ n + 1 = omega arith in
-    let more : replicate (suc n) 0 ≡ replicate n 0 ++ 0 ∷ [] = ap (λ k. replicate k 0) next ∙ replicate_next n 0 in
-    ap (λ ys. number false (xs ++ ys)) more ∙ ap (number false) (sym (append_assoc xs (replicate n 0) (0 ∷ []))) ∙ behind_one (xs ++ replicate n 0) ∙ behind_little n xs
+    let more : replicate (suc n) 0
+    ≡ replicate n 0 ++ 0 ∷ [] = ap (λ k. replicate k 0) next ∙ replicate_next n 0 in
+    ap (λ ys. number false (xs ++ ys)) more
+    ∙ ap (number false) (sym (append_assoc xs (replicate n 0) (0 ∷ [])))
+    ∙ behind_one (xs ++ replicate n 0) ∙ behind_little n xs
 
 -- the last bytes of an empty word are written, in big endian
-pub last_bytes : (a k : ℕ) (xs : List ℕ) → a ≤ 8 → k ≡ 8 - a → number true (take a zeros ++ (xs ++ drop k (drop a zeros))) ≡ number true xs
+pub last_bytes : (a k : ℕ) (xs : List ℕ) → a ≤ 8 → k ≡ 8 - a
+    → number true (take a zeros ++ (xs ++ drop k (drop a zeros))) ≡ number true xs
 last_bytes a k xs le is =
     let all : a + k ≡ 8 = omega (arith, is, le) in
     let none : drop k (drop a zeros) ≡ [] = drop-drop k a zeros ∙ ap (λ n. drop n zeros) all in
@@ -47,7 +53,8 @@ pub last_length : (a k n : ℕ) → n ≤ 8 → a ≡ 8 - n → k ≡ 8 - a → 
 last_length a k n le is rest = simp (length-take, length-drop) (omega (arith, le, is, rest))
 
 -- bytes that were read, as a number
-pub number_read : (n m : ℕ) (v w : View) (xs ys : List ℕ) (big : Bool) (x : ℕ) → m ≡ n → Ok (xs, w) ≡ bytes_at m v
+pub number_read : (n m : ℕ) (v w : View) (xs ys : List ℕ) (big : Bool) (x : ℕ) → m ≡ n
+    → Ok (xs, w) ≡ bytes_at m v
     → x ≡ number big ys → number big ys ≡ number big xs → big ≡ v.big → Ok (x, w) ≡ uint_at n v
 unfolding uint_at
 number_read n m v w xs ys big x count h is same order =

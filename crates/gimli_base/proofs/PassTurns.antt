@@ -15,5 +15,6 @@ pub pass_last : (v w : View) (b : ℕ) → Ok (b, w) ≡ byte_at v → b < 128 �
 pass_last v w b h low = skip_leb_at-step v ∙ rw (← h, lt-ltb b 128 low) refl
 
 -- the others come behind another byte
-pub pass_more : (v w : View) (b : ℕ) → Ok (b, w) ≡ byte_at v → 128 ≤ b → skip_leb_at v ≡ skip_leb_at w
+pub pass_more : (v w : View) (b : ℕ) → Ok (b, w) ≡ byte_at v → 128 ≤ b
+    → skip_leb_at v ≡ skip_leb_at w
 pass_more v w b h high = skip_leb_at-step v ∙ rw (← h, le-ltb b 128 high) refl

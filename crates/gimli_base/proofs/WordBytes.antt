@@ -57,8 +57,12 @@ be_8 (a ∷ b ∷ c ∷ d ∷ e ∷ f ∷ g ∷ []) h = omega (arith, h)
 be_8 (a ∷ b ∷ c ∷ d ∷ e ∷ f ∷ g ∷ i ∷ j ∷ xs) h = omega (arith, h)
 
 -- what holds of any sixteen bytes holds of a list of that length
-sixteen : (P : List ℕ → Type 0) → ((a b c d e f g i j k l m n o p q : ℕ) → P (a ∷ b ∷ c ∷ d ∷ e ∷ f ∷ g ∷ i ∷ j ∷ k ∷ l ∷ m ∷ n ∷ o ∷ p ∷ q ∷ [])) → (xs : List ℕ) → length xs ≡ 16 → P xs
-sixteen P all (a ∷ b ∷ c ∷ d ∷ e ∷ f ∷ g ∷ i ∷ j ∷ k ∷ l ∷ m ∷ n ∷ o ∷ p ∷ q ∷ []) h = all a b c d e f g i j k l m n o p q
+sixteen : (P : List ℕ → Type 0)
+    → ((a b c d e f g i j k l m n o p q : ℕ)
+    → P (a ∷ b ∷ c ∷ d ∷ e ∷ f ∷ g ∷ i ∷ j ∷ k ∷ l ∷ m ∷ n ∷ o ∷ p ∷ q ∷ [])) → (xs : List ℕ)
+    → length xs ≡ 16 → P xs
+sixteen P all (a ∷ b ∷ c ∷ d ∷ e ∷ f ∷ g ∷ i ∷ j ∷ k ∷ l ∷ m ∷ n ∷ o ∷ p ∷ q ∷ []) h =
+    all a b c d e f g i j k l m n o p q
 sixteen P all [] h = absurd (cc)
 sixteen P all (a ∷ []) h = absurd (omega (arith, h))
 sixteen P all (a ∷ b ∷ []) h = absurd (omega (arith, h))
@@ -73,12 +77,17 @@ sixteen P all (a ∷ b ∷ c ∷ d ∷ e ∷ f ∷ g ∷ i ∷ j ∷ k ∷ []) h
 sixteen P all (a ∷ b ∷ c ∷ d ∷ e ∷ f ∷ g ∷ i ∷ j ∷ k ∷ l ∷ []) h = absurd (omega (arith, h))
 sixteen P all (a ∷ b ∷ c ∷ d ∷ e ∷ f ∷ g ∷ i ∷ j ∷ k ∷ l ∷ m ∷ []) h = absurd (omega (arith, h))
 sixteen P all (a ∷ b ∷ c ∷ d ∷ e ∷ f ∷ g ∷ i ∷ j ∷ k ∷ l ∷ m ∷ n ∷ []) h = absurd (omega (arith, h))
-sixteen P all (a ∷ b ∷ c ∷ d ∷ e ∷ f ∷ g ∷ i ∷ j ∷ k ∷ l ∷ m ∷ n ∷ o ∷ []) h = absurd (omega (arith, h))
-sixteen P all (a ∷ b ∷ c ∷ d ∷ e ∷ f ∷ g ∷ i ∷ j ∷ k ∷ l ∷ m ∷ n ∷ o ∷ p ∷ []) h = absurd (omega (arith, h))
-sixteen P all (a ∷ b ∷ c ∷ d ∷ e ∷ f ∷ g ∷ i ∷ j ∷ k ∷ l ∷ m ∷ n ∷ o ∷ p ∷ q ∷ r ∷ xs) h = absurd (omega (arith, h))
+sixteen P all (a ∷ b ∷ c ∷ d ∷ e ∷ f ∷ g ∷ i ∷ j ∷ k ∷ l ∷ m ∷ n ∷ o ∷ []) h =
+    absurd (omega (arith, h))
+sixteen P all (a ∷ b ∷ c ∷ d ∷ e ∷ f ∷ g ∷ i ∷ j ∷ k ∷ l ∷ m ∷ n ∷ o ∷ p ∷ []) h =
+    absurd (omega (arith, h))
+sixteen P all (a ∷ b ∷ c ∷ d ∷ e ∷ f ∷ g ∷ i ∷ j ∷ k ∷ l ∷ m ∷ n ∷ o ∷ p ∷ q ∷ r ∷ xs) h =
+    absurd (omega (arith, h))
 
 pub le_16 : (xs : List ℕ) → length xs ≡ 16 → from_le_bytes w128 xs ≡ number false xs
-le_16 xs h = sixteen (λ ys. from_le_bytes w128 ys ≡ number false ys) (λ a b c d e f g i j k l m n o p q. omega arith) xs h
+le_16 xs h = sixteen (λ ys. from_le_bytes w128 ys ≡ number false ys)
+    (λ a b c d e f g i j k l m n o p q. omega arith) xs h
 
 pub be_16 : (xs : List ℕ) → length xs ≡ 16 → from_be_bytes w128 xs ≡ number true xs
-be_16 xs h = sixteen (λ ys. from_be_bytes w128 ys ≡ number true ys) (λ a b c d e f g i j k l m n o p q. omega arith) xs h
+be_16 xs h = sixteen (λ ys. from_be_bytes w128 ys ≡ number true ys)
+    (λ a b c d e f g i j k l m n o p q. omega arith) xs h

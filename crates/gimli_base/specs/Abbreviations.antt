@@ -1,13 +1,19 @@
--- The declarations of abbreviations, and the finite map of codes to declarations that they make (DWARF 5, 7.5.3).
-use Rattle.std.specs.Prelude.{◌≡◌, ℕ, ℤ, Bool, true, false, ◌||◌, ◌==◌, if◌then◌else◌, is_some, List, [], ◌∷◌, Option, Some, None, Result, Ok, Err}
+-- The declarations of abbreviations, and the finite map of codes to declarations that they make
+-- (DWARF 5, 7.5.3).
+use Rattle.std.specs.Prelude.{◌≡◌, ℕ, ℤ, Bool, true, false, ◌||◌, ◌==◌, if◌then◌else◌, is_some}
+use Rattle.std.specs.Prelude.{List, [], ◌∷◌, Option, Some, None, Result, Ok, Err}
 use Rattle.gimli_base.specs.declared.constants.DwTag.{DwTag}
 use Rattle.gimli_base.specs.declared.constants.DwAt.{DwAt}
 use Rattle.gimli_base.specs.declared.constants.DwForm.{DwForm}
 use Rattle.gimli_base.specs.declared.error.Error.{Error}
-use Rattle.gimli_base.specs.declared.error.Error.TheVariants.{AbbreviationTagZero, InvalidAbbreviationChildren, AttributeNameZero, AttributeFormZero, DuplicateAbbreviationCode}
+use Rattle.gimli_base.specs.declared.error.Error.TheVariants.{AbbreviationTagZero}
+use Rattle.gimli_base.specs.declared.error.Error.TheVariants.{InvalidAbbreviationChildren}
+use Rattle.gimli_base.specs.declared.error.Error.TheVariants.{AttributeNameZero, AttributeFormZero}
+use Rattle.gimli_base.specs.declared.error.Error.TheVariants.{DuplicateAbbreviationCode}
 use Rattle.gimli_base.specs.View.{View}
 use Rattle.gimli_base.specs.Items.{Items, items_at, whole}
-use Rattle.gimli_base.specs.Reading.{Reads, ◌>>=◌, made, byte_at, uleb_at, uleb16_at, sleb_at, skip_at}
+use Rattle.gimli_base.specs.Reading.{Reads, ◌>>=◌, made, byte_at, uleb_at, uleb16_at, sleb_at}
+use Rattle.gimli_base.specs.Reading.{skip_at}
 
 -- a declared attribute: its name, its form, and the number that the form implicit_const has here
 pub record Specification : Type 0 where
@@ -26,14 +32,24 @@ pub record Declaration : Type 0 where
   pub has_children : Bool
   pub attributes : List Specification
 
--- the next declared attribute, or none where two zeros end the list; 0x21 is implicit_const, whose number follows
+-- the next declared attribute, or none where two zeros end the list; 0x21 is implicit_const, whose
+-- number follows
 unfoldable pub specification_at : View → Reads (Option Specification)
 specification_at v =
     uleb16_at v >>= λ name. uleb16_at name.1 >>= λ form.
     if name.0 == 0 then (if form.0 == 0 then Ok (None, form.1) else Err AttributeNameZero)
     else if form.0 == 0 then Err AttributeFormZero
-    else if form.0 == 0x21 then made (λ n. Some (record { name = record { 0 = name.0 }; form = record { 0 = form.0 }; constant = Some n })) (sleb_at form.1)
-    else Ok (Some (record { name = record { 0 = name.0 }; form = record { 0 = form.0 }; constant = None }), form.1)
+    else if form.0 == 0x21
+    then made
+    (λ n.
+    Some
+    (record { name = record { 0 = name.0 }; form = record { 0 = form.0 }; constant = Some n }))
+    (sleb_at form.1)
+    else Ok (
+      Some
+          (record { name = record { 0 = name.0 }; form = record { 0 = form.0 }; constant = None }),
+      form.1,
+    )
 
 -- the declared attributes up to two zeros
 unfoldable pub specifications_at : View → Reads (List Specification)
@@ -41,21 +57,25 @@ specifications_at v = whole (items_at specification_at v)
 
 -- the byte that says whether the entries have children
 unfoldable pub children_at : View → Reads Bool
-children_at v = byte_at v >>= λ p. if p.0 == 0 then Ok (false, p.1) else if p.0 == 1 then Ok (true, p.1) else Err InvalidAbbreviationChildren
+children_at v = byte_at v >>= λ p. if p.0 == 0 then Ok (false, p.1)
+    else if p.0 == 1 then Ok (true, p.1) else Err InvalidAbbreviationChildren
 
 -- the tag of a declaration
 unfoldable pub tag_at : View → Reads DwTag
-tag_at v = uleb16_at v >>= λ p. if p.0 == 0 then Err AbbreviationTagZero else Ok (record { 0 = p.0 }, p.1)
+tag_at v = uleb16_at v >>= λ p. if p.0 == 0 then Err AbbreviationTagZero
+    else Ok (record { 0 = p.0 }, p.1)
 
 -- the declaration of a code
 unfoldable pub declared_at : ℕ → View → Reads Declaration
 declared_at code v =
     tag_at v >>= λ tag. children_at tag.1 >>= λ children.
-    made (λ ss. record { code = code; tag = tag.0; has_children = children.0; attributes = ss }) (specifications_at children.1)
+    made (λ ss. record { code = code; tag = tag.0; has_children = children.0; attributes = ss })
+    (specifications_at children.1)
 
 -- the next declaration, or none where the code 0 ends the table
 unfoldable pub declaration_at : View → Reads (Option Declaration)
-declaration_at v = uleb_at v >>= λ p. if p.0 == 0 then Ok (None, p.1) else made Some (declared_at p.0 p.1)
+declaration_at v = uleb_at v >>= λ p. if p.0 == 0 then Ok (None, p.1)
+    else made Some (declared_at p.0 p.1)
 
 -- the declarations up to the code 0
 unfoldable pub declarations_at : View → Items Declaration

@@ -1,4 +1,5 @@
--- Addresses of a size: which stand for none, by the habit of linkers, their sums, and the address at an index of a table (DWARF 5, 7.27).
+-- Addresses of a size: which stand for none, by the habit of linkers, their sums, and the address
+-- at an index of a table (DWARF 5, 7.27).
 use Rattle.std.specs.Prelude.{ℕ, ◌+◌, ◌-◌, ◌*◌, ◌%◌, ◌^◌, nat_le, if◌then◌else◌, Result, Ok, Err}
 use Rattle.gimli_base.specs.declared.error.Error.{Error}
 use Rattle.gimli_base.specs.declared.error.Error.TheVariants.{AddressOverflow}
@@ -15,7 +16,9 @@ min_tombstone size = 256 ^ size - 2
 
 -- the sum of an address of a size and a length, refused where it needs more bits
 abbrev pub sum_sized : ℕ → ℕ → ℕ → Result ℕ Error
-sum_sized size address length = if nat_le (address + length) (ones_sized size) then Ok (address + length) else Err AddressOverflow
+sum_sized size address length =
+    if nat_le (address + length) (ones_sized size) then Ok (address + length)
+    else Err AddressOverflow
 
 -- the sum of an address of a size and a length, without the bits that do not fit
 abbrev pub wrapped_sum : ℕ → ℕ → ℕ → ℕ
@@ -26,8 +29,8 @@ abbrev pub alone : {A : Type 0} → Reads A → Result A Error
 alone (Ok p) = Ok p.0
 alone (Err e) = Err e
 
--- The address at an index of a table of addresses of a size: the table begins at `base`, and the number of bytes before
--- the address has to be an offset of the reader.
+-- The address at an index of a table of addresses of a size: the table begins at `base`, and the
+-- number of bytes before the address has to be an offset of the reader.
 unfoldable pub table_address : ℕ → ℕ → ℕ → ℕ → View → Result ℕ Error
 table_address limit size base index v =
     alone (skip_at base v >>= λ table. as_offset limit (Ok (index * size, table.1)) >>= λ before.

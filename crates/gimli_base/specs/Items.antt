@@ -1,5 +1,7 @@
--- Items that are read one behind the other, up to a mark that ends them, as tables and lists of DWARF are laid out.
-use Rattle.std.specs.Prelude.{ℕ, zero, suc, List, [], ◌∷◌, ◌++◌, length, Option, Some, None, Result, Ok, Err}
+-- Items that are read one behind the other, up to a mark that ends them, as tables and lists of
+-- DWARF are laid out.
+use Rattle.std.specs.Prelude.{ℕ, zero, suc, List, [], ◌∷◌, ◌++◌, length, Option, Some, None, Result}
+use Rattle.std.specs.Prelude.{Ok, Err}
 use Rattle.gimli_base.specs.declared.error.Error.{Error}
 use Rattle.gimli_base.specs.View.{View}
 use Rattle.gimli_base.specs.Reading.{Reads, eof}
@@ -16,9 +18,12 @@ before xs r = record { items = xs ++ r.items; ending = r.ending }
 -- a read of an item, and then the others from what it leaves
 abbrev pub then_items : {A : Type 0} → Reads (Option A) → (View → Items A) → Items A
 then_items (Err e) others = record { items = []; ending = Err e }
-then_items (Ok p) others = elim p.0 [ None ↦ record { items = []; ending = Ok p.1 } | Some a ↦ before (a ∷ []) (others p.1) ]
+then_items (Ok p) others =
+    elim p.0
+    [ None ↦ record { items = []; ending = Ok p.1 } | Some a ↦ before (a ∷ []) (others p.1) ]
 
--- the items that `next` reads up to none; each takes a byte at least, so that a number above that of the bytes is enough
+-- the items that `next` reads up to none; each takes a byte at least, so that a number above that
+-- of the bytes is enough
 unfoldable pub items_within : {A : Type 0} → (View → Reads (Option A)) → ℕ → View → Items A
 items_within next zero v = record { items = []; ending = Err (eof v) }
 items_within next (suc n) v = then_items (next v) (items_within next n)

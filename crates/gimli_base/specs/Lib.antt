@@ -4,15 +4,12 @@ pub mod Order
 pub mod Range
 pub mod Reading
 pub mod Refusal
-pub mod OneByte
 pub mod Items
 pub mod Later
 pub mod Taken
 pub mod Passed
-pub mod ItemTurns
 pub mod Abbreviations
 pub mod Table
-pub mod Both
 pub mod Width
 pub mod Address
 pub mod ListsBase

@@ -1,5 +1,7 @@
--- Numbers that are offsets of a reader: those below a limit, which the reader's type of offsets has (DWARF 5, 7.4).
-use Rattle.std.specs.Prelude.{ℕ, ◌+◌, ◌-◌, nat_lt, nat_le, if◌then◌else◌, Option, Some, None, Result, Ok, Err}
+-- Numbers that are offsets of a reader: those below a limit, which the reader's type of offsets has
+-- (DWARF 5, 7.4).
+use Rattle.std.specs.Prelude.{ℕ, ◌+◌, ◌-◌, nat_lt, nat_le, if◌then◌else◌, Option, Some, None}
+use Rattle.std.specs.Prelude.{Result, Ok, Err}
 use Rattle.gimli_base.specs.declared.error.Error.{Error}
 use Rattle.gimli_base.specs.declared.error.Error.TheVariants.{UnsupportedOffset}
 

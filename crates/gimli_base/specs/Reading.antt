@@ -1,8 +1,16 @@
--- What each read makes of a view: a value and the view that is left, or a refusal (DWARF 5, 7.2.2, 7.4 and 7.6).
-use Rattle.std.specs.Prelude.{Option, ◌≡◌, ℕ, zero, suc, ◌+◌, ◌*◌, ◌-◌, nat_lt, nat_le, if◌then◌else◌, Bool, List, [], ◌∷◌, length, take, reverse, slice_index, Result, Ok, Err, ◌==◌, ◌||◌, ◌&&◌, Some, None, ℤ, pos, ◌+ℤ◌, ◌-ℤ◌, ◌*ℤ◌}
+-- What each read makes of a view: a value and the view that is left, or a refusal (DWARF 5, 7.2.2,
+-- 7.4 and 7.6).
+use Rattle.std.specs.Prelude.{Option, ◌≡◌, ℕ, zero, suc, ◌+◌, ◌*◌, ◌-◌, nat_lt, nat_le}
+use Rattle.std.specs.Prelude.{if◌then◌else◌, Bool, List, [], ◌∷◌, length, take, reverse}
+use Rattle.std.specs.Prelude.{slice_index, Result, Ok, Err, ◌==◌, ◌||◌, ◌&&◌, Some, None, ℤ, pos}
+use Rattle.std.specs.Prelude.{◌+ℤ◌, ◌-ℤ◌, ◌*ℤ◌}
 use Rattle.std.specs.List.{position}
 use Rattle.gimli_base.specs.declared.error.Error.{Error}
-use Rattle.gimli_base.specs.declared.error.Error.TheVariants.{UnexpectedEof, BadUnsignedLeb128, BadSignedLeb128, UnknownReservedLength, UnsupportedAddressSize, UnsupportedOffsetSize, OutOfMemory}
+use Rattle.gimli_base.specs.declared.error.Error.TheVariants.{UnexpectedEof, BadUnsignedLeb128}
+use Rattle.gimli_base.specs.declared.error.Error.TheVariants.{BadSignedLeb128}
+use Rattle.gimli_base.specs.declared.error.Error.TheVariants.{UnknownReservedLength}
+use Rattle.gimli_base.specs.declared.error.Error.TheVariants.{UnsupportedAddressSize}
+use Rattle.gimli_base.specs.declared.error.Error.TheVariants.{UnsupportedOffsetSize, OutOfMemory}
 use Rattle.gimli_base.specs.declared.common.Format.{Format}
 use Rattle.gimli_base.specs.declared.common.Format.TheVariants.{Dwarf32, Dwarf64}
 use Rattle.gimli_base.specs.Offset.{offset_of}
@@ -45,7 +53,8 @@ truncate_at n v = if nat_le n (length v.bytes) then Ok (tt, front n v) else Err 
 
 -- the number of bytes before a place, where the place is from the first to the end
 unfoldable pub lookup_at : ℕ → View → Option ℕ
-lookup_at place v = if nat_le v.place place && nat_le place (v.place + length v.bytes) then Some (place - v.place) else None
+lookup_at place v = if nat_le v.place place
+    && nat_le place (v.place + length v.bytes) then Some (place - v.place) else None
 
 -- the next byte
 unfoldable pub byte_at : View → Reads ℕ
@@ -73,12 +82,13 @@ number big xs = digits 0 (if big then xs else reverse xs)
 unfoldable pub uint_at : ℕ → View → Reads ℕ
 uint_at n v = made (number v.big) (bytes_at n v)
 
--- an unsigned LEB128 number of at most n + 1 bytes: 7 bits a byte, lowest first, up to a byte below 128;
--- the last byte that there may be is at most `top`
+-- an unsigned LEB128 number of at most n + 1 bytes: 7 bits a byte, lowest first, up to a byte below
+-- 128; the last byte that there may be is at most `top`
 unfoldable pub uleb_within : ℕ → ℕ → View → Reads ℕ
 uleb_within top zero v = byte_at v >>= λ p. if nat_le p.0 top then Ok p else Err BadUnsignedLeb128
 uleb_within top (suc n) v =
-    byte_at v >>= λ p. if nat_lt p.0 128 then Ok p else made (λ m. p.0 - 128 + 128 * m) (uleb_within top n p.1)
+    byte_at v >>= λ p. if nat_lt p.0 128 then Ok p
+    else made (λ m. p.0 - 128 + 128 * m) (uleb_within top n p.1)
 
 -- the next unsigned LEB128 number of 64 bits: ten bytes, the tenth with one bit
 unfoldable pub uleb_at : View → Reads ℕ
@@ -88,13 +98,16 @@ uleb_at v = uleb_within 1 9 v
 unfoldable pub uleb16_at : View → Reads ℕ
 uleb16_at v = uleb_within 3 2 v
 
--- a signed LEB128 number of at most n + 1 bytes: 7 bits a byte, lowest first, up to a byte below 128, of which
--- the bit 64 is the sign; the last byte that there may be is 0 or 127, and is the sign alone
+-- a signed LEB128 number of at most n + 1 bytes: 7 bits a byte, lowest first, up to a byte below
+-- 128, of which the bit 64 is the sign; the last byte that there may be is 0 or 127, and is the
+-- sign alone
 unfoldable pub sleb_within : ℕ → View → Reads ℤ
 sleb_within zero v =
-    byte_at v >>= λ p. if p.0 == 0 then Ok (pos 0, p.1) else if p.0 == 127 then Ok (pos 0 -ℤ pos 1, p.1) else Err BadSignedLeb128
+    byte_at v >>= λ p. if p.0 == 0 then Ok (pos 0, p.1)
+    else if p.0 == 127 then Ok (pos 0 -ℤ pos 1, p.1) else Err BadSignedLeb128
 sleb_within (suc n) v =
-    byte_at v >>= λ p. if nat_lt p.0 64 then Ok (pos p.0, p.1) else if nat_lt p.0 128 then Ok (pos p.0 -ℤ pos 128, p.1)
+    byte_at v >>= λ p. if nat_lt p.0 64 then Ok (pos p.0, p.1)
+    else if nat_lt p.0 128 then Ok (pos p.0 -ℤ pos 128, p.1)
     else made (λ z. pos (p.0 - 128) +ℤ (pos 128 *ℤ z)) (sleb_within n p.1)
 
 -- the next signed LEB128 number of 64 bits
@@ -103,7 +116,8 @@ sleb_at v = sleb_within 9 v
 
 -- passes a LEB128 number of any length: the bytes before the first below 128, and that one
 unfoldable pub skip_leb_at : View → Reads (Unit {0})
-skip_leb_at v = elim (position (λ b. nat_lt b 128) v.bytes) [ Some n ↦ Ok (tt, cut (n + 1) v) | None ↦ Err (eof (ended v)) ]
+skip_leb_at v = elim (position (λ b. nat_lt b 128) v.bytes)
+    [ Some n ↦ Ok (tt, cut (n + 1) v) | None ↦ Err (eof (ended v)) ]
 
 -- a number that was read, as an offset
 abbrev pub as_offset : ℕ → Reads ℕ → Reads ℕ
@@ -133,7 +147,8 @@ is_size z = z == 1 || z == 2 || z == 4 || z == 8
 
 -- the next offset of a size that is named
 unfoldable pub sized_offset_at : ℕ → ℕ → View → Reads ℕ
-sized_offset_at limit z v = if is_size z then uint_offset_at limit z v else Err (UnsupportedOffsetSize z)
+sized_offset_at limit z v =
+    if is_size z then uint_offset_at limit z v else Err (UnsupportedOffsetSize z)
 
 -- a length, and the format that it shows
 unfoldable pub initial_length_at : ℕ → View → Reads (ℕ × Format)
@@ -148,7 +163,8 @@ address_at z v = if is_size z then uint_at z v else Err (UnsupportedAddressSize 
 
 -- the next byte, as the size of an address
 unfoldable pub address_size_at : View → Reads ℕ
-address_size_at v = byte_at v >>= λ p. if is_size p.0 then Ok p else Err (UnsupportedAddressSize p.0)
+address_size_at v = byte_at v >>= λ p. if is_size p.0 then Ok p
+    else Err (UnsupportedAddressSize p.0)
 
 -- the number of bytes before the first that is b; refused where there is none
 unfoldable pub find_at : ℕ → View → Result ℕ Error

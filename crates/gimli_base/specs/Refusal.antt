@@ -1,7 +1,25 @@
 -- The number of each refusal, by which tools name it.
 use Rattle.std.specs.Prelude.{ℕ}
 use Rattle.gimli_base.specs.declared.error.Error.{Error}
-use Rattle.gimli_base.specs.declared.error.Error.TheVariants.{UnexpectedEof, BadUnsignedLeb128, BadSignedLeb128, UnknownReservedLength, UnknownVersion, UnknownUnitType, UnsupportedAddressSize, UnsupportedSegmentSize, UnsupportedOffset, UnsupportedOffsetSize, OffsetOutOfBounds, NoEntryAtGivenOffset, InvalidAbbreviationCode, UnknownForm, InvalidImplicitConst, UnknownRangeListsEntry, UnknownLocListsEntry, AddressOverflow, AbbreviationTagZero, InvalidAbbreviationChildren, AttributeNameZero, AttributeFormZero, DuplicateAbbreviationCode, OutOfMemory}
+use Rattle.gimli_base.specs.declared.error.Error.TheVariants.{UnexpectedEof, BadUnsignedLeb128}
+use Rattle.gimli_base.specs.declared.error.Error.TheVariants.{BadSignedLeb128}
+use Rattle.gimli_base.specs.declared.error.Error.TheVariants.{UnknownReservedLength, UnknownVersion}
+use Rattle.gimli_base.specs.declared.error.Error.TheVariants.{UnknownUnitType}
+use Rattle.gimli_base.specs.declared.error.Error.TheVariants.{UnsupportedAddressSize}
+use Rattle.gimli_base.specs.declared.error.Error.TheVariants.{UnsupportedSegmentSize}
+use Rattle.gimli_base.specs.declared.error.Error.TheVariants.{UnsupportedOffset}
+use Rattle.gimli_base.specs.declared.error.Error.TheVariants.{UnsupportedOffsetSize}
+use Rattle.gimli_base.specs.declared.error.Error.TheVariants.{OffsetOutOfBounds}
+use Rattle.gimli_base.specs.declared.error.Error.TheVariants.{NoEntryAtGivenOffset}
+use Rattle.gimli_base.specs.declared.error.Error.TheVariants.{InvalidAbbreviationCode, UnknownForm}
+use Rattle.gimli_base.specs.declared.error.Error.TheVariants.{InvalidImplicitConst}
+use Rattle.gimli_base.specs.declared.error.Error.TheVariants.{UnknownRangeListsEntry}
+use Rattle.gimli_base.specs.declared.error.Error.TheVariants.{UnknownLocListsEntry, AddressOverflow}
+use Rattle.gimli_base.specs.declared.error.Error.TheVariants.{AbbreviationTagZero}
+use Rattle.gimli_base.specs.declared.error.Error.TheVariants.{InvalidAbbreviationChildren}
+use Rattle.gimli_base.specs.declared.error.Error.TheVariants.{AttributeNameZero, AttributeFormZero}
+use Rattle.gimli_base.specs.declared.error.Error.TheVariants.{DuplicateAbbreviationCode}
+use Rattle.gimli_base.specs.declared.error.Error.TheVariants.{OutOfMemory}
 
 abbrev pub number_of : Error → ℕ
 number_of (UnexpectedEof place) = 1

@@ -13,4 +13,5 @@ pub record Table : Type 0 where
 -- what is declared under a code
 unfoldable pub found : Table → Map
 found t code =
-    if (nat_lt 0 code && nat_lt (code - 1) (length t.dense)) then slice_get t.dense (code - 1) else lookup (is_at (nat_cmp code)) t.others
+    if (nat_lt 0 code && nat_lt (code - 1) (length t.dense)) then slice_get t.dense (code - 1)
+    else lookup (is_at (nat_cmp code)) t.others

@@ -1,8 +1,10 @@
--- How many bytes the value of a form takes, where that is known before it is read (DWARF 5, 7.5.6, table 7.6).
+-- How many bytes the value of a form takes, where that is known before it is read (DWARF 5, 7.5.6,
+-- table 7.6).
 use Rattle.std.specs.Prelude.{ℕ, ◌==◌, if◌then◌else◌, List, [], ◌∷◌, Option, Some, None}
 use Rattle.gimli_base.specs.declared.common.Encoding.{Encoding}
 use Rattle.gimli_base.specs.declared.width.Width.{Width}
-use Rattle.gimli_base.specs.declared.width.Width.TheVariants.{Fixed, Address, Word, Reference, Unknown}
+use Rattle.gimli_base.specs.declared.width.Width.TheVariants.{Fixed, Address, Word, Reference}
+use Rattle.gimli_base.specs.declared.width.Width.TheVariants.{Unknown}
 use Rattle.gimli_base.specs.Reading.{word_size_of}
 
 -- every form but indirect, by its code

@@ -1,6 +1,7 @@
 //! Abbreviations: the declared shapes of entries (DWARF 5, 7.5.3).
 
-ghost use Rattle.std.specs.Prelude.{ℕ, ◌≡◌, ◌≢◌, ◌==◌, [], is_some, if◌then◌else◌, Some, None, Option, OnOk, IfErr, IsSome};
+ghost use Rattle.std.specs.Prelude.{ℕ, ◌≡◌, ◌≢◌, ◌==◌, [], is_some, if◌then◌else◌, Some, None};
+ghost use Rattle.std.specs.Prelude.{Option, OnOk, IfErr, IsSome};
 ghost use Rattle.std.specs.Option.{option_copied};
 ghost use Rattle.gimli_base.specs.declared.common.SectionId.TheVariants.{DebugAbbrev as AbbrevSection};
 ghost use Rattle.gimli_base.specs.Abbreviations.{
@@ -44,17 +45,26 @@ pub struct AttributeSpecification {
 impl Model for AttributeSpecification {
     ghost Value = { Specification };
 
-    ghost view = { λ s. record { name = s.name; form = s.form; constant = s.implicit_const_value } };
+    ghost view = { λ s.
+        record { name = s.name; form = s.form; constant = s.implicit_const_value } };
 
-    ghost inverse = { λ s. record { name = s.name; form = s.form; width = width_of s.form.0; implicit_const_value = s.constant } };
+    ghost inverse = { λ s.
+        record {
+          name = s.name;
+          form = s.form;
+          width = width_of s.form.0;
+          implicit_const_value = s.constant;
+        } };
 
-    ghost invariant = { λ s. (is_some s.implicit_const_value ≡ (s.form.0 == 0x21)) × (s.width ≡ width_of s.form.0) };
+    ghost invariant = { λ s. (is_some s.implicit_const_value ≡ (s.form.0 == 0x21))
+        × (s.width ≡ width_of s.form.0) };
 }
 
 impl AttributeSpecification {
     /// A declared attribute; a number stands exactly with the form implicit_const.
     pub fn new(name: DwAt, form: DwForm, implicit_const_value: Option<i64>) -> Self
-        requires { IsWellFormed (record { name = name; form = form; constant = implicit_const_value }) }
+        requires { IsWellFormed
+            (record { name = name; form = form; constant = implicit_const_value }) }
         ensures { result ≡ record { name = name; form = form; constant = implicit_const_value } }
     {
         AttributeSpecification {
@@ -90,7 +100,8 @@ impl AttributeSpecification {
         self.implicit_const_value
     }
 
-    /// The number of bytes of the form's value under an encoding, where it does not depend on the bytes (DWARF 5, 7.5.6).
+    /// The number of bytes of the form's value under an encoding, where it does not depend on the
+    /// bytes (DWARF 5, 7.5.6).
     #[inline]
     pub fn size(&self, encoding: Encoding) -> Option<u8>
         ensures { result ≡ form_size encoding self.now.form.0 }
@@ -98,8 +109,8 @@ impl AttributeSpecification {
         self.width.size(encoding)
     }
 
-    // The next declared attribute, or none where two zeros end the list; where it is refused, the input is left
-    // anywhere.
+    // The next declared attribute, or none where two zeros end the list; where it is refused, the
+    // input is left anywhere.
     #[tactic(auto, unfolding(crate::specs::Abbreviations::specification_at))]
     fn parse<R: Reader>(input: &mut R) -> Result<Option<AttributeSpecification>>
         ensures { read result (R.view input.new) ≡ specification_at (R.view input.old) }
@@ -119,7 +130,8 @@ impl AttributeSpecification {
     }
 }
 
-/// The declaration of an abbreviation: a code, and the tag, the children flag and the attributes of its entries.
+/// The declaration of an abbreviation: a code, and the tag, the children flag and the attributes of
+/// its entries.
 #[derive(Drop)]
 #[derive_where(Debug)]
 pub struct Abbreviation<A: Allocator> {
@@ -132,7 +144,13 @@ pub struct Abbreviation<A: Allocator> {
 impl<A: Allocator> Model for Abbreviation<A> {
     ghost Value = { Declaration };
 
-    ghost view = { λ a. record { code = a.code; tag = a.tag; has_children = a.has_children; attributes = a.attributes.items } };
+    ghost view = { λ a.
+        record {
+          code = a.code;
+          tag = a.tag;
+          has_children = a.has_children;
+          attributes = a.attributes.items;
+        } };
 
     ghost invariant = { λ a. a.tag.0 ≢ 0 };
 }
@@ -173,10 +191,11 @@ impl<A: Allocator> Abbreviation<A> {
 }
 
 impl<A: Allocator + Copy> Abbreviation<A> {
-    // The declaration of a code, which is read already; where it is refused, the input is left anywhere.
+    // The declaration of a code, which is read already; where it is refused, the input is left
+    // anywhere.
     //
-    // The attributes go through `scratch`, a list that is used again for each declaration, so that each gets one list
-    // of just its size.
+    // The attributes go through `scratch`, a list that is used again for each declaration, so that
+    // each gets one list of just its size.
     #[tactic(auto, unfolding(crate::specs::Abbreviations::declared_at, crate::specs::Abbreviations::tag_at, crate::specs::Abbreviations::children_at))]
     fn parse_declared<R: Reader>(
         alloc: A,
@@ -184,7 +203,8 @@ impl<A: Allocator + Copy> Abbreviation<A> {
         scratch: &mut Vec<AttributeSpecification, A>,
         code: u64,
     ) -> Result<Abbreviation<A>>
-        ensures { UnlessMemory result (read result (R.view input.new) ≡ declared_at code (R.view input.old)) }
+        ensures { UnlessMemory result
+            (read result (R.view input.new) ≡ declared_at code (R.view input.old)) }
     {
         let tag = DwTag(input.read_uleb128_u16()?);
         if tag == DW_TAG_null {
@@ -205,14 +225,16 @@ impl<A: Allocator + Copy> Abbreviation<A> {
         })
     }
 
-    // The next declaration, or none where the code 0 ends the table; where it is refused, the input is left anywhere.
+    // The next declaration, or none where the code 0 ends the table; where it is refused, the input
+    // is left anywhere.
     #[tactic(auto, unfolding(crate::specs::Abbreviations::declaration_at))]
     fn parse<R: Reader>(
         alloc: A,
         input: &mut R,
         scratch: &mut Vec<AttributeSpecification, A>,
     ) -> Result<Option<Abbreviation<A>>>
-        ensures { UnlessMemory result (read result (R.view input.new) ≡ declaration_at (R.view input.old)) }
+        ensures { UnlessMemory result
+            (read result (R.view input.new) ≡ declaration_at (R.view input.old)) }
     {
         let code = input.read_uleb128()?;
         if code == 0 {
@@ -223,13 +245,15 @@ impl<A: Allocator + Copy> Abbreviation<A> {
     }
 }
 
-// The declared attributes up to two zeros, in place of those in `attributes`; where they are refused, the input and
-// the list are left anywhere.
+// The declared attributes up to two zeros, in place of those in `attributes`; where they are
+// refused, the input and the list are left anywhere.
 fn parse_specifications<R: Reader, A: Allocator>(
     input: &mut R,
     attributes: &mut Vec<AttributeSpecification, A>,
 ) -> Result<()>
-    ensures { UnlessMemory result (read (filled attributes.new.items result) (R.view input.new) ≡ specifications_at (R.view input.old)) }
+    ensures { UnlessMemory result
+        (read (filled attributes.new.items result) (R.view input.new)
+        ≡ specifications_at (R.view input.old)) }
 {
     attributes.clear();
     while let Some(specification) = AttributeSpecification::parse(input)? {
@@ -254,8 +278,8 @@ impl<A: Allocator> Model for Abbreviations<A> {
 }
 
 impl<A: Allocator> Abbreviations<A> {
-    /// The declaration of a code, if there is one: in constant time where the codes 1, 2, .. are declared in order,
-    /// else in logarithmic time.
+    /// The declaration of a code, if there is one: in constant time where the codes 1, 2, .. are
+    /// declared in order, else in logarithmic time.
     #[inline]
     #[tactic(auto, unfolding(crate::specs::Table::found))]
     pub fn get(&self, code: u64) -> Option<&Abbreviation<A>>
@@ -284,9 +308,13 @@ impl<A: Allocator + Copy> Abbreviations<A> {
 
     // Adds a declaration. A code that is declared already is refused.
     fn insert(&mut self, declared: Abbreviation<A>) -> Result<()>
-        ensures ok { OnOk result ((code : ℕ) → found self.new code ≡ (if declared.code == code then Some declared else found self.old code)) }
+        ensures ok { OnOk result
+            ((code : ℕ) → found self.new code
+            ≡ (if declared.code == code then Some declared else found self.old code)) }
         ensures new { OnOk result (found self.old declared.code ≡ None) }
-        ensures refused { UnlessMemory result (IfErr result (λ e. (e ≡ Error.DuplicateAbbreviationCode) × IsSome (found self.old declared.code))) }
+        ensures refused { UnlessMemory result
+            (IfErr result
+            (λ e. (e ≡ Error.DuplicateAbbreviationCode) × IsSome (found self.old declared.code))) }
     {
         let code = declared.code;
         if self.get(code).is_some() {
@@ -300,9 +328,11 @@ impl<A: Allocator + Copy> Abbreviations<A> {
         Ok(())
     }
 
-    // The table of the declarations up to the code 0; where it is refused, the input is left anywhere.
+    // The table of the declarations up to the code 0; where it is refused, the input is left
+    // anywhere.
     fn parse<R: Reader>(alloc: A, input: &mut R) -> Result<Abbreviations<A>>
-        ensures { UnlessMemory result (answer_of found result ≡ map_of (declarations_at (R.view input.old))) }
+        ensures { UnlessMemory result
+            (answer_of found result ≡ map_of (declarations_at (R.view input.old))) }
     {
         let mut scratch = Vec::new(alloc);
         let mut table = Abbreviations::new(alloc);
@@ -322,7 +352,8 @@ pub struct DebugAbbrev<R> {
 impl<'a, E: Endianity> DebugAbbrev<EndianSlice<'a, E>> {
     /// The section of these bytes.
     pub fn new(bytes: &'a [u8], endian: E) -> Self
-        ensures { ⟦<DebugAbbrev<EndianSlice<'a, E>> as Section<EndianSlice<'a, E>>>⟧.content result ≡ record { big = E.big endian; place = 0; bytes = bytes.now } }
+        ensures { ⟦<DebugAbbrev<EndianSlice<'a, E>> as Section<EndianSlice<'a, E>>>⟧.content result
+            ≡ record { big = E.big endian; place = 0; bytes = bytes.now } }
     {
         DebugAbbrev {
             section: EndianSlice::new(bytes, endian),
@@ -355,25 +386,31 @@ impl<R: Reader> Section<R> for DebugAbbrev<R> {
 impl<R: Reader> DebugAbbrev<R> {
     /// A section of the same bytes.
     pub fn copy(&self) -> Self
-        ensures { ⟦<DebugAbbrev<R> as Section<R>>⟧.content result ≡ ⟦<DebugAbbrev<R> as Section<R>>⟧.content self.now }
+        ensures { ⟦<DebugAbbrev<R> as Section<R>>⟧.content result
+            ≡ ⟦<DebugAbbrev<R> as Section<R>>⟧.content self.now }
     {
         DebugAbbrev {
             section: self.section.copy(),
         }
     }
 
-    /// The table of the declarations at an offset of the section, up to the code 0 (DWARF 5, 7.5.3).
+    /// The table of the declarations at an offset of the section, up to the code 0 (DWARF 5,
+    /// 7.5.3).
     ///
-    /// Refusals: `UnexpectedEof`, also where the offset lies behind the section's end, `BadUnsignedLeb128`,
-    /// `BadSignedLeb128`, `AbbreviationTagZero`, `InvalidAbbreviationChildren`, `AttributeNameZero`,
-    /// `AttributeFormZero`, `DuplicateAbbreviationCode`, `OutOfMemory`.
+    /// Refusals: `UnexpectedEof`, also where the offset lies behind the section's end,
+    /// `BadUnsignedLeb128`, `BadSignedLeb128`, `AbbreviationTagZero`,
+    /// `InvalidAbbreviationChildren`, `AttributeNameZero`, `AttributeFormZero`,
+    /// `DuplicateAbbreviationCode`, `OutOfMemory`.
     #[tactic(auto, unfolding(crate::specs::Abbreviations::map_at))]
     pub fn abbreviations<A: Allocator + Copy>(
         &self,
         alloc: A,
         offset: DebugAbbrevOffset<R::Offset>,
     ) -> Result<Abbreviations<A>>
-        ensures { UnlessMemory result (answer_of found result ≡ map_at (R.Offset.number offset.0) (⟦<DebugAbbrev<R> as Section<R>>⟧.content self.now)) }
+        ensures { UnlessMemory result
+            (answer_of found result
+            ≡ map_at (R.Offset.number offset.0)
+            (⟦<DebugAbbrev<R> as Section<R>>⟧.content self.now)) }
     {
         let mut input = self.section.copy();
         input.skip(offset.0)?;

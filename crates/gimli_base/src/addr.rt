@@ -39,20 +39,21 @@ impl<R: Reader> Section<R> for DebugAddr<R> {
 impl<R: Reader> DebugAddr<R> {
     /// A section of the same bytes.
     pub fn copy(&self) -> Self
-        ensures { ⟦<DebugAddr<R> as Section<R>>⟧.content result ≡ ⟦<DebugAddr<R> as Section<R>>⟧.content self.now }
+        ensures { ⟦<DebugAddr<R> as Section<R>>⟧.content result
+            ≡ ⟦<DebugAddr<R> as Section<R>>⟧.content self.now }
     {
         DebugAddr {
             section: self.section.copy(),
         }
     }
 
-    /// The address at an index of the table that begins at `base`, an offset of the section, with addresses of
-    /// `address_size` bytes.
+    /// The address at an index of the table that begins at `base`, an offset of the section, with
+    /// addresses of `address_size` bytes.
     ///
-    /// Refusals: `UnexpectedEof`, where the base, the number of bytes before the address or the address itself lies behind
-    /// the section's end, with the section's first place, the table's or the address's; `UnsupportedOffset`, where the
-    /// number of bytes before the address does not fit the reader's offsets; `UnsupportedAddressSize`, where the size is
-    /// not 1, 2, 4 or 8.
+    /// Refusals: `UnexpectedEof`, where the base, the number of bytes before the address or the
+    /// address itself lies behind the section's end, with the section's first place, the table's or
+    /// the address's; `UnsupportedOffset`, where the number of bytes before the address does not
+    /// fit the reader's offsets; `UnsupportedAddressSize`, where the size is not 1, 2, 4 or 8.
     #[tactic(auto, unfolding(crate::specs::Address::table_address))]
     pub fn get_address(
         &self,
@@ -60,7 +61,8 @@ impl<R: Reader> DebugAddr<R> {
         base: DebugAddrBase<R::Offset>,
         index: DebugAddrIndex<R::Offset>,
     ) -> Result<u64>
-        ensures { result ≡ table_address R.Offset.limit address_size (R.Offset.number base.0) (R.Offset.number index.0) (⟦<DebugAddr<R> as Section<R>>⟧.content self.now) }
+        ensures { result ≡ table_address R.Offset.limit address_size (R.Offset.number base.0)
+            (R.Offset.number index.0) (⟦<DebugAddr<R> as Section<R>>⟧.content self.now) }
     {
         let mut input = self.section.copy();
         input.skip(base.0)?;

@@ -1,6 +1,7 @@
 //! A reader over a slice.
 
-ghost use Rattle.std.specs.Prelude.{◌≡◌, ℕ, ◌+◌, ◌-◌, ◌<◌, ◌≤◌, ◌^◌, length, Bool, ⊤, IfSome, ◌==◌, ◌++◌, nat_eq, []};
+ghost use Rattle.std.specs.Prelude.{◌≡◌, ℕ, ◌+◌, ◌-◌, ◌<◌, ◌≤◌, ◌^◌, length, Bool, ⊤, IfSome, ◌==◌};
+ghost use Rattle.std.specs.Prelude.{◌++◌, nat_eq, []};
 ghost use Rattle.std.specs.Cmp.{and_per, on_per, nat_eq_equiv, partial_equiv_from_equiv};
 ghost use Rattle.std.specs.Cmp.Lexicographic.{pointwise, lists_per};
 ghost use Rattle.std.specs.Cmp.Rules.{comparing, hashing};
@@ -31,7 +32,8 @@ pub struct EndianSlice<'a, E, K = <E as Endianity>::Kept> {
 }
 
 impl<'a, E, K: Copy> Clone for EndianSlice<'a, E, K> {
-    ghost is_clone = { λ r copy. (copy.bytes.now ≡ r.bytes.now) × (copy.kept ≡ r.kept) × (copy.end ≡ r.end) };
+    ghost is_clone = { λ r copy. (copy.bytes.now ≡ r.bytes.now) × (copy.kept ≡ r.kept)
+        × (copy.end ≡ r.end) };
 
     ghost is_infallible = { λ _. ⊤ };
 
@@ -72,9 +74,12 @@ impl<'a, E: Endianity> Debug for EndianSlice<'a, E> {
 
 // Two readers are equal where their bytes and byte orders are, wherever they stand.
 impl<'a, E: Endianity> PartialEq for EndianSlice<'a, E> {
-    ghost eq = { eq_of_both (on (λ r. r.bytes.now) (pointwise nat_eq)) (on (λ r. E.order r.kept) E.PartialEq.eq) };
+    ghost eq = { eq_of_both (on (λ r. r.bytes.now) (pointwise nat_eq))
+        (on (λ r. E.order r.kept) E.PartialEq.eq) };
 
-    ghost laws = { and_per (on_per (λ r. r.bytes.now) (lists_per (partial_equiv_from_equiv nat_eq_equiv))) (on_per (λ r. E.order r.kept) E.PartialEq.laws) };
+    ghost laws = { and_per
+        (on_per (λ r. r.bytes.now) (lists_per (partial_equiv_from_equiv nat_eq_equiv)))
+        (on_per (λ r. E.order r.kept) E.PartialEq.laws) };
 
     fn eq(&self, other: &Self) -> bool {
         self.bytes == other.bytes && E::from_kept(self.kept) == E::from_kept(other.kept)
@@ -86,7 +91,8 @@ impl<'a, E: Endianity> Eq for EndianSlice<'a, E> {
 }
 
 impl<'a, E: Endianity + Hash> Hash for EndianSlice<'a, E> {
-    ghost hash_input = { λ r. fed.slice fed.u8 r.bytes.now ++ E.Hash.hash_input (E.Endianity.order r.kept) };
+    ghost hash_input = { λ r. fed.slice fed.u8 r.bytes.now
+        ++ E.Hash.hash_input (E.Endianity.order r.kept) };
 
     ghost respects_eq = { Prim.search (hashing, rules) };
 
@@ -100,7 +106,8 @@ impl<'a, E: Endianity> EndianSlice<'a, E> {
     /// A reader of `bytes` whose first place is 0.
     #[inline]
     pub fn new(bytes: &'a [u8], endian: E) -> Self
-        ensures { ⟦<EndianSlice<'a, E> as Reader>⟧.view result ≡ record { big = E.big endian; place = 0; bytes = bytes.now } }
+        ensures { ⟦<EndianSlice<'a, E> as Reader>⟧.view result
+            ≡ record { big = E.big endian; place = 0; bytes = bytes.now } }
     {
         Self::new_at(bytes, endian, 0)
     }
@@ -109,7 +116,8 @@ impl<'a, E: Endianity> EndianSlice<'a, E> {
     #[inline]
     pub fn new_at(bytes: &'a [u8], endian: E, place: u64) -> Self
         requires { place + length bytes.now < 2 ^ 64 }
-        ensures { ⟦<EndianSlice<'a, E> as Reader>⟧.view result ≡ record { big = E.big endian; place = place; bytes = bytes.now } }
+        ensures { ⟦<EndianSlice<'a, E> as Reader>⟧.view result
+            ≡ record { big = E.big endian; place = place; bytes = bytes.now } }
     {
         let length = bytes.len() as u64;
         EndianSlice {
@@ -124,7 +132,8 @@ impl<'a, E: Endianity> EndianSlice<'a, E> {
     #[inline]
     fn at(bytes: &'a [u8], kept: E::Kept, place: u64) -> Self
         requires { place + length bytes.now < 2 ^ 64 }
-        ensures { ⟦<EndianSlice<'a, E> as Reader>⟧.view result ≡ record { big = E.big (E.order kept); place = place; bytes = bytes.now } }
+        ensures { ⟦<EndianSlice<'a, E> as Reader>⟧.view result
+            ≡ record { big = E.big (E.order kept); place = place; bytes = bytes.now } }
     {
         let length = bytes.len() as u64;
         EndianSlice {
@@ -157,7 +166,12 @@ impl<'a, E: Endianity> Reader for EndianSlice<'a, E> {
 
     type Offset = usize;
 
-    ghost view = { λ r. record { big = E.big (E.order r.kept); place = r.end - length r.bytes.now; bytes = r.bytes.now } };
+    ghost view = { λ r.
+        record {
+          big = E.big (E.order r.kept);
+          place = r.end - length r.bytes.now;
+          bytes = r.bytes.now;
+        } };
 
     #[inline]
     fn endian(&self) -> E {

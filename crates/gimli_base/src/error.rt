@@ -10,8 +10,8 @@ use std::alloc::{AllocError, AllocFailed};
 /// Why a call is refused.
 #[derive(Clone, Copy, Debug, PartialEq, Eq, Hash)]
 pub enum Error {
-    /// The input ends before what should stand there; the place is where the missing number, slice or text would
-    /// begin, for a LEB128 number the input's end.
+    /// The input ends before what should stand there; the place is where the missing number, slice
+    /// or text would begin, for a LEB128 number the input's end.
     UnexpectedEof(ReaderOffsetId),
     /// An unsigned LEB128 number that needs too many bits.
     BadUnsignedLeb128,

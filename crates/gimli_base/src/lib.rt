@@ -1,4 +1,5 @@
-//! Readers of bytes, offsets, refusals, constants and abbreviations: what every layer of a DWARF reader stands on.
+//! Readers of bytes, offsets, refusals, constants and abbreviations: what every layer of a DWARF
+//! reader stands on.
 #![tactic(auto)]
 
 mod abbrev;

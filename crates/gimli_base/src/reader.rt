@@ -1,6 +1,7 @@
 //! Readers: what can be read next, and where.
 
-ghost use Rattle.std.specs.Prelude.{◌≡◌, ℕ, ◌+◌, ◌-◌, ◌<◌, ◌≤◌, ◌^◌, ◌↔◌, length, Bool, IsTrue, OnErr};
+ghost use Rattle.std.specs.Prelude.{◌≡◌, ℕ, ◌+◌, ◌-◌, ◌<◌, ◌≤◌, ◌^◌, ◌↔◌, length, Bool, IsTrue};
+ghost use Rattle.std.specs.Prelude.{OnErr};
 ghost use Rattle.std.specs.Option.{option_map};
 ghost use Rattle.gimli_base.specs.Offset.{answer_of};
 ghost use Rattle.gimli_base.specs.View.{View, ended};
@@ -35,8 +36,8 @@ use std::fmt::Debug;
 
 /// A reader of bytes in a byte order.
 ///
-/// Each call is a function of the reader's view: a byte order, the place of the first byte, and the bytes that are
-/// left. A refused call leaves the view as it was.
+/// Each call is a function of the reader's view: a byte order, the place of the first byte, and the
+/// bytes that are left. A refused call leaves the view as it was.
 pub trait Reader: Debug + Drop {
     /// The byte order of numbers.
     type Endian: Endianity;
@@ -64,12 +65,15 @@ pub trait Reader: Debug + Drop {
 
     /// Passes `n` bytes. Refusal: `UnexpectedEof` where there are fewer.
     fn skip(&mut self, n: Self::Offset) -> Result<()>
-        ensures value { read result (view self.new) ≡ skip_at (Self.Offset.number n) (view self.old) }
+        ensures value { read result (view self.new)
+            ≡ skip_at (Self.Offset.number n) (view self.old) }
         ensures kept { OnErr result (view self.new ≡ view self.old) };
 
-    /// A reader of the next `n` bytes, which are passed. Refusal: `UnexpectedEof` where there are fewer.
+    /// A reader of the next `n` bytes, which are passed. Refusal: `UnexpectedEof` where there are
+    /// fewer.
     fn split(&mut self, n: Self::Offset) -> Result<Self>
-        ensures value { read (answer_of view result) (view self.new) ≡ split_at (Self.Offset.number n) (view self.old) }
+        ensures value { read (answer_of view result) (view self.new)
+            ≡ split_at (Self.Offset.number n) (view self.old) }
         ensures kept { OnErr result (view self.new ≡ view self.old) };
 
     /// The next byte. Refusal: `UnexpectedEof`.
@@ -79,7 +83,8 @@ pub trait Reader: Debug + Drop {
 
     /// Fills `into` with the next bytes. Refusal: `UnexpectedEof` where there are fewer.
     fn read_slice(&mut self, into: &mut [u8]) -> Result<()>
-        ensures value { read (filled into.new result) (view self.new) ≡ bytes_at (length into.old) (view self.old) }
+        ensures value { read (filled into.new result) (view self.new)
+            ≡ bytes_at (length into.old) (view self.old) }
         ensures kept { OnErr result (view self.new ≡ view self.old) };
 
     /// The number of bytes before the first `byte`. Refusal: `UnexpectedEof` where there is none.
@@ -112,7 +117,8 @@ pub trait Reader: Debug + Drop {
     /// Keeps the next `n` bytes alone. Refusal: `UnexpectedEof` where there are fewer.
     #[tactic(auto, unfolding(crate::specs::Reading::truncate_at, crate::specs::Reading::split_at))]
     final fn truncate(&mut self, n: Self::Offset) -> Result<()>
-        ensures value { read result (view self.new) ≡ truncate_at (Self.Offset.number n) (view self.old) }
+        ensures value { read result (view self.new)
+            ≡ truncate_at (Self.Offset.number n) (view self.old) }
         ensures kept { OnErr result (view self.new ≡ view self.old) }
     {
         let mut rest = self.copy();
@@ -209,8 +215,9 @@ pub trait Reader: Debug + Drop {
         Ok(value)
     }
 
-    /// The next unsigned LEB128 number, of at most ten bytes (DWARF 5, 7.6). Refusals: `UnexpectedEof`, with the
-    /// place of the input's end; `BadUnsignedLeb128` where a tenth byte is neither 00 nor 01.
+    /// The next unsigned LEB128 number, of at most ten bytes (DWARF 5, 7.6). Refusals:
+    /// `UnexpectedEof`, with the place of the input's end; `BadUnsignedLeb128` where a tenth byte
+    /// is neither 00 nor 01.
     #[inline]
     #[tactic(auto, unfolding(crate::specs::Reading::uleb_at, crate::specs::Reading::uleb_within))]
     final fn read_uleb128(&mut self) -> Result<u64>
@@ -234,9 +241,9 @@ pub trait Reader: Debug + Drop {
         Ok(value)
     }
 
-    /// The next unsigned LEB128 number of 16 bits, of at most three bytes, as tags, names and forms are written.
-    /// Refusals: `UnexpectedEof`, with the place of the input's end; `BadUnsignedLeb128` where a third byte is above
-    /// 03.
+    /// The next unsigned LEB128 number of 16 bits, of at most three bytes, as tags, names and forms
+    /// are written. Refusals: `UnexpectedEof`, with the place of the input's end;
+    /// `BadUnsignedLeb128` where a third byte is above 03.
     #[inline]
     #[tactic(auto, unfolding(crate::specs::Reading::uleb16_at, crate::specs::Reading::uleb_within))]
     final fn read_uleb128_u16(&mut self) -> Result<u16>
@@ -262,8 +269,9 @@ pub trait Reader: Debug + Drop {
         Ok(u16::from(low - 128) + 128 * (u16::from(middle - 128) + 128 * u16::from(high)))
     }
 
-    /// The next signed LEB128 number, of at most ten bytes (DWARF 5, 7.6). Refusals: `UnexpectedEof`, with the place
-    /// of the input's end; `BadSignedLeb128` where a tenth byte is neither 00 nor 7f.
+    /// The next signed LEB128 number, of at most ten bytes (DWARF 5, 7.6). Refusals:
+    /// `UnexpectedEof`, with the place of the input's end; `BadSignedLeb128` where a tenth byte is
+    /// neither 00 nor 7f.
     #[inline]
     #[tactic(auto, unfolding(crate::specs::Reading::sleb_at, crate::specs::Reading::sleb_within))]
     final fn read_sleb128(&mut self) -> Result<i64>
@@ -287,8 +295,8 @@ pub trait Reader: Debug + Drop {
         Ok(value)
     }
 
-    /// Passes a LEB128 number of any length: bytes whose top bit is set, and one more (DWARF 5, 7.6). Refusal:
-    /// `UnexpectedEof`, with the place of the input's end.
+    /// Passes a LEB128 number of any length: bytes whose top bit is set, and one more (DWARF 5,
+    /// 7.6). Refusal: `UnexpectedEof`, with the place of the input's end.
     #[inline]
     final fn skip_leb128(&mut self) -> Result<()>
         ensures value { read result (view self.new) ≡ skip_leb_at (view self.old) }
@@ -300,10 +308,11 @@ pub trait Reader: Debug + Drop {
         Ok(())
     }
 
-    /// The length of a unit, and the format that it shows (DWARF 5, 7.2.2 and 7.4). Refusals: `UnexpectedEof`,
-    /// `UnknownReservedLength`, `UnsupportedOffset`.
+    /// The length of a unit, and the format that it shows (DWARF 5, 7.2.2 and 7.4). Refusals:
+    /// `UnexpectedEof`, `UnknownReservedLength`, `UnsupportedOffset`.
     final fn read_initial_length(&mut self) -> Result<(Self::Offset, Format)>
-        ensures value { read (answer_of (map_first Self.Offset.number) result) (view self.new) ≡ initial_length_at Self.Offset.limit (view self.old) }
+        ensures value { read (answer_of (map_first Self.Offset.number) result) (view self.new)
+            ≡ initial_length_at Self.Offset.limit (view self.old) }
         ensures kept { OnErr result (view self.new ≡ view self.old) }
     {
         let mut rest = self.copy();
@@ -312,8 +321,8 @@ pub trait Reader: Debug + Drop {
         Ok(length)
     }
 
-    /// The next byte, as the number of bytes of an address: 1, 2, 4 or 8. Refusals: `UnexpectedEof`,
-    /// `UnsupportedAddressSize`.
+    /// The next byte, as the number of bytes of an address: 1, 2, 4 or 8. Refusals:
+    /// `UnexpectedEof`, `UnsupportedAddressSize`.
     #[tactic(auto, unfolding(crate::specs::Reading::address_size_at))]
     final fn read_address_size(&mut self) -> Result<u8>
         ensures value { read result (view self.new) ≡ address_size_at (view self.old) }
@@ -330,10 +339,10 @@ pub trait Reader: Debug + Drop {
         }
     }
 
-    /// The next 1, 2, 4 or 8 bytes, as an address of that size. Refusals: `UnsupportedAddressSize` for any other
-    /// size, before anything is read; `UnexpectedEof`.
+    /// The next 1, 2, 4 or 8 bytes, as an address of that size. Refusals: `UnsupportedAddressSize`
+    /// for any other size, before anything is read; `UnexpectedEof`.
     #[inline]
-    #[tactic(auto, using(crate::specs::OneByte::one_byte), unfolding(crate::specs::Reading::address_at))]
+    #[tactic(auto, using(crate::proofs::OneByte::one_byte), unfolding(crate::specs::Reading::address_at))]
     final fn read_address(&mut self, address_size: u8) -> Result<u64>
         ensures value { read result (view self.new) ≡ address_at address_size (view self.old) }
         ensures kept { OnErr result (view self.new ≡ view self.old) }
@@ -347,11 +356,13 @@ pub trait Reader: Debug + Drop {
         }
     }
 
-    /// The next 4 or 8 bytes, by the format, as an offset. Refusals: `UnexpectedEof`, `UnsupportedOffset`.
+    /// The next 4 or 8 bytes, by the format, as an offset. Refusals: `UnexpectedEof`,
+    /// `UnsupportedOffset`.
     #[inline]
     #[tactic(auto, unfolding(crate::specs::Reading::offset_at))]
     final fn read_offset(&mut self, format: Format) -> Result<Self::Offset>
-        ensures value { read (answer_of Self.Offset.number result) (view self.new) ≡ offset_at Self.Offset.limit format (view self.old) }
+        ensures value { read (answer_of Self.Offset.number result) (view self.new)
+            ≡ offset_at Self.Offset.limit format (view self.old) }
         ensures kept { OnErr result (view self.new ≡ view self.old) }
     {
         let mut rest = self.copy();
@@ -367,9 +378,10 @@ pub trait Reader: Debug + Drop {
     /// The next 1, 2, 4 or 8 bytes, as an offset. Refusals: `UnexpectedEof`, `UnsupportedOffset`,
     /// `UnsupportedOffsetSize` for any other size.
     #[inline]
-    #[tactic(auto, using(crate::specs::OneByte::one_byte), unfolding(crate::specs::Reading::sized_offset_at))]
+    #[tactic(auto, using(crate::proofs::OneByte::one_byte), unfolding(crate::specs::Reading::sized_offset_at))]
     final fn read_sized_offset(&mut self, size: u8) -> Result<Self::Offset>
-        ensures value { read (answer_of Self.Offset.number result) (view self.new) ≡ sized_offset_at Self.Offset.limit size (view self.old) }
+        ensures value { read (answer_of Self.Offset.number result) (view self.new)
+            ≡ sized_offset_at Self.Offset.limit size (view self.old) }
         ensures kept { OnErr result (view self.new ≡ view self.old) }
     {
         let mut rest = self.copy();
@@ -385,8 +397,8 @@ pub trait Reader: Debug + Drop {
         Ok(offset)
     }
 
-    /// A reader of the bytes before the first zero, which is passed too. Refusal: `UnexpectedEof` where there is
-    /// no zero, with the place where the text begins.
+    /// A reader of the bytes before the first zero, which is passed too. Refusal: `UnexpectedEof`
+    /// where there is no zero, with the place where the text begins.
     #[tactic(auto, unfolding(crate::specs::Reading::text_at))]
     final fn read_null_terminated_slice(&mut self) -> Result<Self>
         ensures value { read (answer_of view result) (view self.new) ≡ text_at (view self.old) }
@@ -404,7 +416,8 @@ pub trait Reader: Debug + Drop {
 // The length of a unit; where it is refused, the reader is left anywhere.
 #[tactic(auto, unfolding(crate::specs::Reading::initial_length_at))]
 fn initial_length<R: Reader>(reader: &mut R) -> Result<(R::Offset, Format)>
-    ensures { read (answer_of (map_first R.Offset.number) result) (R.view reader.new) ≡ initial_length_at R.Offset.limit (R.view reader.old) }
+    ensures { read (answer_of (map_first R.Offset.number) result) (R.view reader.new)
+        ≡ initial_length_at R.Offset.limit (R.view reader.old) }
 {
     let length = reader.read_u32()?;
     if length < 0xffff_fff0 {

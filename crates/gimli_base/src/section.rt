@@ -24,9 +24,11 @@ pub trait Section<R: Reader>: From<R> {
     fn reader(&self) -> &R
         ensures { R.view result.now ≡ content self.now };
 
-    /// The section, and the number of its bytes before a place, where the place is one of its bytes or its end.
+    /// The section, and the number of its bytes before a place, where the place is one of its bytes
+    /// or its end.
     final fn lookup_offset_id(&self, id: ReaderOffsetId) -> Option<(SectionId, R::Offset)>
-        ensures number { option_map (λ p. R.Offset.number p.1) result ≡ lookup_at id.0 (content self.now) }
+        ensures number { option_map (λ p. R.Offset.number p.1) result
+            ≡ lookup_at id.0 (content self.now) }
         ensures named { IfSome result (λ p. p.0 ≡ section) }
     {
         self.reader()

@@ -16,7 +16,8 @@ pub struct DebugStr<R> {
 impl<'a, E: Endianity> DebugStr<EndianSlice<'a, E>> {
     /// The section of these bytes.
     pub fn new(bytes: &'a [u8], endian: E) -> Self
-        ensures { ⟦<DebugStr<EndianSlice<'a, E>> as Section<EndianSlice<'a, E>>>⟧.content result ≡ record { big = E.big endian; place = 0; bytes = bytes.now } }
+        ensures { ⟦<DebugStr<EndianSlice<'a, E>> as Section<EndianSlice<'a, E>>>⟧.content result
+            ≡ record { big = E.big endian; place = 0; bytes = bytes.now } }
     {
         DebugStr {
             section: EndianSlice::new(bytes, endian),
@@ -49,7 +50,8 @@ impl<R: Reader> Section<R> for DebugStr<R> {
 impl<R: Reader> DebugStr<R> {
     /// A section of the same bytes.
     pub fn copy(&self) -> Self
-        ensures { ⟦<DebugStr<R> as Section<R>>⟧.content result ≡ ⟦<DebugStr<R> as Section<R>>⟧.content self.now }
+        ensures { ⟦<DebugStr<R> as Section<R>>⟧.content result
+            ≡ ⟦<DebugStr<R> as Section<R>>⟧.content self.now }
     {
         DebugStr {
             section: self.section.copy(),
@@ -58,11 +60,13 @@ impl<R: Reader> DebugStr<R> {
 
     /// The string at an offset of the section: its bytes before the first zero.
     ///
-    /// Refusal: `UnexpectedEof`, where the offset lies behind the section's end, with the section's first place, and
-    /// where no zero follows, with the place where the string begins.
+    /// Refusal: `UnexpectedEof`, where the offset lies behind the section's end, with the section's
+    /// first place, and where no zero follows, with the place where the string begins.
     #[tactic(auto, unfolding(crate::specs::Reading::text_from))]
     pub fn get_str(&self, offset: DebugStrOffset<R::Offset>) -> Result<R>
-        ensures { answer_of R.view result ≡ text_from (R.Offset.number offset.0) (⟦<DebugStr<R> as Section<R>>⟧.content self.now) }
+        ensures { answer_of R.view result
+            ≡ text_from (R.Offset.number offset.0)
+            (⟦<DebugStr<R> as Section<R>>⟧.content self.now) }
     {
         let mut input = self.section.copy();
         input.skip(offset.0)?;

@@ -1,6 +1,7 @@
 //! A reader over a slice, of which it keeps the whole.
 
-ghost use Rattle.std.specs.Prelude.{◌≡◌, ℕ, ◌+◌, ◌-◌, ◌<◌, ◌≤◌, ◌^◌, length, slice_range, Bool, ⊤, ◌++◌, nat_eq, []};
+ghost use Rattle.std.specs.Prelude.{◌≡◌, ℕ, ◌+◌, ◌-◌, ◌<◌, ◌≤◌, ◌^◌, length, slice_range, Bool, ⊤};
+ghost use Rattle.std.specs.Prelude.{◌++◌, nat_eq, []};
 ghost use Rattle.std.specs.Cmp.{and_per, on_per, nat_eq_equiv, partial_equiv_from_equiv};
 ghost use Rattle.std.specs.Cmp.Lexicographic.{pointwise, lists_per};
 ghost use Rattle.std.specs.Cmp.Rules.{comparing, hashing};
@@ -17,7 +18,8 @@ use std::fmt::{self, Debug};
 use std::hash::{Hash, Hasher};
 use std::marker::PhantomData;
 
-/// A reader that keeps the whole slice, and where in it the bytes that are left begin and end, with offsets of `u32`.
+/// A reader that keeps the whole slice, and where in it the bytes that are left begin and end, with
+/// offsets of `u32`.
 ///
 /// Two of them are equal where their bytes and byte orders are, wherever they stand.
 pub struct WholeSlice<'a, E, K = <E as Endianity>::Kept> {
@@ -36,7 +38,8 @@ pub struct WholeSlice<'a, E, K = <E as Endianity>::Kept> {
 }
 
 impl<'a, E, K: Copy> Clone for WholeSlice<'a, E, K> {
-    ghost is_clone = { λ r copy. (copy.whole.now ≡ r.whole.now) × (copy.kept ≡ r.kept) × (copy.place ≡ r.place) × (copy.begin ≡ r.begin) × (copy.end ≡ r.end) };
+    ghost is_clone = { λ r copy. (copy.whole.now ≡ r.whole.now) × (copy.kept ≡ r.kept)
+        × (copy.place ≡ r.place) × (copy.begin ≡ r.begin) × (copy.end ≡ r.end) };
 
     ghost is_infallible = { λ _. ⊤ };
 
@@ -81,9 +84,13 @@ impl<'a, E: Endianity> Debug for WholeSlice<'a, E> {
 
 // Two readers are equal where their bytes and byte orders are, wherever they stand.
 impl<'a, E: Endianity> PartialEq for WholeSlice<'a, E> {
-    ghost eq = { eq_of_both (on (λ r. slice_range r.whole.now r.begin r.end) (pointwise nat_eq)) (on (λ r. E.order r.kept) E.PartialEq.eq) };
+    ghost eq = { eq_of_both (on (λ r. slice_range r.whole.now r.begin r.end) (pointwise nat_eq))
+        (on (λ r. E.order r.kept) E.PartialEq.eq) };
 
-    ghost laws = { and_per (on_per (λ r. slice_range r.whole.now r.begin r.end) (lists_per (partial_equiv_from_equiv nat_eq_equiv))) (on_per (λ r. E.order r.kept) E.PartialEq.laws) };
+    ghost laws = { and_per
+        (on_per (λ r. slice_range r.whole.now r.begin r.end)
+        (lists_per (partial_equiv_from_equiv nat_eq_equiv)))
+        (on_per (λ r. E.order r.kept) E.PartialEq.laws) };
 
     fn eq(&self, other: &Self) -> bool {
         self.slice() == other.slice() && E::from_kept(self.kept) == E::from_kept(other.kept)
@@ -95,7 +102,8 @@ impl<'a, E: Endianity> Eq for WholeSlice<'a, E> {
 }
 
 impl<'a, E: Endianity + Hash> Hash for WholeSlice<'a, E> {
-    ghost hash_input = { λ r. fed.slice fed.u8 (slice_range r.whole.now r.begin r.end) ++ E.Hash.hash_input (E.Endianity.order r.kept) };
+    ghost hash_input = { λ r. fed.slice fed.u8 (slice_range r.whole.now r.begin r.end)
+        ++ E.Hash.hash_input (E.Endianity.order r.kept) };
 
     ghost respects_eq = { Prim.search (hashing, rules) };
 
@@ -110,18 +118,20 @@ impl<'a, E: Endianity> WholeSlice<'a, E> {
     #[inline]
     pub fn new(bytes: &'a [u8], endian: E) -> Self
         requires { length bytes.now < 2 ^ 32 }
-        ensures { ⟦<WholeSlice<'a, E> as Reader>⟧.view result ≡ record { big = E.big endian; place = 0; bytes = bytes.now } }
+        ensures { ⟦<WholeSlice<'a, E> as Reader>⟧.view result
+            ≡ record { big = E.big endian; place = 0; bytes = bytes.now } }
     {
         Self::new_at(bytes, endian, 0)
     }
 
-    /// A reader of `bytes` whose first place is `place`. It asks for at most `u32::MAX` bytes, and that their end has
-    /// a place.
+    /// A reader of `bytes` whose first place is `place`. It asks for at most `u32::MAX` bytes, and
+    /// that their end has a place.
     #[inline]
     pub fn new_at(bytes: &'a [u8], endian: E, place: u64) -> Self
         requires short { length bytes.now < 2 ^ 32 }
         requires end { place + length bytes.now < 2 ^ 64 }
-        ensures { ⟦<WholeSlice<'a, E> as Reader>⟧.view result ≡ record { big = E.big endian; place = place; bytes = bytes.now } }
+        ensures { ⟦<WholeSlice<'a, E> as Reader>⟧.view result
+            ≡ record { big = E.big endian; place = place; bytes = bytes.now } }
     {
         WholeSlice {
             whole: bytes,
@@ -146,7 +156,8 @@ impl<'a, E: Endianity> WholeSlice<'a, E> {
     #[tactic(auto, using(crate::proofs::Ranges::take_range))]
     fn before(&self, n: u32) -> Self
         requires { n ≤ self.now.end - self.now.begin }
-        ensures { ⟦<WholeSlice<'a, E> as Reader>⟧.view result ≡ front n (⟦<WholeSlice<'a, E> as Reader>⟧.view self.now) }
+        ensures { ⟦<WholeSlice<'a, E> as Reader>⟧.view result
+            ≡ front n (⟦<WholeSlice<'a, E> as Reader>⟧.view self.now) }
     {
         WholeSlice {
             whole: self.whole,
@@ -163,7 +174,8 @@ impl<'a, E: Endianity> WholeSlice<'a, E> {
     #[tactic(auto, using(crate::proofs::Ranges::drop_range))]
     fn behind(&self, n: u32) -> Self
         requires { n ≤ self.now.end - self.now.begin }
-        ensures { ⟦<WholeSlice<'a, E> as Reader>⟧.view result ≡ cut n (⟦<WholeSlice<'a, E> as Reader>⟧.view self.now) }
+        ensures { ⟦<WholeSlice<'a, E> as Reader>⟧.view result
+            ≡ cut n (⟦<WholeSlice<'a, E> as Reader>⟧.view self.now) }
     {
         WholeSlice {
             whole: self.whole,
@@ -181,7 +193,12 @@ impl<'a, E: Endianity> Reader for WholeSlice<'a, E> {
 
     type Offset = u32;
 
-    ghost view = { λ r. record { big = E.big (E.order r.kept); place = r.place + r.begin; bytes = slice_range r.whole.now r.begin r.end } };
+    ghost view = { λ r.
+        record {
+          big = E.big (E.order r.kept);
+          place = r.place + r.begin;
+          bytes = slice_range r.whole.now r.begin r.end;
+        } };
 
     #[inline]
     fn endian(&self) -> E {
@@ -266,9 +283,13 @@ impl<'a, E: Endianity> Reader for WholeSlice<'a, E> {
         }
     }
 
-    ghost length_fits = { λ r. Prim.omega (arith, length_range r.whole.now r.begin r.end r.within, r.short, r.within) };
+    ghost length_fits = { λ r.
+        Prim.omega (arith, length_range r.whole.now r.begin r.end r.within, r.short, r.within) };
 
-    ghost length_fits_offset = { λ r. Prim.omega (arith, length_range r.whole.now r.begin r.end r.within, r.short, r.within) };
+    ghost length_fits_offset = { λ r.
+        Prim.omega (arith, length_range r.whole.now r.begin r.end r.within, r.short, r.within) };
 
-    ghost end_fits = { λ r. Prim.omega (arith, length_range r.whole.now r.begin r.end r.within, r.end_fits, r.within, r.ordered) };
+    ghost end_fits = { λ r.
+        Prim.omega
+        (arith, length_range r.whole.now r.begin r.end r.within, r.end_fits, r.within, r.ordered) };
 }

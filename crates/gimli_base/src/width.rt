@@ -13,7 +13,8 @@ use crate::constants::forms::{
 };
 use crate::{DwForm, Encoding};
 
-/// How many bytes the value of a form takes, where that is known before it is read (DWARF 5, 7.5.6).
+/// How many bytes the value of a form takes, where that is known before it is read (DWARF 5,
+/// 7.5.6).
 #[derive(Clone, Copy, Debug, PartialEq, Eq)]
 pub(crate) enum Width {
     /// So many bytes.
@@ -22,7 +23,8 @@ pub(crate) enum Width {
     Address,
     /// As many as the format's offsets have.
     Word,
-    /// In version 2 as many as the unit's addresses have, else as many as the format's offsets have.
+    /// In version 2 as many as the unit's addresses have, else as many as the format's offsets
+    /// have.
     Reference,
     /// Only the bytes of the value tell.
     Unknown,

@@ -15,7 +15,7 @@ use Rattle.gimli_units.specs.RowSteps.{ahead_ended}
 use Rattle.gimli_units.specs.Honest.{usable, IsHonest, AreHonestUntil}
 use Rattle.gimli_units.specs.CursorPlace.{Place, Moved, some_of, is_entry, has_depth, arrive, skip_until, seek}
 use Rattle.gimli_units.specs.CursorMoves.{CursorView, next_of, rows_of, place_of, last_row, view_from, IsHonestFor, IsOver, IsSound, IsTrueEntry}
-use Rattle.gimli_units.specs.PlaceLaw.{depth_is, null_honest}
+use Rattle.gimli_units.proofs.PlaceLaw.{depth_is, null_honest}
 use Rattle.gimli_units.specs.TreePlace.{Lists, TreeMoved, children_of}
 use Rattle.gimli_units.specs.TreeMoves.{TreeView, node_at, HasBegun, HasGoneOn}
 use Rattle.gimli_units.specs.TreeWalker.{Standing, after_begun, HasAskedOne, entered_from, left_from}

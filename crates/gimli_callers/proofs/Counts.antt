@@ -9,8 +9,8 @@ use Rattle.gimli_units.specs.Rows.{Row, Ahead}
 use Rattle.gimli_units.specs.Honest.{AreHonest}
 use Rattle.gimli_units.specs.CursorPlace.{Place, Moved, is_entry, has_depth, arrive, skip_until, seek}
 use Rattle.gimli_units.specs.CursorMoves.{rows_of, place_of}
-use Rattle.gimli_units.specs.PlaceLaw.{IsHonestCursor}
-use Rattle.gimli_units.specs.TreeLaw.{honest_at, honest_sought, honest_first}
+use Rattle.gimli_units.proofs.PlaceLaw.{IsHonestCursor}
+use Rattle.gimli_units.proofs.TreeLaw.{honest_at, honest_sought, honest_first}
 use Rattle.gimli_units.specs.TreeMoves.{TreeView, node_at, list_of, HasGoneOn, HasBegun}
 use Rattle.gimli_units.specs.TreePlace.{TreeMoved, children_of}
 use Rattle.gimli_callers.specs.Children.{counted, count_in, count_below, children_counted}

@@ -16,8 +16,8 @@ use Rattle.gimli_units.specs.Rows.{Row, Ahead}
 use Rattle.gimli_units.specs.RowChain.{AreRows, AreAhead, exist_rows}
 use Rattle.gimli_units.specs.CursorPlace.{Place, Moved, is_entry, has_depth, arrive, skip_until, seek}
 use Rattle.gimli_units.specs.CursorMoves.{next_of, rows_of, place_of}
-use Rattle.gimli_units.specs.PlaceLaw.{IsHonestCursor}
-use Rattle.gimli_units.specs.TreeLaw.{honest_at}
+use Rattle.gimli_units.proofs.PlaceLaw.{IsHonestCursor}
+use Rattle.gimli_units.proofs.TreeLaw.{honest_at}
 use Rattle.gimli_units.specs.TreeMoves.{TreeView, HasGoneOn}
 use Rattle.gimli_callers.specs.Children.{counted}
 use Rattle.gimli_callers.specs.Enters.{HasEntered}

@@ -6,7 +6,7 @@ use Rattle.gimli_base.specs.View.{View}
 use Rattle.gimli_base.specs.Abbreviations.{Map}
 use Rattle.gimli_units.specs.Unit.{UnitView, whole_length}
 use Rattle.gimli_units.specs.UnitRows.{unit_rows, start_view, IsHonestAt, IsHonestFrom}
-use Rattle.gimli_units.specs.RowLaw.{honest_starts}
+use Rattle.gimli_units.proofs.RowLaw.{honest_starts}
 use Rattle.gimli_walk.specs.declared.cursor.CursorStep.{CursorStep}
 use Rattle.gimli_walk.specs.Cursors.{Answer, answers_at}
 use Rattle.gimli_walk.specs.Runs.{ToldRun}

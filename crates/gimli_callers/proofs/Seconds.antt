@@ -9,12 +9,12 @@ use Rattle.gimli_base.specs.Offset.{answer_of}
 use Rattle.gimli_base.specs.View.{cut}
 use Rattle.gimli_units.specs.Unit.{UnitView, whole_length, header_size, in_bounds, range_from, entries_in, entries_from}
 use Rattle.gimli_units.specs.UnitRows.{unit_rows_at, unit_rows_from, start_view, IsHonestAt, IsHonestFrom}
-use Rattle.gimli_units.specs.StartLaw.{honest_cursor}
+use Rattle.gimli_units.proofs.StartLaw.{honest_cursor}
 use Rattle.gimli_units.specs.CursorPlace.{Place, Moved, next_row, next_of_depth}
 use Rattle.gimli_units.specs.CursorMoves.{CursorView, place_of, Goes, IsHonestFor}
 use Rattle.gimli_units.specs.CursorStart.{before_first, cursor_of, cursor_from}
 use Rattle.gimli_units.specs.CursorLent.{HasReadOn}
-use Rattle.gimli_units.specs.PlaceLaw.{IsHonestCursor, honest_start, honest_next, honest_for}
+use Rattle.gimli_units.proofs.PlaceLaw.{IsHonestCursor, honest_start, honest_next, honest_for}
 use Rattle.gimli_callers.specs.Second.{on_first, offset_if, second_of_rows}
 
 abbrev pub offset_answer : Bool → ℕ → Option ℕ

@@ -4,7 +4,7 @@ ghost use Rattle.std.specs.Prelude.{◌≡◌, ◌<◌, ◌+◌, ◌^◌, ℕ, u
 ghost use Rattle.gimli_base.specs.Reading.{UnlessMemory};
 ghost use Rattle.gimli_units.specs.Honest.{AreHonest};
 ghost use Rattle.gimli_units.specs.CursorMoves.{rows_of};
-ghost use Rattle.gimli_units.specs.PlaceLaw.{IsHonestCursor};
+ghost use Rattle.gimli_units.proofs.PlaceLaw.{IsHonestCursor};
 ghost use Rattle.gimli_units.specs.TreeMoves.{list_of, IsTree};
 ghost use Rattle.gimli_callers.specs.Children.{counted, count_in, children_counted};
 

@@ -1,3 +1,5 @@
+pub mod UnitSteps
+pub mod UnitReads
 pub mod OpenTurns
 pub mod Innermost
 pub mod References

@@ -1,5 +1,8 @@
--- Turns of the check over the entries that are read: each is a row, which leaves what the check answers.
-use Rattle.std.proofs.Common.{◌≡◌, ℕ, ℤ, pos, ◌+ℤ◌, ◌-ℤ◌, Bool, true, false, List, [], ◌∷◌, ◌++◌, length, Option, Some, None, Result, Ok, Err, refl, sym, ap, ◌∙◌, arith}
+-- Turns of the check over the entries that are read: each is a row, which leaves what the check
+-- answers.
+use Rattle.std.proofs.Common.{◌≡◌, ℕ, ℤ, pos, ◌+ℤ◌, ◌-ℤ◌, Bool, true, false, List, [], ◌∷◌, ◌++◌}
+use Rattle.std.proofs.Common.{length, Option, Some, None, Result, Ok, Err, refl, sym, ap, ◌∙◌}
+use Rattle.std.proofs.Common.{arith}
 use Rattle.std.specs.Prelude.{◌≤ℤ◌, is_some, IfOk, OnOk}
 use Rattle.std.proofs.lemmas.Int.{ints}
 use Rattle.gimli_base.specs.declared.error.Error.{Error}
@@ -12,7 +15,8 @@ use Rattle.gimli_units.specs.RowSteps.{ahead_ended, ahead_refused, ahead_more}
 use Rattle.gimli_units.specs.CursorMoves.{next_of, rows_of}
 use Rattle.gimli_units.specs.Honest.{usable}
 use Rattle.gimli_headers.specs.OpenRows.{OpenRow, Checked, Rise, judged}
-use Rattle.gimli_headers.proofs.OpenTurns.{rise_in, rise_up, entry_found, entry_passed, entry_opened}
+use Rattle.gimli_headers.proofs.OpenTurns.{rise_in, rise_up, entry_found, entry_passed}
+use Rattle.gimli_headers.proofs.OpenTurns.{entry_opened}
 
 -- the depth behind a null, and behind an entry
 null_after : (e : Entry) (d : ℤ) → is_null e ≡ true → (d -ℤ pos 1) ≤ℤ depth_after e d
@@ -29,18 +33,30 @@ entry_after e d entry = rw entry (cases e.has_children)
     cases true = omega (arith, ints)
     cases false = omega (arith, ints)
 
-pub null_rise : (e : Entry) (d : ℤ) (xs : List OpenRow) → is_null e ≡ true → Rise (d -ℤ pos 1) xs → Rise (depth_after e d) xs
+pub null_rise : (e : Entry) (d : ℤ) (xs : List OpenRow) → is_null e ≡ true → Rise (d -ℤ pos 1) xs
+    → Rise (depth_after e d) xs
 null_rise e d xs null h = rise_up (d -ℤ pos 1) (depth_after e d) xs (null_after e d null) h
 
-pub entry_rise : (e : Entry) (d : ℤ) (xs : List OpenRow) → is_null e ≡ false → Rise d xs → Rise (depth_after e d) xs
+pub entry_rise : (e : Entry) (d : ℤ) (xs : List OpenRow) → is_null e ≡ false → Rise d xs
+    → Rise (depth_after e d) xs
 entry_rise e d xs entry h = rise_up d (depth_after e d) xs (entry_after e d entry) h
 
 -- an entry whose reference can be followed has children
-pub opened_rise : (end : ℕ) (r : Row) (xs : List OpenRow) (first : Option ℕ) (t : ℕ) (new : Checked) → is_null r.entry ≡ false → usable end r ≡ Some t → Rise r.depth xs
-    → new ≡ record { opens = xs ++ record { offset = r.offset; depth = r.depth; target = t } ∷ []; first = first } → Rise (depth_after r.entry r.depth) new.opens
-opened_rise end r xs first t new entry leads h is = rw is (rise_in (depth_after r.entry r.depth) xs (record { offset = r.offset; depth = r.depth; target = t }) (deeper r.entry.has_children refl) h)
+pub opened_rise : (end : ℕ) (r : Row) (xs : List OpenRow) (first : Option ℕ) (t : ℕ) (new : Checked)
+    → is_null r.entry ≡ false → usable end r ≡ Some t → Rise r.depth xs
+    → new
+    ≡ record {
+      opens = xs ++ record { offset = r.offset; depth = r.depth; target = t } ∷ [];
+      first = first;
+    } → Rise (depth_after r.entry r.depth) new.opens
+opened_rise end r xs first t new entry leads h is =
+    rw is
+    (rise_in (depth_after r.entry r.depth) xs
+    (record { offset = r.offset; depth = r.depth; target = t }) (deeper r.entry.has_children refl)
+    h)
   where
-    deeper : (b : Bool) → r.entry.has_children ≡ b → (r.depth +ℤ pos 1) ≤ℤ depth_after r.entry r.depth
+    deeper : (b : Bool) → r.entry.has_children ≡ b
+        → (r.depth +ℤ pos 1) ≤ℤ depth_after r.entry r.depth
     deeper true flag = rw (entry, flag) (omega (arith, ints))
     deeper false flag =
         let none : usable end r ≡ None = rw (entry, flag) refl in
@@ -50,51 +66,78 @@ pub on_ok : {A B : Type 0} → (r : Result (Unit {0}) Error) → (A → B) → O
 on_ok (Ok u) f h = f h
 on_ok (Err e) f h = tt
 
-pub if_ok : {A : Type 0} {P Q : A → Type 0} → (r : Result A Error) → ((a : A) → P a → Q a) → IfOk r P → IfOk r Q
+pub if_ok : {A : Type 0} {P Q : A → Type 0} → (r : Result A Error) → ((a : A) → P a → Q a)
+    → IfOk r P → IfOk r Q
 if_ok (Ok a) f h = f a h
 if_ok (Err e) f h = tt
 
-module _ (end : ℕ) (opens : List OpenRow) (r : Row) (rest : List Row) (entry : is_null r.entry ≡ false) (rise : Rise r.depth opens) where
+module _ (end : ℕ) (opens : List OpenRow) (r : Row) (rest : List Row)
+    (entry : is_null r.entry ≡ false) (rise : Rise r.depth opens) where
   -- an entry behind a false reference that was found
-  pub found_on : (first : Option ℕ) → is_some first ≡ true → judged end (record { opens = opens; first = first }) rest ≡ judged end (record { opens = opens; first = first }) (r ∷ rest)
+  pub found_on : (first : Option ℕ) → is_some first ≡ true
+      → judged end (record { opens = opens; first = first }) rest
+      ≡ judged end (record { opens = opens; first = first }) (r ∷ rest)
   found_on None h = absurd (cc)
   found_on (Some o) h = entry_found end opens r rest o entry rise
 
   -- an entry whose reference can't be followed
   pub passed_on : (first : Option ℕ) → is_some first ≡ false → usable end r ≡ None
-      → judged end (record { opens = opens; first = first }) rest ≡ judged end (record { opens = opens; first = first }) (r ∷ rest)
+      → judged end (record { opens = opens; first = first }) rest
+      ≡ judged end (record { opens = opens; first = first }) (r ∷ rest)
   passed_on None h none = entry_passed end opens r rest entry rise none
   passed_on (Some o) h none = absurd (cc)
 
   -- an entry whose reference can be followed
-  pub opened_on : (first : Option ℕ) (t : ℕ) (new : Checked) → is_some first ≡ false → usable end r ≡ Some t
-      → new ≡ record { opens = opens ++ record { offset = r.offset; depth = r.depth; target = t } ∷ []; first = first }
+  pub opened_on : (first : Option ℕ) (t : ℕ) (new : Checked) → is_some first ≡ false
+      → usable end r ≡ Some t
+      → new
+      ≡ record {
+        opens = opens ++ record { offset = r.offset; depth = r.depth; target = t } ∷ [];
+        first = first;
+      }
       → judged end new rest ≡ judged end (record { opens = opens; first = first }) (r ∷ rest)
-  opened_on None t new h leads is = ap (λ (n : Checked). judged end n rest) is ∙ entry_opened end opens r rest t entry rise leads
+  opened_on None t new h leads is =
+      ap (λ (n : Checked). judged end n rest) is ∙ entry_opened end opens r rest t entry rise leads
   opened_on (Some o) t new h leads is = absurd (cc)
 
 -- what is answered stays, where a row leaves it
-pub turn_judged : (n end next_end : ℕ) (old new : Checked) (r : Row) (rows rest : List Row) (all : Option ℕ) → n ≡ end → next_end ≡ end → rows ≡ r ∷ rest
-    → ((others : List Row) → judged n new others ≡ judged n old (r ∷ others)) → judged end old rows ≡ all → judged next_end new rest ≡ all
+pub turn_judged : (n end next_end : ℕ) (old new : Checked) (r : Row) (rows rest : List Row)
+    (all : Option ℕ) → n ≡ end → next_end ≡ end → rows ≡ r ∷ rest
+    → ((others : List Row) → judged n new others ≡ judged n old (r ∷ others))
+    → judged end old rows ≡ all → judged next_end new rest ≡ all
 turn_judged n end next_end old new r rows rest all same next_same is turn h =
-    ap (λ (x : ℕ). judged x new rest) (next_same ∙ sym same) ∙ turn rest ∙ ap (λ (x : ℕ). judged x old (r ∷ rest)) same ∙ ap (judged end old) (sym is) ∙ h
+    ap (λ (x : ℕ). judged x new rest) (next_same ∙ sym same) ∙ turn rest
+    ∙ ap (λ (x : ℕ). judged x old (r ∷ rest)) same ∙ ap (judged end old) (sym is) ∙ h
 
 module _ (limit : ℕ) (p : RawPlace) where
   -- no row is left
   pub ended_rows : length p.rest.bytes ≡ 0 → (rows_of limit p).rows ≡ []
-  ended_rows none = ap (λ (a : Ahead). a.rows) (ahead_ended (next_of limit p) p.end p.depth p.rest none)
+  ended_rows none = ap (λ (a : Ahead). a.rows)
+      (ahead_ended (next_of limit p) p.end p.depth p.rest none)
 
-  pub refused_rows : (e : Error) → (length p.rest.bytes ≡ 0 → ⊥) → Err e ≡ next_of limit p p.rest → (rows_of limit p).rows ≡ []
-  refused_rows e some is = ap (λ (a : Ahead). a.rows) (ahead_refused (next_of limit p) p.end p.depth p.rest e some is)
+  pub refused_rows : (e : Error) → (length p.rest.bytes ≡ 0 → ⊥) → Err e ≡ next_of limit p p.rest
+      → (rows_of limit p).rows ≡ []
+  refused_rows e some is =
+      ap (λ (a : Ahead). a.rows) (ahead_refused (next_of limit p) p.end p.depth p.rest e some is)
 
   -- an entry that is read is the next row
-  pub more_rows : (q : RawPlace) (r : Row) → (length p.rest.bytes ≡ 0 → ⊥) → Ok (r.entry, q.rest) ≡ next_of limit p p.rest
-      → q ≡ record p { rest = q.rest; depth = depth_after r.entry p.depth } → r.offset ≡ next_offset_of p → r.next ≡ next_offset_of q → r.depth ≡ p.depth
+  pub more_rows : (q : RawPlace) (r : Row) → (length p.rest.bytes ≡ 0 → ⊥)
+      → Ok (r.entry, q.rest) ≡ next_of limit p p.rest
+      → q ≡ record p { rest = q.rest; depth = depth_after r.entry p.depth }
+      → r.offset ≡ next_offset_of p → r.next ≡ next_offset_of q → r.depth ≡ p.depth
       → (rows_of limit p).rows ≡ r ∷ (rows_of limit q).rows
   more_rows q r some reads next offset behind depth =
       let left : RawPlace = record p { rest = q.rest; depth = depth_after r.entry p.depth } in
-      let row : record { offset = next_offset_of p; next = next_offset_of left; depth = p.depth; entry = r.entry } ≡ r =
+      let row : record {
+        offset = next_offset_of p;
+        next = next_offset_of left;
+        depth = p.depth;
+        entry = r.entry;
+      } ≡ r =
       rw (← offset, ← depth, ← (ap next_offset_of next), ← behind) refl in
-      ap (λ (a : Ahead). a.rows) (ahead_more (next_of limit p) p.end (λ v u x. entry_at-shorter limit p.encoding (found p.abbreviations) v u x) p.depth p.rest r.entry q.rest some reads)
+      ap (λ (a : Ahead). a.rows)
+      (ahead_more (next_of limit p) p.end
+      (λ v u x. entry_at-shorter limit p.encoding (found p.abbreviations) v u x) p.depth p.rest
+      r.entry q.rest some reads)
       ∙ ap (λ (x : Row). x ∷ (rows_of limit left).rows) row
       ∙ ap (λ (y : RawPlace). r ∷ (rows_of limit y).rows) (sym next)

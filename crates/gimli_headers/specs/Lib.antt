@@ -1,5 +1,3 @@
 pub mod Header
 pub mod Units
-pub mod UnitReads
-pub mod UnitSteps
 pub mod OpenRows

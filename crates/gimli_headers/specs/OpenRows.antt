@@ -1,5 +1,7 @@
--- What a check of sibling references holds: the entries whose children are not closed yet, and the first false reference (DWARF 5, 2.3).
-use Rattle.std.specs.Prelude.{ℕ, ℤ, pos, ◌+ℤ◌, ◌≤ℤ◌, if◌then◌else◌, List, [], ◌∷◌, map, Option, Some, None}
+-- What a check of sibling references holds: the entries whose children are not closed yet, and the
+-- first false reference (DWARF 5, 2.3).
+use Rattle.std.specs.Prelude.{ℕ, ℤ, pos, ◌+ℤ◌, ◌≤ℤ◌, if◌then◌else◌, List, [], ◌∷◌, map, Option}
+use Rattle.std.specs.Prelude.{Some, None}
 use Rattle.std.specs.Option.{option_map}
 use Rattle.gimli_base.specs.View.{View}
 use Rattle.gimli_units.specs.declared.entry.DebuggingInformationEntry.{DebuggingInformationEntry}
@@ -10,13 +12,15 @@ use Rattle.gimli_units.specs.FirstFalse.{misses, first_false}
 use Rattle.gimli_headers.specs.declared.siblings.Open.{Open}
 use Rattle.gimli_headers.specs.declared.siblings.Check.{Check}
 
--- an entry whose children are not closed yet: where it stands, its depth, and where its reference leads
+-- an entry whose children are not closed yet: where it stands, its depth, and where its reference
+-- leads
 pub record OpenRow : Type 0 where
   pub offset : ℕ
   pub depth : ℤ
   pub target : ℕ
 
--- a check: the open entries, the innermost last, and the offset of the first false reference that is closed
+-- a check: the open entries, the innermost last, and the offset of the first false reference that
+-- is closed
 pub record Checked : Type 0 where
   pub opens : List OpenRow
   pub first : Option ℕ
@@ -26,11 +30,14 @@ open_of g o = record { offset = g o.offset.0; depth = o.depth; target = g o.targ
 
 -- a check that code holds
 abbrev pub checked : {O A : Type 0} → (O → ℕ) → Check O A → Checked
-checked g c = record { opens = map (open_of g) c.open.items; first = option_map (λ o. g o.0) c.first }
+checked g c =
+    record { opens = map (open_of g) c.open.items; first = option_map (λ o. g o.0) c.first }
 
 -- the row of an entry that code holds, with the offset of what is behind it
-abbrev pub row_of : {R A O : Type 0} → (R → View) → (O → ℕ) → DebuggingInformationEntry R A O → ℕ → Row
-row_of f g e behind = record { offset = g e.offset.0; next = behind; depth = e.depth; entry = entry_of f g e }
+abbrev pub row_of : {R A O : Type 0} → (R → View) → (O → ℕ) → DebuggingInformationEntry R A O → ℕ
+    → Row
+row_of f g e behind =
+    record { offset = g e.offset.0; next = behind; depth = e.depth; entry = entry_of f g e }
 
 -- the depth of the outermost of these, or one that is given
 abbrev pub outermost : ℤ → List OpenRow → ℤ
@@ -42,15 +49,18 @@ abbrev pub Rise : ℤ → List OpenRow → Type 0
 Rise depth [] = Unit {0}
 Rise depth (x ∷ xs) = ((x.depth +ℤ pos 1) ≤ℤ outermost depth xs) × Rise depth xs
 
--- the offset of the outermost of these whose reference is false, where these rows are behind; or else what is given
+-- the offset of the outermost of these whose reference is false, where these rows are behind; or
+-- else what is given
 abbrev pub first_open : List OpenRow → List Row → Option ℕ → Option ℕ
 first_open [] rest other = other
-first_open (x ∷ xs) rest other = if misses x.target (past x.depth rest) then Some x.offset else first_open xs rest other
+first_open (x ∷ xs) rest other =
+    if misses x.target (past x.depth rest) then Some x.offset else first_open xs rest other
 
 abbrev pub or_else : Option ℕ → Option ℕ → Option ℕ
 or_else (Some o) other = Some o
 or_else None other = other
 
--- what a check answers where these rows are left: an open entry, or else what was found, or else one of the rows
+-- what a check answers where these rows are left: an open entry, or else what was found, or else
+-- one of the rows
 abbrev pub judged : ℕ → Checked → List Row → Option ℕ
 judged end c rest = first_open c.opens rest (or_else c.first (first_false end rest))

@@ -1,5 +1,6 @@
 -- The units of a section, one behind the other (DWARF 5, 7.5.1).
-use Rattle.std.specs.Prelude.{◌≡◌, ℕ, zero, suc, ◌+◌, ◌<◌, ◌==◌, if◌then◌else◌, List, [], ◌∷◌, ◌++◌, map, length, Option, Some, None, Result, Ok, Err, IfOk, IfSome}
+use Rattle.std.specs.Prelude.{◌≡◌, ℕ, zero, suc, ◌+◌, ◌<◌, ◌==◌, if◌then◌else◌, List, [], ◌∷◌, ◌++◌}
+use Rattle.std.specs.Prelude.{map, length, Option, Some, None, Result, Ok, Err, IfOk, IfSome}
 use Rattle.gimli_base.specs.declared.common.SectionId.{SectionId}
 use Rattle.gimli_base.specs.declared.error.Error.{Error}
 use Rattle.gimli_base.specs.View.{View, cut, ended}
@@ -29,8 +30,9 @@ no_units refusal = record { units = []; refusal = refusal }
 abbrev pub then_unit : UnitView → Units → Units
 then_unit u us = record { units = u ∷ us.units; refusal = us.refusal }
 
--- The units from a place on: each begins where the whole length of the one before ends, up to the end of the bytes or to
--- the first header that is refused. Each takes a byte at least, so that n, the number of bytes, is enough.
+-- The units from a place on: each begins where the whole length of the one before ends, up to the
+-- end of the bytes or to the first header that is refused. Each takes a byte at least, so that n,
+-- the number of bytes, is enough.
 unfoldable pub units_within : ℕ → SectionId → ℕ → UnitsPlace → Units
 units_within limit section zero p = no_units None
 units_within limit section (suc n) p =
@@ -51,8 +53,8 @@ units_of limit section v = units_ahead limit section (record { rest = v; offset 
 abbrev pub answers : Units → List (Result UnitView Error)
 answers us = map Ok us.units ++ elim us.refusal [ None ↦ [] | Some e ↦ Err e ∷ [] ]
 
--- The next unit of a section, and the place that its reading leaves: none where nothing is left, and behind a refusal
--- nothing is left.
+-- The next unit of a section, and the place that its reading leaves: none where nothing is left,
+-- and behind a refusal nothing is left.
 unfoldable pub next_unit : ℕ → SectionId → UnitsPlace → Result (Option UnitView) Error × UnitsPlace
 next_unit limit section p =
     if length p.rest.bytes == 0 then (Ok None, p)
@@ -73,9 +75,10 @@ transposed None = Ok None
 transposed (Some (Ok a)) = Ok (Some a)
 transposed (Some (Err e)) = Err e
 
--- What an iterator answers at a place, and the place that it leaves: the next unit. The units ahead are that one, whose header has
--- the size of its kind, and those ahead of the place that is left.
-pub record IsNextUnit (limit : ℕ) (section : SectionId) (p : UnitsPlace) (a : Result (Option UnitView) Error) (q : UnitsPlace) : Type 0 where
+-- What an iterator answers at a place, and the place that it leaves: the next unit. The units ahead
+-- are that one, whose header has the size of its kind, and those ahead of the place that is left.
+pub record IsNextUnit (limit : ℕ) (section : SectionId) (p : UnitsPlace)
+    (a : Result (Option UnitView) Error) (q : UnitsPlace) : Type 0 where
   pub is : (a, q) ≡ next_unit limit section p
   pub ahead : units_ahead limit section p ≡ answered a (units_ahead limit section q)
   pub size : IfOk a (λ o. IfSome o (λ u. size_of_header u ≡ header_size u))
@@ -87,7 +90,8 @@ unit_alone (Err e) = Err e
 
 -- the unit at an offset of a section
 unfoldable pub header_at : ℕ → SectionId → ℕ → View → Result UnitView Error
-header_at limit section offset v = unit_alone (skip_at offset v >>= λ p. unit_at limit section offset p.1)
+header_at limit section offset v =
+    unit_alone (skip_at offset v >>= λ p. unit_at limit section offset p.1)
 
 -- units that lie one behind the other, the first at `start`, and the last up to `end`
 abbrev pub Tile : ℕ → List UnitView → ℕ → Type 0
@@ -97,7 +101,8 @@ Tile start (u ∷ us) end = (u.offset ≡ start) × Tile (start + whole_length u
 -- the units tile a section from 0 on: up to its end, or to the offset at which a header is refused
 abbrev pub EndsAt : ℕ → SectionId → View → Option Error → ℕ → Type 0
 EndsAt limit section v None end = end ≡ length v.bytes
-EndsAt limit section v (Some e) end = (end < length v.bytes) × (header_at limit section end v ≡ Err e)
+EndsAt limit section v (Some e) end =
+    (end < length v.bytes) × (header_at limit section end v ≡ Err e)
 
 abbrev pub Tiles : ℕ → SectionId → View → Type 0
 Tiles limit section v =

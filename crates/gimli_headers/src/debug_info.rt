@@ -9,7 +9,9 @@ ghost use Rattle.gimli_base.specs.declared.common.SectionId.TheVariants.{DebugIn
 ghost use Rattle.gimli_base.specs.Offset.{answer_of};
 ghost use Rattle.gimli_base.specs.View.{View};
 ghost use Rattle.gimli_units.specs.Unit.{header_size, size_of_header};
-ghost use Rattle.gimli_headers.specs.Units.{UnitsPlace, next_unit, header_at, transposed, IsNextUnit, units_ahead, units_of, answered, Tiles, IsHeaderAt};
+ghost use Rattle.gimli_headers.specs.Units.{UnitsPlace, next_unit, header_at, transposed};
+ghost use Rattle.gimli_headers.specs.Units.{IsNextUnit, units_ahead, units_of, answered, Tiles};
+ghost use Rattle.gimli_headers.specs.Units.{IsHeaderAt};
 ghost use Rattle.gimli_units.specs.UnitHeld.{unit_view};
 
 use crate::parse::parse_unit_header;
@@ -28,7 +30,8 @@ pub struct DebugInfo<R> {
 impl<'a, E: Endianity> DebugInfo<EndianSlice<'a, E>> {
     /// The section of these bytes.
     pub fn new(bytes: &'a [u8], endian: E) -> Self
-        ensures { ⟦<DebugInfo<EndianSlice<'a, E>> as Section<EndianSlice<'a, E>>>⟧.content result ≡ record { big = E.big endian; place = 0; bytes = bytes.now } }
+        ensures { ⟦<DebugInfo<EndianSlice<'a, E>> as Section<EndianSlice<'a, E>>>⟧.content result
+            ≡ record { big = E.big endian; place = 0; bytes = bytes.now } }
     {
         DebugInfo {
             section: EndianSlice::new(bytes, endian),
@@ -73,7 +76,8 @@ impl<R: Reader> Section<R> for DebugInfo<R> {
 impl<R: Reader> DebugInfo<R> {
     /// A section of the same bytes.
     pub fn copy(&self) -> Self
-        ensures { ⟦<DebugInfo<R> as Section<R>>⟧.content result ≡ ⟦<DebugInfo<R> as Section<R>>⟧.content self.now }
+        ensures { ⟦<DebugInfo<R> as Section<R>>⟧.content result
+            ≡ ⟦<DebugInfo<R> as Section<R>>⟧.content self.now }
     {
         DebugInfo {
             section: self.section.copy(),
@@ -82,10 +86,13 @@ impl<R: Reader> DebugInfo<R> {
 
     /// The header of the unit at an offset of the section.
     ///
-    /// Refusals: `UnexpectedEof`, also where the offset lies behind the section's end, and those of `next` of the units.
+    /// Refusals: `UnexpectedEof`, also where the offset lies behind the section's end, and those of
+    /// `next` of the units.
     #[tactic(auto, unfolding(crate::specs::Units::header_at))]
     pub fn header_from_offset(&self, offset: DebugInfoOffset<R::Offset>) -> Result<UnitHeader<R>>
-        ensures value { answer_of unit_view result ≡ header_at R.Offset.limit InfoSection (R.Offset.number offset.0) (⟦<DebugInfo<R> as Section<R>>⟧.content self.now) }
+        ensures value { answer_of unit_view result
+            ≡ header_at R.Offset.limit InfoSection (R.Offset.number offset.0)
+            (⟦<DebugInfo<R> as Section<R>>⟧.content self.now) }
         ensures size { IfOk result (λ u. size_of_header (unit_view u) ≡ header_size (unit_view u)) }
     {
         let mut input = self.section.copy();
@@ -97,11 +104,18 @@ impl<R: Reader> DebugInfo<R> {
         )
     }
 
-    /// The units of the section, from its beginning on: they lie one behind the other, and each is the one at its offset.
+    /// The units of the section, from its beginning on: they lie one behind the other, and each is
+    /// the one at its offset.
     pub fn units(&self) -> DebugInfoUnitHeadersIter<R>
-        ensures begin { result ≡ record { rest = ⟦<DebugInfo<R> as Section<R>>⟧.content self.now; offset = 0 } }
-        ensures tiles { Tiles R.Offset.limit InfoSection (⟦<DebugInfo<R> as Section<R>>⟧.content self.now) }
-        ensures found { All (IsHeaderAt R.Offset.limit InfoSection (⟦<DebugInfo<R> as Section<R>>⟧.content self.now)) (units_of R.Offset.limit InfoSection (⟦<DebugInfo<R> as Section<R>>⟧.content self.now)).units }
+        ensures begin { result
+            ≡ record { rest = ⟦<DebugInfo<R> as Section<R>>⟧.content self.now; offset = 0 } }
+        ensures tiles { Tiles R.Offset.limit InfoSection
+            (⟦<DebugInfo<R> as Section<R>>⟧.content self.now) }
+        ensures found { All
+            (IsHeaderAt R.Offset.limit InfoSection
+            (⟦<DebugInfo<R> as Section<R>>⟧.content self.now))
+            (units_of R.Offset.limit InfoSection
+            (⟦<DebugInfo<R> as Section<R>>⟧.content self.now)).units }
     {
         DebugInfoUnitHeadersIter {
             input: self.section.copy(),
@@ -123,7 +137,8 @@ impl<R: Reader> Model for DebugInfoUnitHeadersIter<R> {
 
     ghost view = { λ u. record { rest = R.view u.input; offset = R.Offset.number u.offset.0 } };
 
-    ghost invariant = { λ u. R.Offset.number u.offset.0 + length (R.view u.input).bytes < R.Offset.limit };
+    ghost invariant = { λ u. R.Offset.number u.offset.0 + length (R.view u.input).bytes
+        < R.Offset.limit };
 }
 
 impl<R: Reader> DebugInfoUnitHeadersIter<R> {
@@ -142,10 +157,16 @@ impl<R: Reader> DebugInfoUnitHeadersIter<R> {
     /// Refusals: `UnexpectedEof`, `UnknownReservedLength`, `UnknownVersion`, `UnknownUnitType`,
     /// `UnsupportedAddressSize`, `UnsupportedOffset`; nothing is left then.
     pub fn next(&mut self) -> Result<Option<UnitHeader<R>>>
-        ensures value { (answer_of (option_map unit_view) result, self.new) ≡ next_unit R.Offset.limit InfoSection self.old }
-        ensures ahead { units_ahead R.Offset.limit InfoSection self.old ≡ answered (answer_of (option_map unit_view) result) (units_ahead R.Offset.limit InfoSection self.new) }
-        ensures size { IfOk result (λ unit. IfSome unit (λ u. size_of_header (unit_view u) ≡ header_size (unit_view u))) }
-        ensures takes { MatchResult result (λ unit. OnSome unit (length self.new.rest.bytes < length self.old.rest.bytes)) (λ _. length self.new.rest.bytes < length self.old.rest.bytes) }
+        ensures value { (answer_of (option_map unit_view) result, self.new)
+            ≡ next_unit R.Offset.limit InfoSection self.old }
+        ensures ahead { units_ahead R.Offset.limit InfoSection self.old
+            ≡ answered (answer_of (option_map unit_view) result)
+            (units_ahead R.Offset.limit InfoSection self.new) }
+        ensures size { IfOk result
+            (λ unit. IfSome unit (λ u. size_of_header (unit_view u) ≡ header_size (unit_view u))) }
+        ensures takes { MatchResult result
+            (λ unit. OnSome unit (length self.new.rest.bytes < length self.old.rest.bytes))
+            (λ _. length self.new.rest.bytes < length self.old.rest.bytes) }
     {
         next_header(&mut self.input, &mut self.offset, SectionId::DebugInfo)
     }
@@ -154,7 +175,9 @@ impl<R: Reader> DebugInfoUnitHeadersIter<R> {
 impl<R: Reader> Iterator for DebugInfoUnitHeadersIter<R> {
     type Item = Result<UnitHeader<R>>;
 
-    ghost next_gives = { λ s r t. IsNextUnit R.Offset.limit InfoSection s (answer_of (option_map unit_view) (transposed r)) t };
+    ghost next_gives = { λ s r t.
+        IsNextUnit R.Offset.limit InfoSection s (answer_of (option_map unit_view) (transposed r))
+        t };
 
     ghost remaining = { λ s. at_most (length s.rest.bytes) };
 

@@ -9,7 +9,8 @@ ghost use Rattle.gimli_base.specs.declared.common.SectionId.TheVariants.{DebugTy
 ghost use Rattle.gimli_base.specs.Offset.{answer_of};
 ghost use Rattle.gimli_base.specs.View.{View};
 ghost use Rattle.gimli_units.specs.Unit.{header_size, size_of_header};
-ghost use Rattle.gimli_headers.specs.Units.{UnitsPlace, next_unit, transposed, IsNextUnit, units_ahead, units_of, answered, Tiles, IsHeaderAt};
+ghost use Rattle.gimli_headers.specs.Units.{UnitsPlace, next_unit, transposed, IsNextUnit};
+ghost use Rattle.gimli_headers.specs.Units.{units_ahead, units_of, answered, Tiles, IsHeaderAt};
 ghost use Rattle.gimli_units.specs.UnitHeld.{unit_view};
 
 use crate::units::next_header;
@@ -27,7 +28,8 @@ pub struct DebugTypes<R> {
 impl<'a, E: Endianity> DebugTypes<EndianSlice<'a, E>> {
     /// The section of these bytes.
     pub fn new(bytes: &'a [u8], endian: E) -> Self
-        ensures { ⟦<DebugTypes<EndianSlice<'a, E>> as Section<EndianSlice<'a, E>>>⟧.content result ≡ record { big = E.big endian; place = 0; bytes = bytes.now } }
+        ensures { ⟦<DebugTypes<EndianSlice<'a, E>> as Section<EndianSlice<'a, E>>>⟧.content result
+            ≡ record { big = E.big endian; place = 0; bytes = bytes.now } }
     {
         DebugTypes {
             section: EndianSlice::new(bytes, endian),
@@ -72,18 +74,26 @@ impl<R: Reader> Section<R> for DebugTypes<R> {
 impl<R: Reader> DebugTypes<R> {
     /// A section of the same bytes.
     pub fn copy(&self) -> Self
-        ensures { ⟦<DebugTypes<R> as Section<R>>⟧.content result ≡ ⟦<DebugTypes<R> as Section<R>>⟧.content self.now }
+        ensures { ⟦<DebugTypes<R> as Section<R>>⟧.content result
+            ≡ ⟦<DebugTypes<R> as Section<R>>⟧.content self.now }
     {
         DebugTypes {
             section: self.section.copy(),
         }
     }
 
-    /// The units of the section, from its beginning on: they lie one behind the other, and each is the one at its offset.
+    /// The units of the section, from its beginning on: they lie one behind the other, and each is
+    /// the one at its offset.
     pub fn units(&self) -> DebugTypesUnitHeadersIter<R>
-        ensures begin { result ≡ record { rest = ⟦<DebugTypes<R> as Section<R>>⟧.content self.now; offset = 0 } }
-        ensures tiles { Tiles R.Offset.limit TypesSection (⟦<DebugTypes<R> as Section<R>>⟧.content self.now) }
-        ensures found { All (IsHeaderAt R.Offset.limit TypesSection (⟦<DebugTypes<R> as Section<R>>⟧.content self.now)) (units_of R.Offset.limit TypesSection (⟦<DebugTypes<R> as Section<R>>⟧.content self.now)).units }
+        ensures begin { result
+            ≡ record { rest = ⟦<DebugTypes<R> as Section<R>>⟧.content self.now; offset = 0 } }
+        ensures tiles { Tiles R.Offset.limit TypesSection
+            (⟦<DebugTypes<R> as Section<R>>⟧.content self.now) }
+        ensures found { All
+            (IsHeaderAt R.Offset.limit TypesSection
+            (⟦<DebugTypes<R> as Section<R>>⟧.content self.now))
+            (units_of R.Offset.limit TypesSection
+            (⟦<DebugTypes<R> as Section<R>>⟧.content self.now)).units }
     {
         DebugTypesUnitHeadersIter {
             input: self.section.copy(),
@@ -105,7 +115,8 @@ impl<R: Reader> Model for DebugTypesUnitHeadersIter<R> {
 
     ghost view = { λ u. record { rest = R.view u.input; offset = R.Offset.number u.offset.0 } };
 
-    ghost invariant = { λ u. R.Offset.number u.offset.0 + length (R.view u.input).bytes < R.Offset.limit };
+    ghost invariant = { λ u. R.Offset.number u.offset.0 + length (R.view u.input).bytes
+        < R.Offset.limit };
 }
 
 impl<R: Reader> DebugTypesUnitHeadersIter<R> {
@@ -124,10 +135,16 @@ impl<R: Reader> DebugTypesUnitHeadersIter<R> {
     /// Refusals: `UnexpectedEof`, `UnknownReservedLength`, `UnknownVersion`, `UnknownUnitType`,
     /// `UnsupportedAddressSize`, `UnsupportedOffset`; nothing is left then.
     pub fn next(&mut self) -> Result<Option<UnitHeader<R>>>
-        ensures value { (answer_of (option_map unit_view) result, self.new) ≡ next_unit R.Offset.limit TypesSection self.old }
-        ensures ahead { units_ahead R.Offset.limit TypesSection self.old ≡ answered (answer_of (option_map unit_view) result) (units_ahead R.Offset.limit TypesSection self.new) }
-        ensures size { IfOk result (λ unit. IfSome unit (λ u. size_of_header (unit_view u) ≡ header_size (unit_view u))) }
-        ensures takes { MatchResult result (λ unit. OnSome unit (length self.new.rest.bytes < length self.old.rest.bytes)) (λ _. length self.new.rest.bytes < length self.old.rest.bytes) }
+        ensures value { (answer_of (option_map unit_view) result, self.new)
+            ≡ next_unit R.Offset.limit TypesSection self.old }
+        ensures ahead { units_ahead R.Offset.limit TypesSection self.old
+            ≡ answered (answer_of (option_map unit_view) result)
+            (units_ahead R.Offset.limit TypesSection self.new) }
+        ensures size { IfOk result
+            (λ unit. IfSome unit (λ u. size_of_header (unit_view u) ≡ header_size (unit_view u))) }
+        ensures takes { MatchResult result
+            (λ unit. OnSome unit (length self.new.rest.bytes < length self.old.rest.bytes))
+            (λ _. length self.new.rest.bytes < length self.old.rest.bytes) }
     {
         next_header(&mut self.input, &mut self.offset, SectionId::DebugTypes)
     }
@@ -136,7 +153,9 @@ impl<R: Reader> DebugTypesUnitHeadersIter<R> {
 impl<R: Reader> Iterator for DebugTypesUnitHeadersIter<R> {
     type Item = Result<UnitHeader<R>>;
 
-    ghost next_gives = { λ s r t. IsNextUnit R.Offset.limit TypesSection s (answer_of (option_map unit_view) (transposed r)) t };
+    ghost next_gives = { λ s r t.
+        IsNextUnit R.Offset.limit TypesSection s (answer_of (option_map unit_view) (transposed r))
+        t };
 
     ghost remaining = { λ s. at_most (length s.rest.bytes) };
 

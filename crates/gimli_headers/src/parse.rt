@@ -44,7 +44,8 @@ fn implied_type(section: SectionId) -> DwUt
     }
 }
 
-// The fields of versions 2 to 4, behind the version; where they are refused, the input is left anywhere.
+// The fields of versions 2 to 4, behind the version; where they are refused, the input is left
+// anywhere.
 #[tactic(auto, unfolding(crate::specs::Header::old_common_at))]
 fn parse_old_common<R: Reader>(
     input: &mut R,
@@ -52,7 +53,8 @@ fn parse_old_common<R: Reader>(
     format: Format,
     version: u16,
 ) -> Result<Common<R::Offset>>
-    ensures { read (answer_of (common_of R.Offset.number) result) (R.view input.new) ≡ old_common_at R.Offset.limit section format version (R.view input.old) }
+    ensures { read (answer_of (common_of R.Offset.number) result) (R.view input.new)
+        ≡ old_common_at R.Offset.limit section format version (R.view input.old) }
 {
     let debug_abbrev_offset = DebugAbbrevOffset(input.read_offset(format)?);
     let address_size = input.read_address_size()?;
@@ -71,7 +73,8 @@ fn parse_new_common<R: Reader>(
     format: Format,
     version: u16,
 ) -> Result<Common<R::Offset>>
-    ensures { read (answer_of (common_of R.Offset.number) result) (R.view input.new) ≡ new_common_at R.Offset.limit format version (R.view input.old) }
+    ensures { read (answer_of (common_of R.Offset.number) result) (R.view input.new)
+        ≡ new_common_at R.Offset.limit format version (R.view input.old) }
 {
     let unit_type = DwUt(input.read_u8()?);
     let address_size = input.read_address_size()?;
@@ -84,14 +87,16 @@ fn parse_new_common<R: Reader>(
     })
 }
 
-// The fields behind a length field, up to those that the type adds; where they are refused, the input is left anywhere.
+// The fields behind a length field, up to those that the type adds; where they are refused, the
+// input is left anywhere.
 #[tactic(auto, unfolding(crate::specs::Header::common_at))]
 fn parse_common<R: Reader>(
     input: &mut R,
     section: SectionId,
     format: Format,
 ) -> Result<Common<R::Offset>>
-    ensures { read (answer_of (common_of R.Offset.number) result) (R.view input.new) ≡ common_at R.Offset.limit section format (R.view input.old) }
+    ensures { read (answer_of (common_of R.Offset.number) result) (R.view input.new)
+        ≡ common_at R.Offset.limit section format (R.view input.old) }
 {
     let version = input.read_u16()?;
     if 2 <= version && version <= 4 {
@@ -103,13 +108,15 @@ fn parse_common<R: Reader>(
     }
 }
 
-// A signature, and where the type's entry stands; where they are refused, the input is left anywhere.
+// A signature, and where the type's entry stands; where they are refused, the input is left
+// anywhere.
 #[tactic(auto, unfolding(crate::specs::Header::signature_at))]
 fn parse_signature<R: Reader>(
     input: &mut R,
     format: Format,
 ) -> Result<(DebugTypeSignature, UnitOffset<R::Offset>)>
-    ensures { read (answer_of (λ p. (p.0.0, R.Offset.number p.1.0)) result) (R.view input.new) ≡ signature_at R.Offset.limit format (R.view input.old) }
+    ensures { read (answer_of (λ p. (p.0.0, R.Offset.number p.1.0)) result) (R.view input.new)
+        ≡ signature_at R.Offset.limit format (R.view input.old) }
 {
     let type_signature = DebugTypeSignature(input.read_u64()?);
     let type_offset = UnitOffset(input.read_offset(format)?);
@@ -119,7 +126,8 @@ fn parse_signature<R: Reader>(
 // What the type of a code adds; where it is refused, the input is left anywhere.
 #[tactic(auto, unfolding(crate::specs::Header::type_at))]
 fn parse_type<R: Reader>(input: &mut R, format: Format, code: DwUt) -> Result<UnitType<R::Offset>>
-    ensures { read (answer_of (map_type R.Offset.number) result) (R.view input.new) ≡ type_at R.Offset.limit format code.0 (R.view input.old) }
+    ensures { read (answer_of (map_type R.Offset.number) result) (R.view input.new)
+        ≡ type_at R.Offset.limit format code.0 (R.view input.old) }
 {
     match code {
         DW_UT_compile => Ok(UnitType::Compilation),
@@ -145,14 +153,16 @@ fn parse_type<R: Reader>(input: &mut R, format: Format, code: DwUt) -> Result<Un
     }
 }
 
-/// The next unit, which begins at an offset of its section; where it is refused, the input is left anywhere.
+/// The next unit, which begins at an offset of its section; where it is refused, the input is left
+/// anywhere.
 #[tactic(auto, unfolding(crate::specs::Header::unit_at, crate::specs::Header::fields_at))]
 pub(crate) fn parse_unit_header<R: Reader>(
     input: &mut R,
     section: SectionId,
     unit_offset: UnitSectionOffset<R::Offset>,
 ) -> Result<UnitHeader<R>>
-    ensures value { read (answer_of unit_view result) (R.view input.new) ≡ unit_at R.Offset.limit section (R.Offset.number unit_offset.0) (R.view input.old) }
+    ensures value { read (answer_of unit_view result) (R.view input.new)
+        ≡ unit_at R.Offset.limit section (R.Offset.number unit_offset.0) (R.view input.old) }
     ensures size { IfOk result (λ u. size_of_header (unit_view u) ≡ header_size (unit_view u)) }
 {
     let (unit_length, format) = input.read_initial_length()?;

@@ -1,6 +1,7 @@
 //! The check of sibling references.
 
-ghost use Rattle.std.specs.Prelude.{◌≡◌, ℕ, pos, ◌-ℤ◌, ◌++◌, ◌↔◌, List, [], ◌∷◌, None, Ok, true, IfOk, IfErr, IfSome, OnOk};
+ghost use Rattle.std.specs.Prelude.{◌≡◌, ℕ, pos, ◌-ℤ◌, ◌++◌, ◌↔◌, List, [], ◌∷◌, None, Ok, true};
+ghost use Rattle.std.specs.Prelude.{IfOk, IfErr, IfSome, OnOk};
 ghost use Rattle.std.specs.Option.{option_map};
 ghost use Rattle.gimli_base.specs.declared.error.Error.TheVariants.{OutOfMemory};
 ghost use Rattle.gimli_base.specs.Table.{found};
@@ -13,7 +14,8 @@ ghost use Rattle.gimli_units.specs.Honest.{target, within};
 ghost use Rattle.gimli_units.specs.CursorMoves.{rows_of};
 ghost use Rattle.gimli_units.specs.Unit.{whole_length};
 ghost use Rattle.gimli_units.specs.UnitHeld.{unit_view};
-ghost use Rattle.gimli_units.specs.UnitRows.{unit_rows, start_view, IsHonestAt, IsHonestFrom, StandsAt};
+ghost use Rattle.gimli_units.specs.UnitRows.{unit_rows, start_view, IsHonestAt, IsHonestFrom};
+ghost use Rattle.gimli_units.specs.UnitRows.{StandsAt};
 ghost use Rattle.gimli_units.specs.FirstFalse.{first_false};
 ghost use Rattle.gimli_units.specs.LeastFalse.{IsLeastFalse};
 ghost use Rattle.gimli_headers.specs.OpenRows.{OpenRow, open_of, checked, row_of, Rise, judged};
@@ -31,8 +33,8 @@ struct Open<Offset> {
     target: UnitOffset<Offset>,
 }
 
-// What a check has found: the open entries, the innermost last, and the first entry that is closed and whose reference is
-// false.
+// What a check has found: the open entries, the innermost last, and the first entry that is closed
+// and whose reference is false.
 #[derive(Drop)]
 struct Check<Offset, A: Allocator> {
     open: Vec<Open<Offset>, A>,
@@ -50,7 +52,8 @@ fn reference<R: Reader>(value: &AttributeValue<R>) -> Option<UnitOffset<R::Offse
     }
 }
 
-// Where the reference of an entry leads, if it has children and its first sibling reference is an offset in the unit.
+// Where the reference of an entry leads, if it has children and its first sibling reference is an
+// offset in the unit.
 fn sibling<R: Reader, A: Allocator>(
     entry: &DebuggingInformationEntry<R, A>,
 ) -> Option<UnitOffset<R::Offset>>
@@ -120,8 +123,8 @@ impl<Offset: ReaderOffset, A: Allocator> Check<Offset, A> {
         self.first = Some(offset);
     }
 
-    // Opens an entry of this depth whose reference can be followed, where no false reference is found yet. Refusal:
-    // `OutOfMemory`.
+    // Opens an entry of this depth whose reference can be followed, where no false reference is
+    // found yet. Refusal: `OutOfMemory`.
     fn enter(
         &mut self,
         offset: UnitOffset<Offset>,
@@ -155,7 +158,8 @@ impl<Offset: ReaderOffset, A: Allocator> Check<Offset, A> {
         }
     }
 
-    // What is answered where an entry is refused: the rows before it are judged, unless memory was refused.
+    // What is answered where an entry is refused: the rows before it are judged, unless memory was
+    // refused.
     fn stop(&self, error: Error) -> Result<Option<UnitOffset<Offset>>>
         ensures value { IfOk result (λ o. (error ≡ OutOfMemory → ⊥) ×
             ((end : ℕ) → option_map (λ x. Offset.number x.0) o
@@ -169,7 +173,8 @@ impl<Offset: ReaderOffset, A: Allocator> Check<Offset, A> {
     }
 }
 
-// Goes behind an entry or a null, with the offsets of what is behind it and of the end. Refusal: `OutOfMemory`.
+// Goes behind an entry or a null, with the offsets of what is behind it and of the end. Refusal:
+// `OutOfMemory`.
 fn go_behind<R: Reader, A: Allocator>(
     check: &mut Check<R::Offset, A>,
     entry: &DebuggingInformationEntry<R, A>,
@@ -223,11 +228,11 @@ fn first_false_ahead<R: Reader, A: Allocator + Copy>(
     Ok(check.finish())
 }
 
-/// The offset of the first entry of a unit whose sibling reference can be followed and does not lead just past the null
-/// that closes its children, also where there is no such null; or none.
+/// The offset of the first entry of a unit whose sibling reference can be followed and does not
+/// lead just past the null that closes its children, also where there is no such null; or none.
 ///
-/// There is none exactly where the rows of the unit are honest, and they are then honest from the offset of each on. Rows
-/// before a refusal of bytes are judged. Refusal: `OutOfMemory`.
+/// There is none exactly where the rows of the unit are honest, and they are then honest from the
+/// offset of each on. Rows before a refusal of bytes are judged. Refusal: `OutOfMemory`.
 pub fn first_false_sibling<R: Reader, A: Allocator + Copy>(
     alloc: A,
     unit: &UnitHeader<R>,

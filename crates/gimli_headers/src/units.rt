@@ -11,8 +11,8 @@ use crate::parse::parse_unit_header;
 use gimli_base::{Reader, ReaderOffset, Result, SectionId};
 use gimli_units::{UnitHeader, UnitSectionOffset};
 
-// The next unit of a section, of which `input` is left and begins at `offset`: none where nothing is left. Behind a refusal
-// nothing is left.
+// The next unit of a section, of which `input` is left and begins at `offset`: none where nothing
+// is left. Behind a refusal nothing is left.
 #[tactic(auto, unfolding(crate::specs::Units::next_unit))]
 pub(crate) fn next_header<R: Reader>(
     input: &mut R,
@@ -20,9 +20,17 @@ pub(crate) fn next_header<R: Reader>(
     section: SectionId,
 ) -> Result<Option<UnitHeader<R>>>
     requires { R.Offset.number offset.old.0 + length (R.view input.old).bytes < R.Offset.limit }
-    ensures value { (answer_of (option_map unit_view) result, record { rest = R.view input.new; offset = R.Offset.number offset.new.0 }) ≡ next_unit R.Offset.limit section (record { rest = R.view input.old; offset = R.Offset.number offset.old.0 }) }
-    ensures size { IfOk result (λ unit. IfSome unit (λ u. size_of_header (unit_view u) ≡ header_size (unit_view u))) }
-    ensures takes { MatchResult result (λ unit. OnSome unit (length (R.view input.new).bytes < length (R.view input.old).bytes)) (λ _. length (R.view input.new).bytes < length (R.view input.old).bytes) }
+    ensures value { (
+      answer_of (option_map unit_view) result,
+      record { rest = R.view input.new; offset = R.Offset.number offset.new.0 },
+    )
+        ≡ next_unit R.Offset.limit section
+        (record { rest = R.view input.old; offset = R.Offset.number offset.old.0 }) }
+    ensures size { IfOk result
+        (λ unit. IfSome unit (λ u. size_of_header (unit_view u) ≡ header_size (unit_view u))) }
+    ensures takes { MatchResult result
+        (λ unit. OnSome unit (length (R.view input.new).bytes < length (R.view input.old).bytes))
+        (λ _. length (R.view input.new).bytes < length (R.view input.old).bytes) }
     ensures fits { R.Offset.number offset.new.0 + length (R.view input.new).bytes < R.Offset.limit }
 {
     if input.is_empty() {

@@ -1,3 +1,5 @@
+pub mod PlaceSteps
+pub mod ArangePadding
 pub mod SetReads
 pub mod SetSteps
 pub mod TupleReads

@@ -1,5 +1,7 @@
 -- The ranges of addresses of a set: its tuples, and what each stands for (DWARF 5, 6.1.2 and 7.21).
-use Rattle.std.specs.Prelude.{◌≡◌, ℕ, zero, suc, ◌+◌, ◌*◌, ◌/◌, ◌==◌, ◌&&◌, nat_lt, nat_le, if◌then◌else◌, is_some, List, [], ◌∷◌, length, take, drop, slice_get, Option, Some, None, option_and_then, MatchOption, Result, Ok}
+use Rattle.std.specs.Prelude.{◌≡◌, ℕ, zero, suc, ◌+◌, ◌*◌, ◌/◌, ◌==◌, ◌&&◌, nat_lt, nat_le}
+use Rattle.std.specs.Prelude.{if◌then◌else◌, is_some, List, [], ◌∷◌, length, take, drop, slice_get}
+use Rattle.std.specs.Prelude.{Option, Some, None, option_and_then, MatchOption, Result, Ok}
 use Rattle.std.specs.List.{filter_map, position_or_len}
 use Rattle.std.specs.Result.{result_transpose}
 use Rattle.gimli_base.specs.declared.common.Encoding.{Encoding}
@@ -23,19 +25,25 @@ tuples_in (suc n) size v = tuple_of size v ∷ tuples_in n size (cut (2 * size) 
 unfoldable pub tuples_of : ℕ → View → List (ℕ × ℕ)
 tuples_of size v = tuples_in (length v.bytes / (2 * size)) size v
 
--- the next tuple, and what is left behind it; none where fewer bytes are left than a tuple has, and then none is left
+-- the next tuple, and what is left behind it; none where fewer bytes are left than a tuple has, and
+-- then none is left
 abbrev pub next_tuple : ℕ → View → Result (Option (ℕ × ℕ)) Error × View
-next_tuple size v = if nat_le (2 * size) (length v.bytes) then (Ok (Some (tuple_of size v)), cut (2 * size) v) else (Ok None, ended v)
+next_tuple size v = if nat_le (2 * size) (length v.bytes)
+    then (Ok (Some (tuple_of size v)), cut (2 * size) v) else (Ok None, ended v)
 
 -- a tuple as it stands, without its end; two zeros stand for nothing
 abbrev pub raw_entry : ℕ × ℕ → Option ArangeEntry
-raw_entry t = if (t.0 == 0 && t.1 == 0) then None else Some (record { range = record { begin = t.0; end = 0 }; length = t.1 })
+raw_entry t = if (t.0 == 0 && t.1 == 0) then None
+    else Some (record { range = record { begin = t.0; end = 0 }; length = t.1 })
 
 -- the entry of an address and a length with its end; none where the address stands for none
 abbrev pub converted : ℕ → ArangeEntry → Result (Option ArangeEntry) Error
 converted size e =
     if nat_le (min_tombstone size) e.range.begin then Ok None
-    else answer_of (λ end. Some (record { range = record { begin = e.range.begin; end = end }; length = e.length })) (sum_sized size e.range.begin e.length)
+    else answer_of
+    (λ end.
+    Some (record { range = record { begin = e.range.begin; end = end }; length = e.length }))
+    (sum_sized size e.range.begin e.length)
 
 -- what a tuple stands for: nothing, a refusal, or a range
 abbrev pub answer_to : ℕ → ℕ × ℕ → Option (Result ArangeEntry Error)
@@ -53,12 +61,15 @@ aranges_of size v = filter_map (answer_to size) (tuples_of size v)
 abbrev pub before_first : {B : Type 0} → (ℕ × ℕ → Option B) → List (ℕ × ℕ) → ℕ
 before_first f ts = position_or_len (λ t. is_some (f t)) ts
 
--- The first that `f` makes of a tuple, and what is left: the bytes behind that tuple, or none where there is no such tuple.
+-- The first that `f` makes of a tuple, and what is left: the bytes behind that tuple, or none where
+-- there is no such tuple.
 unfoldable pub first_of_tuples : {B : Type 0} → (ℕ × ℕ → Option B) → ℕ → View → Option B × View
 first_of_tuples f size v =
     let ts = tuples_of size v in
-    let n = before_first f ts in
-    (option_and_then f (slice_get ts n), if nat_lt n (length ts) then cut ((n + 1) * (2 * size)) v else ended v)
+    let n = before_first f ts in (
+      option_and_then f (slice_get ts n),
+      if nat_lt n (length ts) then cut ((n + 1) * (2 * size)) v else ended v,
+    )
 
 -- where the reading of a set's tuples stands: what is left, and how it is read
 pub record ArangesPlace : Type 0 where
@@ -71,18 +82,23 @@ with_rest p v = record { rest = v; encoding = p.encoding }
 
 -- the next raw entry of a set, and the place that its reading leaves
 abbrev pub next_raw_entry : ArangesPlace → Option ArangeEntry × ArangesPlace
-next_raw_entry p = let q = first_of_tuples raw_entry p.encoding.address_size p.rest in (q.0, with_rest p q.1)
+next_raw_entry p = let q = first_of_tuples raw_entry p.encoding.address_size p.rest in
+    (q.0, with_rest p q.1)
 
 -- the next range of a set or its refusal, and the place that its reading leaves
 abbrev pub next_arange : ArangesPlace → Option (Result ArangeEntry Error) × ArangesPlace
-next_arange p = let q = first_of_tuples (answer_to p.encoding.address_size) p.encoding.address_size p.rest in (q.0, with_rest p q.1)
+next_arange p =
+    let q = first_of_tuples (answer_to p.encoding.address_size) p.encoding.address_size p.rest in
+    (q.0, with_rest p q.1)
 
 -- the ranges ahead of a place, each or its refusal
 abbrev pub aranges_ahead : ArangesPlace → List (Result ArangeEntry Error)
 aranges_ahead p = aranges_of p.encoding.address_size p.rest
 
--- What an iterator answers at a place, and the place that it leaves: the next range. The ranges ahead are that one, and then those
--- ahead of the place that is left; where there is no next one, none is ahead.
-pub record IsNextArange (p : ArangesPlace) (a : Option (Result ArangeEntry Error)) (q : ArangesPlace) : Type 0 where
+-- What an iterator answers at a place, and the place that it leaves: the next range. The ranges
+-- ahead are that one, and then those ahead of the place that is left; where there is no next one,
+-- none is ahead.
+pub record IsNextArange (p : ArangesPlace) (a : Option (Result ArangeEntry Error))
+    (q : ArangesPlace) : Type 0 where
   pub is : (a, q) ≡ next_arange p
   pub ahead : MatchOption a (aranges_ahead p ≡ []) (λ x. aranges_ahead p ≡ x ∷ aranges_ahead q)

@@ -1,12 +1,10 @@
 pub mod ListsHeader
 pub mod Aranges
 pub mod ArangeSets
-pub mod ArangePadding
 pub mod RawList
 pub mod Resolved
 pub mod ListSteps
 pub mod Places
-pub mod PlaceSteps
 pub mod EntryMoves
 pub mod RangeEntry
 pub mod RangeReads

@@ -1,5 +1,8 @@
--- A list as its reading moves along it, and its answers with the base address that is at hand (DWARF 5, 2.6.2 and 2.17.3).
-use Rattle.std.specs.Prelude.{◌≡◌, ℕ, zero, suc, ◌+◌, ◌-◌, ◌^◌, ◌<◌, ◌≤◌, ◌==◌, nat_lt, ◌&&◌, if◌then◌else◌, Bool, true, false, List, [], ◌∷◌, ◌++◌, map, min, take, reverse, length, Option, Some, None, unwrap_or, Result, Ok, Err, IfOk}
+-- A list as its reading moves along it, and its answers with the base address that is at hand
+-- (DWARF 5, 2.6.2 and 2.17.3).
+use Rattle.std.specs.Prelude.{◌≡◌, ℕ, zero, suc, ◌+◌, ◌-◌, ◌^◌, ◌<◌, ◌≤◌, ◌==◌, nat_lt, ◌&&◌}
+use Rattle.std.specs.Prelude.{if◌then◌else◌, Bool, true, false, List, [], ◌∷◌, ◌++◌, map, min, take}
+use Rattle.std.specs.Prelude.{reverse, length, Option, Some, None, unwrap_or, Result, Ok, Err, IfOk}
 use Rattle.std.specs.List.{All, enumerate_from, filter_map, prefix_len}
 use Rattle.std.specs.Option.{option_or}
 use Rattle.std.proofs.Common.{refl, sym, ap, ◌∙◌, arith, inl, inr}
@@ -10,9 +13,16 @@ use Rattle.std.proofs.lemmas.Bool.Decides.{eqb_tells}
 use Rattle.gimli_base.specs.declared.error.Error.{Error}
 use Rattle.gimli_base.specs.View.{View}
 use Rattle.gimli_base.specs.Reading.{Reads}
-use Rattle.gimli_lists.specs.RawList.{Entry, address_or_offset_pair, base_address, base_addressx, startx_endx, startx_length, offset_pair, default_location, start_end, start_length, EntryReads, Ending, end_of_list, used_up, refused, RawList, no_entries, then_entry, then_list, list_within, list_at}
+use Rattle.gimli_lists.specs.RawList.{Entry, address_or_offset_pair, base_address, base_addressx}
+use Rattle.gimli_lists.specs.RawList.{startx_endx, startx_length, offset_pair, default_location}
+use Rattle.gimli_lists.specs.RawList.{start_end, start_length, EntryReads, Ending, end_of_list}
+use Rattle.gimli_lists.specs.RawList.{used_up, refused, RawList, no_entries, then_entry, then_list}
+use Rattle.gimli_lists.specs.RawList.{list_within, list_at}
 use Rattle.gimli_base.specs.Address.{min_tombstone, wrapped_sum}
-use Rattle.gimli_lists.specs.Resolved.{LookUp, Resolved, located, located_from, if_found, base_given, first_base, base_before, resolve, resolve_each, some_answer, last_answer, is_nothing, entries_read, entry_answers, resolved_list}
+use Rattle.gimli_lists.specs.Resolved.{LookUp, Resolved, located, located_from, if_found}
+use Rattle.gimli_lists.specs.Resolved.{base_given, first_base, base_before, resolve, resolve_each}
+use Rattle.gimli_lists.specs.Resolved.{some_answer, last_answer, is_nothing, entries_read}
+use Rattle.gimli_lists.specs.Resolved.{entry_answers, resolved_list}
 
 -- the first base of entries with one more at their end
 first_base-last : {P : Type 0} → (look_up : LookUp) (es : List (Entry P)) (e : Entry P)
@@ -24,8 +34,11 @@ first_base-last look_up [] e = none (base_given look_up e)
     none (Some a) = refl
 first_base-last look_up (x ∷ es) e = either (base_given look_up x) (first_base-last look_up es e)
   where
-    either : (o : Option ℕ) → first_base look_up (es ++ e ∷ []) ≡ option_or (first_base look_up es) (base_given look_up e)
-        → option_or o (first_base look_up (es ++ e ∷ [])) ≡ option_or (option_or o (first_base look_up es)) (base_given look_up e)
+    either : (o : Option ℕ)
+        → first_base look_up (es ++ e ∷ [])
+        ≡ option_or (first_base look_up es) (base_given look_up e)
+        → option_or o (first_base look_up (es ++ e ∷ []))
+        ≡ option_or (option_or o (first_base look_up es)) (base_given look_up e)
     either None h = h
     either (Some a) h = refl
 
@@ -33,11 +46,15 @@ first_base-last look_up (x ∷ es) e = either (base_given look_up x) (first_base
 abbrev pub base_after : {P : Type 0} → LookUp → ℕ → Entry P → ℕ
 base_after look_up base e = unwrap_or (base_given look_up e) base
 
--- behind an entry, the base before a later entry is that of the entries between, with the base behind the entry at hand
-pub base_before-later : {P : Type 0} → (look_up : LookUp) (base : ℕ) (e : Entry P) (es : List (Entry P)) (i : ℕ)
-    → base_before look_up base (e ∷ es) (suc i) ≡ base_before look_up (base_after look_up base e) es i
+-- behind an entry, the base before a later entry is that of the entries between, with the base
+-- behind the entry at hand
+pub base_before-later : {P : Type 0}
+    → (look_up : LookUp) (base : ℕ) (e : Entry P) (es : List (Entry P)) (i : ℕ)
+    → base_before look_up base (e ∷ es) (suc i)
+    ≡ base_before look_up (base_after look_up base e) es i
 base_before-later look_up base e es i =
-    let turned : reverse (e ∷ take i es) ≡ reverse (take i es) ++ e ∷ [] = reverse-append (e ∷ []) (take i es) in
+    let turned : reverse (e ∷ take i es)
+    ≡ reverse (take i es) ++ e ∷ [] = reverse-append (e ∷ []) (take i es) in
     ap (λ xs. unwrap_or (first_base look_up xs) base) turned
     ∙ ap (λ o. unwrap_or o base) (first_base-last look_up (reverse (take i es)) e)
     ∙ either (first_base look_up (reverse (take i es))) (base_given look_up e)
@@ -47,31 +64,46 @@ base_before-later look_up base e es i =
     either (Some x) b = refl
 
 -- an answer before others, unless it is nothing
-abbrev pub then_answers : {A : Type 0} → Result (Option A) Error → List (Result A Error) → List (Result A Error)
+abbrev pub then_answers : {A : Type 0} → Result (Option A) Error → List (Result A Error)
+    → List (Result A Error)
 then_answers (Ok None) others = others
 then_answers (Ok (Some x)) others = Ok x ∷ others
 then_answers (Err e) others = Err e ∷ others
 
 module _ {P : Type 0} (size : ℕ) (look_up : LookUp) where
   resolve_later : (base : ℕ) (e : Entry P) (all : List (Entry P)) (k : ℕ) (es : List (Entry P))
-      → map (λ p. resolve size look_up (base_before look_up base (e ∷ all) p.0) p.1) (enumerate_from (suc k) es)
-      ≡ map (λ p. resolve size look_up (base_before look_up (base_after look_up base e) all p.0) p.1) (enumerate_from k es)
+      → map (λ p. resolve size look_up (base_before look_up base (e ∷ all) p.0) p.1)
+      (enumerate_from (suc k) es)
+      ≡ map
+      (λ p. resolve size look_up (base_before look_up (base_after look_up base e) all p.0) p.1)
+      (enumerate_from k es)
   resolve_later base e all k [] = refl
   resolve_later base e all k (x ∷ es) =
-      let f : ℕ × Entry P → Result (Option (Resolved P)) Error = λ p. resolve size look_up (base_before look_up base (e ∷ all) p.0) p.1 in
+      let f : ℕ × Entry P → Result (Option (Resolved P)) Error = λ p.
+      resolve size look_up (base_before look_up base (e ∷ all) p.0) p.1 in
       let next : suc k + 1 ≡ suc (k + 1) = omega arith in
-      ap (λ b. resolve size look_up b x ∷ map f (enumerate_from (suc k + 1) es)) (base_before-later look_up base e all k)
-      ∙ ap (λ n. resolve size look_up (base_before look_up (base_after look_up base e) all k) x ∷ map f (enumerate_from n es)) next
-      ∙ ap (λ rs. resolve size look_up (base_before look_up (base_after look_up base e) all k) x ∷ rs) (resolve_later base e all (k + 1) es)
+      ap (λ b. resolve size look_up b x ∷ map f (enumerate_from (suc k + 1) es))
+      (base_before-later look_up base e all k)
+      ∙ ap
+      (λ n. resolve size look_up (base_before look_up (base_after look_up base e) all k) x
+      ∷ map f (enumerate_from n es)) next
+      ∙ ap
+      (λ rs. resolve size look_up (base_before look_up (base_after look_up base e) all k) x
+      ∷ rs) (resolve_later base e all (k + 1) es)
 
-  -- the answers of entries are the first one's, and then those of the others with the base behind it
+  -- the answers of entries are the first one's, and then those of the others with the base behind
+  -- it
   pub entry_answers-first : (base : ℕ) (e : Entry P) (es : List (Entry P))
-      → entry_answers size look_up base (e ∷ es) ≡ then_answers (resolve size look_up base e) (entry_answers size look_up (base_after look_up base e) es)
+      → entry_answers size look_up base (e ∷ es)
+      ≡ then_answers (resolve size look_up base e)
+      (entry_answers size look_up (base_after look_up base e) es)
   entry_answers-first base e es =
       let first = resolve size look_up base e in
-      ap (λ rs. filter_map some_answer (first ∷ rs)) (resolve_later base e es 0 es) ∙ either first (resolve_each size look_up (base_after look_up base e) es)
+      ap (λ rs. filter_map some_answer (first ∷ rs)) (resolve_later base e es 0 es)
+      ∙ either first (resolve_each size look_up (base_after look_up base e) es)
     where
-      either : (r : Result (Option (Resolved P)) Error) (rs : List (Result (Option (Resolved P)) Error))
+      either : (r : Result (Option (Resolved P)) Error)
+          (rs : List (Result (Option (Resolved P)) Error))
           → filter_map some_answer (r ∷ rs) ≡ then_answers r (filter_map some_answer rs)
       either (Ok None) rs = refl
       either (Ok (Some x)) rs = refl
@@ -79,11 +111,14 @@ module _ {P : Type 0} (size : ℕ) (look_up : LookUp) where
 
   -- and so are those of a list
   pub resolved_list-first : (base : ℕ) (e : Entry P) (l : RawList P)
-      → resolved_list size look_up base (then_entry e l) ≡ then_answers (resolve size look_up base e) (resolved_list size look_up (base_after look_up base e) l)
+      → resolved_list size look_up base (then_entry e l)
+      ≡ then_answers (resolve size look_up base e)
+      (resolved_list size look_up (base_after look_up base e) l)
   unfolding resolved_list
   resolved_list-first base e l =
       ap (λ rs. rs ++ last_answer l.ending) (entry_answers-first base e l.entries)
-      ∙ either (resolve size look_up base e) (entry_answers size look_up (base_after look_up base e) l.entries)
+      ∙ either (resolve size look_up base e)
+      (entry_answers size look_up (base_after look_up base e) l.entries)
     where
       either : (r : Result (Option (Resolved P)) Error) (rs : List (Result (Resolved P) Error))
           → then_answers r rs ++ last_answer l.ending ≡ then_answers r (rs ++ last_answer l.ending)
@@ -92,23 +127,31 @@ module _ {P : Type 0} (size : ℕ) (look_up : LookUp) where
       either (Err e) rs = refl
 
   -- an entry that stands for nothing is read before the others
-  pub entries_read-more : (base : ℕ) (e : Entry P) (es : List (Entry P)) → Ok None ≡ resolve size look_up base e
-      → entries_read size look_up base (e ∷ es) ≡ suc (entries_read size look_up (base_after look_up base e) es)
+  pub entries_read-more : (base : ℕ) (e : Entry P) (es : List (Entry P))
+      → Ok None ≡ resolve size look_up base e
+      → entries_read size look_up base (e ∷ es)
+      ≡ suc (entries_read size look_up (base_after look_up base e) es)
   entries_read-more base e es h =
       let others = resolve_each size look_up (base_after look_up base e) es in
-      let sum : min (length (e ∷ es)) (1 + prefix_len is_nothing others + 1) ≡ suc (min (length es) (prefix_len is_nothing others + 1)) = omega arith in
-      ap (λ rs. min (length (e ∷ es)) (prefix_len is_nothing (resolve size look_up base e ∷ rs) + 1)) (resolve_later base e es 0 es)
+      let sum : min (length (e ∷ es)) (1 + prefix_len is_nothing others + 1)
+      ≡ suc (min (length es) (prefix_len is_nothing others + 1)) = omega arith in
+      ap
+      (λ rs. min (length (e ∷ es))
+      (prefix_len is_nothing (resolve size look_up base e ∷ rs) + 1))
+      (resolve_later base e es 0 es)
       ∙ ap (λ r. min (length (e ∷ es)) (prefix_len is_nothing (r ∷ others) + 1)) (sym h) ∙ sum
 
   -- an entry that stands for something is read alone
-  pub entries_read-one : (base : ℕ) (e : Entry P) (es : List (Entry P)) → is_nothing (resolve size look_up base e) ≡ false
+  pub entries_read-one : (base : ℕ) (e : Entry P) (es : List (Entry P))
+      → is_nothing (resolve size look_up base e) ≡ false
       → entries_read size look_up base (e ∷ es) ≡ 1
   entries_read-one base e es h =
       let one : min (length (e ∷ es)) (0 + 1) ≡ 1 = omega arith in
       rw h one
 
   -- of no entry there is the refusal alone
-  pub resolved_list-none : (base : ℕ) (ending : Ending) → resolved_list {P = P} size look_up base (no_entries ending) ≡ last_answer ending
+  pub resolved_list-none : (base : ℕ) (ending : Ending)
+      → resolved_list {P = P} size look_up base (no_entries ending) ≡ last_answer ending
   unfolding resolved_list
   resolved_list-none base ending = refl
 
@@ -123,38 +166,55 @@ GivesSound size (Ok (Some x)) = IsSound size x
 GivesSound size (Err e) = Unit {0}
 
 module _ {P : Type 0} (size : ℕ) where
-  located-sound : (begin end : ℕ) (payload : P) → GivesSound size (Ok (located size begin end payload))
-  located-sound begin end payload = cases (nat_lt begin (min_tombstone size)) (nat_lt begin end) refl refl
+  located-sound : (begin end : ℕ) (payload : P)
+      → GivesSound size (Ok (located size begin end payload))
+  located-sound begin end payload =
+      cases (nat_lt begin (min_tombstone size)) (nat_lt begin end) refl refl
     where
       cases : (s t : Bool) → nat_lt begin (min_tombstone size) ≡ s → nat_lt begin end ≡ t
-          → GivesSound size (Ok (if s && t then Some (record { begin = begin; end = end; payload = payload }) else None))
+          → GivesSound size
+          (Ok
+          (if s && t then Some (record { begin = begin; end = end; payload = payload })
+          else None))
       cases true true low less = (ltb-true begin end less, ltb-true begin (min_tombstone size) low)
       cases true false low less = tt
       cases false t low less = tt
 
-  located_from-sound : (base begin end : ℕ) (payload : P) → GivesSound size (Ok (located_from size base begin end payload))
+  located_from-sound : (base begin end : ℕ) (payload : P)
+      → GivesSound size (Ok (located_from size base begin end payload))
   located_from-sound base begin end payload = cases (nat_lt base (min_tombstone size))
     where
-      cases : (t : Bool) → GivesSound size (Ok (if t then located size (wrapped_sum size base begin) (wrapped_sum size base end) payload else None))
+      cases : (t : Bool) → GivesSound size
+          (Ok
+          (if t then located size (wrapped_sum size base begin) (wrapped_sum size base end) payload
+          else None))
       cases true = located-sound (wrapped_sum size base begin) (wrapped_sum size base end) payload
       cases false = tt
 
-  found-sound : (r : Result ℕ Error) (f : ℕ → Result (Option (Resolved P)) Error) → ((a : ℕ) → GivesSound size (f a)) → GivesSound size (if_found r f)
+  found-sound : (r : Result ℕ Error) (f : ℕ → Result (Option (Resolved P)) Error)
+      → ((a : ℕ) → GivesSound size (f a)) → GivesSound size (if_found r f)
   found-sound (Ok a) f h = h a
   found-sound (Err e) f h = tt
 
   -- what an entry stands for begins below its end, and below the addresses that stand for none
-  pub resolve-sound : (look_up : LookUp) (base : ℕ) (e : Entry P) → GivesSound size (resolve size look_up base e)
-  resolve-sound look_up base (address_or_offset_pair begin end p) = located_from-sound base begin end p
+  pub resolve-sound : (look_up : LookUp) (base : ℕ) (e : Entry P)
+      → GivesSound size (resolve size look_up base e)
+  resolve-sound look_up base (address_or_offset_pair begin end p) =
+      located_from-sound base begin end p
   resolve-sound look_up base (base_address address) = tt
-  resolve-sound look_up base (base_addressx index) = found-sound (look_up index) (λ a. Ok None) (λ a. tt)
+  resolve-sound look_up base (base_addressx index) =
+      found-sound (look_up index) (λ a. Ok None) (λ a. tt)
   resolve-sound look_up base (startx_endx begin end p) =
-      found-sound (look_up begin) _ (λ b. found-sound (look_up end) (λ e. Ok (located size b e p)) (λ e. located-sound b e p))
-  resolve-sound look_up base (startx_length begin length p) = found-sound (look_up begin) (λ b. Ok (located size b (wrapped_sum size b length) p)) (λ b. located-sound b (wrapped_sum size b length) p)
+      found-sound (look_up begin) _
+      (λ b. found-sound (look_up end) (λ e. Ok (located size b e p)) (λ e. located-sound b e p))
+  resolve-sound look_up base (startx_length begin length p) =
+      found-sound (look_up begin) (λ b. Ok (located size b (wrapped_sum size b length) p))
+      (λ b. located-sound b (wrapped_sum size b length) p)
   resolve-sound look_up base (offset_pair begin end p) = located_from-sound base begin end p
   resolve-sound look_up base (default_location p) = located-sound 0 (2 ^ 64 - 1) p
   resolve-sound look_up base (start_end begin end p) = located-sound begin end p
-  resolve-sound look_up base (start_length begin length p) = located-sound begin (wrapped_sum size begin length) p
+  resolve-sound look_up base (start_length begin length p) =
+      located-sound begin (wrapped_sum size begin length) p
 
 -- what holds of the ranges among answers
 abbrev pub AllSound : {P : Type 0} → ℕ → List (Result (Resolved P) Error) → Type 0
@@ -164,50 +224,71 @@ module _ {P : Type 0} (size : ℕ) (look_up : LookUp) where
   abbrev Sound : Result (Resolved P) Error → Type 0
   Sound a = IfOk a (IsSound size)
 
-  then_answers-sound : (r : Result (Option (Resolved P)) Error) (others : List (Result (Resolved P) Error)) → GivesSound size r → AllSound size others → AllSound size (then_answers r others)
+  then_answers-sound : (r : Result (Option (Resolved P)) Error)
+      (others : List (Result (Resolved P) Error)) → GivesSound size r → AllSound size others
+      → AllSound size (then_answers r others)
   then_answers-sound (Ok None) others h k = k
   then_answers-sound (Ok (Some x)) others h k = All-cons Sound (Ok x) others h k
   then_answers-sound (Err e) others h k = All-cons Sound (Err e) others tt k
 
-  entry_answers-sound : (base : ℕ) (es : List (Entry P)) → AllSound size (entry_answers size look_up base es)
+  entry_answers-sound : (base : ℕ) (es : List (Entry P))
+      → AllSound size (entry_answers size look_up base es)
   entry_answers-sound base [] = All-nil Sound
   entry_answers-sound base (e ∷ es) =
-      All-same Sound (entry_answers size look_up base (e ∷ es)) _ (entry_answers-first size look_up base e es)
-      (then_answers-sound (resolve size look_up base e) _ (resolve-sound size look_up base e) (entry_answers-sound (base_after look_up base e) es))
+      All-same Sound (entry_answers size look_up base (e ∷ es)) _
+      (entry_answers-first size look_up base e es)
+      (then_answers-sound (resolve size look_up base e) _ (resolve-sound size look_up base e)
+      (entry_answers-sound (base_after look_up base e) es))
 
   last_answer-sound : (ending : Ending) → AllSound {P = P} size (last_answer ending)
   last_answer-sound end_of_list = All-nil Sound
   last_answer-sound used_up = All-nil Sound
   last_answer-sound (refused e) = All-cons Sound (Err e) [] tt (All-nil Sound)
 
-  -- each range among the answers of a list begins below its end, and below the addresses that stand for none
-  pub resolved_list-sound : (base : ℕ) (l : RawList P) → AllSound size (resolved_list size look_up base l)
+  -- each range among the answers of a list begins below its end, and below the addresses that stand
+  -- for none
+  pub resolved_list-sound : (base : ℕ) (l : RawList P)
+      → AllSound size (resolved_list size look_up base l)
   unfolding resolved_list
-  resolved_list-sound base l = All-append Sound (entry_answers size look_up base l.entries) (last_answer l.ending) (entry_answers-sound base l.entries) (last_answer-sound l.ending)
+  resolved_list-sound base l =
+      All-append Sound (entry_answers size look_up base l.entries) (last_answer l.ending)
+      (entry_answers-sound base l.entries) (last_answer-sound l.ending)
 
 -- the list of a view, where each entry takes a byte at least
-module _ {P : Type 0} (next : EntryReads P) (shorter : (v : View) (e : Option (Entry P)) (w : View) → Ok (e, w) ≡ next v → length w.bytes < length v.bytes) where
+module _ {P : Type 0} (next : EntryReads P)
+    (shorter : (v : View) (e : Option (Entry P)) (w : View) → Ok (e, w) ≡ next v
+    → length w.bytes < length v.bytes) where
   within_ended : (n : ℕ) (v : View) → length v.bytes ≡ 0 → list_within next n v ≡ no_entries used_up
   unfolding list_within
   within_ended zero v h = refl
   within_ended (suc n) v h = let t : (length v.bytes == 0) ≡ true = rw h refl in rw t refl
 
-  within_some : (n : ℕ) (v : View) → (length v.bytes ≡ 0 → ⊥) → list_within next (suc n) v ≡ then_list (next v) (list_within next n)
+  within_some : (n : ℕ) (v : View) → (length v.bytes ≡ 0 → ⊥)
+      → list_within next (suc n) v ≡ then_list (next v) (list_within next n)
   unfolding list_within
-  within_some n v some = let t : (length v.bytes == 0) ≡ false = ne_eqb (length v.bytes) 0 some in rw t refl
+  within_some n v some = let t : (length v.bytes == 0) ≡ false = ne_eqb (length v.bytes) 0 some in
+      rw t refl
 
   -- any number that is enough gives the same list
-  within_enough : (m n : ℕ) (v : View) → length v.bytes ≤ m → length v.bytes ≤ n → list_within next m v ≡ list_within next n v
+  within_enough : (m n : ℕ) (v : View) → length v.bytes ≤ m → length v.bytes ≤ n
+      → list_within next m v ≡ list_within next n v
   within_enough zero n v h k =
-      let none : length v.bytes ≡ 0 = omega (arith, h) in within_ended zero v none ∙ sym (within_ended n v none)
+      let none : length v.bytes ≡ 0 = omega (arith, h) in
+      within_ended zero v none ∙ sym (within_ended n v none)
   within_enough (suc m) zero v h k =
-      let none : length v.bytes ≡ 0 = omega (arith, k) in within_ended (suc m) v none ∙ sym (within_ended zero v none)
+      let none : length v.bytes ≡ 0 = omega (arith, k) in
+      within_ended (suc m) v none ∙ sym (within_ended zero v none)
   within_enough (suc m) (suc n) v h k = elim (eqb_tells (length v.bytes) 0) [
     | inl none ↦ within_ended (suc m) v none.1 ∙ sym (within_ended (suc n) v none.1)
-    | inr some ↦ within_some m v some.1 ∙ read (next v) refl (λ w lt. within_enough m n w (omega (arith, h, lt)) (omega (arith, k, lt))) ∙ sym (within_some n v some.1)
+    | inr some ↦ within_some m v some.1
+        ∙ read (next v) refl
+        (λ w lt. within_enough m n w (omega (arith, h, lt)) (omega (arith, k, lt)))
+        ∙ sym (within_some n v some.1)
   ]
     where
-      read : (r : Reads (Option (Entry P))) → r ≡ next v → ((w : View) → length w.bytes < length v.bytes → list_within next m w ≡ list_within next n w)
+      read : (r : Reads (Option (Entry P))) → r ≡ next v
+          → ((w : View) → length w.bytes < length v.bytes
+          → list_within next m w ≡ list_within next n w)
           → then_list r (list_within next m) ≡ then_list r (list_within next n)
       read (Err e) is rest = refl
       read (Ok (None, w)) is rest = refl
@@ -218,24 +299,31 @@ module _ {P : Type 0} (next : EntryReads P) (shorter : (v : View) (e : Option (E
   unfolding list_at
   list_ended v none = within_ended (length v.bytes) v none
 
-  list_some : (v : View) → (length v.bytes ≡ 0 → ⊥) → list_at next v ≡ then_list (next v) (list_within next (length v.bytes - 1))
+  list_some : (v : View) → (length v.bytes ≡ 0 → ⊥)
+      → list_at next v ≡ then_list (next v) (list_within next (length v.bytes - 1))
   unfolding list_at
   list_some v some =
       let one : length v.bytes ≡ suc (length v.bytes - 1) = omega (arith, some) in
       ap (λ k. list_within next k v) one ∙ within_some (length v.bytes - 1) v some
 
   -- the end of a list ends it
-  pub list_end : (v w : View) → (length v.bytes ≡ 0 → ⊥) → Ok (None, w) ≡ next v → list_at next v ≡ no_entries end_of_list
-  list_end v w some h = list_some v some ∙ ap (λ r. then_list r (list_within next (length v.bytes - 1))) (sym h)
+  pub list_end : (v w : View) → (length v.bytes ≡ 0 → ⊥) → Ok (None, w) ≡ next v
+      → list_at next v ≡ no_entries end_of_list
+  list_end v w some h =
+      list_some v some ∙ ap (λ r. then_list r (list_within next (length v.bytes - 1))) (sym h)
 
   -- a refusal ends a list
-  pub list_refused : (v : View) (e : Error) → (length v.bytes ≡ 0 → ⊥) → Err e ≡ next v → list_at next v ≡ no_entries (refused e)
-  list_refused v e some h = list_some v some ∙ ap (λ r. then_list r (list_within next (length v.bytes - 1))) (sym h)
+  pub list_refused : (v : View) (e : Error) → (length v.bytes ≡ 0 → ⊥) → Err e ≡ next v
+      → list_at next v ≡ no_entries (refused e)
+  list_refused v e some h =
+      list_some v some ∙ ap (λ r. then_list r (list_within next (length v.bytes - 1))) (sym h)
 
   -- an entry, and then those behind it
-  pub list_more : (v : View) (e : Entry P) (w : View) → (length v.bytes ≡ 0 → ⊥) → Ok (Some e, w) ≡ next v → list_at next v ≡ then_entry e (list_at next w)
+  pub list_more : (v : View) (e : Entry P) (w : View) → (length v.bytes ≡ 0 → ⊥)
+      → Ok (Some e, w) ≡ next v → list_at next v ≡ then_entry e (list_at next w)
   unfolding list_at
   list_more v e w some h =
       let lt = shorter v (Some e) w h in
       list_some v some ∙ ap (λ r. then_list r (list_within next (length v.bytes - 1))) (sym h)
-      ∙ ap (then_entry e) (within_enough (length v.bytes - 1) (length w.bytes) w (omega (arith, lt)) (omega arith))
+      ∙ ap (then_entry e)
+      (within_enough (length v.bytes - 1) (length w.bytes) w (omega (arith, lt)) (omega arith))

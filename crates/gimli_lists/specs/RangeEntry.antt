@@ -1,13 +1,23 @@
--- An entry of a range list in the encoding of its version (DWARF 5, 2.17.3 and 7.25; DWARF 4, 2.17.3).
+-- An entry of a range list in the encoding of its version (DWARF 5, 2.17.3 and 7.25; DWARF 4,
+-- 2.17.3).
 use Rattle.std.specs.Prelude.{ℕ, ◌==◌, if◌then◌else◌, Some, None, Ok, Err}
 use Rattle.gimli_base.specs.declared.error.Error.TheVariants.{UnknownRangeListsEntry}
 use Rattle.gimli_base.specs.View.{View}
 use Rattle.gimli_base.specs.Reading.{Reads, ◌>>=◌, made, byte_at, uleb_at, address_at}
 use Rattle.gimli_lists.specs.declared.rnglists.raw.RawRngListEntry.{RawRngListEntry}
-use Rattle.gimli_lists.specs.declared.rnglists.raw.RawRngListEntry.TheVariants.{AddressOrOffsetPair, BaseAddress, BaseAddressx, StartxEndx, StartxLength, OffsetPair, StartEnd, StartLength}
+use Rattle.gimli_lists.specs.declared.rnglists.raw.RawRngListEntry.TheVariants.{AddressOrOffsetPair}
+use Rattle.gimli_lists.specs.declared.rnglists.raw.RawRngListEntry.TheVariants.{BaseAddress}
+use Rattle.gimli_lists.specs.declared.rnglists.raw.RawRngListEntry.TheVariants.{BaseAddressx}
+use Rattle.gimli_lists.specs.declared.rnglists.raw.RawRngListEntry.TheVariants.{StartxEndx}
+use Rattle.gimli_lists.specs.declared.rnglists.raw.RawRngListEntry.TheVariants.{StartxLength}
+use Rattle.gimli_lists.specs.declared.rnglists.raw.RawRngListEntry.TheVariants.{OffsetPair}
+use Rattle.gimli_lists.specs.declared.rnglists.raw.RawRngListEntry.TheVariants.{StartEnd}
+use Rattle.gimli_lists.specs.declared.rnglists.raw.RawRngListEntry.TheVariants.{StartLength}
 use Rattle.gimli_lists.specs.declared.lists.ListsFormat.TheVariants.{Bare, Coded}
 use Rattle.gimli_lists.specs.Places.{Grammar}
-use Rattle.gimli_lists.specs.RawList.{Entry, address_or_offset_pair, base_address, base_addressx, startx_endx, startx_length, offset_pair, start_end, start_length, EntryReads, old_entry_at, index_at, two_at}
+use Rattle.gimli_lists.specs.RawList.{Entry, address_or_offset_pair, base_address, base_addressx}
+use Rattle.gimli_lists.specs.RawList.{startx_endx, startx_length, offset_pair, start_end}
+use Rattle.gimli_lists.specs.RawList.{start_length, EntryReads, old_entry_at, index_at, two_at}
 
 -- an entry of a range list: nothing stands behind its operands
 abbrev pub RangeEntry : Type 0

@@ -5,7 +5,8 @@ use Rattle.gimli_base.specs.declared.error.Error.{Error}
 use Rattle.gimli_base.specs.View.{View}
 use Rattle.gimli_lists.specs.declared.rnglists.Range.{Range}
 use Rattle.gimli_lists.specs.RangeEntry.{range_grammar}
-use Rattle.gimli_lists.specs.Places.{ListSections, ListPlace, format_of, answers_ahead, list_answers}
+use Rattle.gimli_lists.specs.Places.{ListSections, ListPlace, format_of, answers_ahead}
+use Rattle.gimli_lists.specs.Places.{list_answers}
 use Rattle.gimli_lists.specs.Resolved.{Resolved}
 
 -- what stands for a range
@@ -16,7 +17,10 @@ range_of r = record { begin = r.begin; end = r.end; payload = tt }
 abbrev pub ranges_ahead : ℕ → ListPlace → List (Result (Resolved (Unit {0})) Error)
 ranges_ahead limit p = answers_ahead (range_grammar limit) limit p
 
--- the answers of the range list at an offset, with a base address at hand, or the refusal of the offset
-abbrev pub range_answers : ℕ → ℕ → Encoding → ℕ → View → ℕ → ListSections → Result (List (Result (Resolved (Unit {0})) Error)) Error
+-- the answers of the range list at an offset, with a base address at hand, or the refusal of the
+-- offset
+abbrev pub range_answers : ℕ → ℕ → Encoding → ℕ → View → ℕ → ListSections
+    → Result (List (Result (Resolved (Unit {0})) Error)) Error
 range_answers limit offset encoding base addresses table s =
-    list_answers (range_grammar limit) limit (format_of encoding.version) offset encoding base addresses table s
+    list_answers (range_grammar limit) limit (format_of encoding.version) offset encoding base
+    addresses table s

@@ -1,11 +1,14 @@
--- Range lists and location lists as they lie in the bytes: entries one behind the other, and how they end (DWARF 5, 2.6.2, 2.17.3, 7.7.3 and 7.25; DWARF 4, 2.6.2 and 2.17.3).
-use Rattle.std.specs.Prelude.{◌≡◌, ◌⊎◌, ℕ, zero, suc, ◌==◌, ◌&&◌, if◌then◌else◌, List, [], ◌∷◌, length, Option, Some, None, Result, Ok, Err}
+-- Range lists and location lists as they lie in the bytes: entries one behind the other, and how
+-- they end (DWARF 5, 2.6.2, 2.17.3, 7.7.3 and 7.25; DWARF 4, 2.6.2 and 2.17.3).
+use Rattle.std.specs.Prelude.{◌≡◌, ◌⊎◌, ℕ, zero, suc, ◌==◌, ◌&&◌, if◌then◌else◌, List, [], ◌∷◌}
+use Rattle.std.specs.Prelude.{length, Option, Some, None, Result, Ok, Err}
 use Rattle.gimli_base.specs.declared.error.Error.{Error}
 use Rattle.gimli_base.specs.View.{View, ended}
 use Rattle.gimli_base.specs.Address.{ones_sized}
 use Rattle.gimli_base.specs.Reading.{Reads, ◌>>=◌, made, as_offset, uleb_at, address_at}
 
--- an entry of a list, with what stands behind its operands: nothing in a range list, and an expression in a location list, but for a base address
+-- an entry of a list, with what stands behind its operands: nothing in a range list, and an
+-- expression in a location list, but for a base address
 pub data Entry (P : Type 0) : Type 0 where
   address_or_offset_pair : (begin end : ℕ) → P → Entry P
   base_address : (address : ℕ) → Entry P
@@ -23,10 +26,11 @@ EntryReads P = View → Reads (Option (Entry P))
 
 -- two addresses, one behind the other
 unfoldable pub pair_at : ℕ → View → Reads (ℕ × ℕ)
-pair_at size v = address_at size v >>= λ begin. made (λ end. (begin.0, end)) (address_at size begin.1)
+pair_at size v = address_at size v
+    >>= λ begin. made (λ end. (begin.0, end)) (address_at size begin.1)
 
--- an entry of the old encoding: two addresses, which are the end where both are 0, and a base address where the first is
--- all ones; behind another pair stands what `payload` reads
+-- an entry of the old encoding: two addresses, which are the end where both are 0, and a base
+-- address where the first is all ones; behind another pair stands what `payload` reads
 unfoldable pub old_entry_at : {P : Type 0} → (View → Reads P) → ℕ → EntryReads P
 old_entry_at payload size v = pair_at size v >>= λ pair.
     if pair.0.0 == 0 && pair.0.1 == 0 then Ok (None, pair.1)
@@ -38,10 +42,13 @@ abbrev pub index_at : ℕ → View → Reads ℕ
 index_at limit v = as_offset limit (uleb_at v)
 
 -- two operands, one behind the other, and then what `payload` reads: an entry of these
-abbrev pub two_at : {P : Type 0} → (View → Reads P) → (View → Reads ℕ) → (View → Reads ℕ) → (ℕ → ℕ → P → Entry P) → EntryReads P
-two_at payload first second entry v = first v >>= λ a. second a.1 >>= λ b. made (λ p. Some (entry a.0 b.0 p)) (payload b.1)
+abbrev pub two_at : {P : Type 0} → (View → Reads P) → (View → Reads ℕ) → (View → Reads ℕ)
+    → (ℕ → ℕ → P → Entry P) → EntryReads P
+two_at payload first second entry v =
+    first v >>= λ a. second a.1 >>= λ b. made (λ p. Some (entry a.0 b.0 p)) (payload b.1)
 
--- entries, and how they end: with the entry that says so, where the bytes are used up, or with a refusal
+-- entries, and how they end: with the entry that says so, where the bytes are used up, or with a
+-- refusal
 pub data Ending : Type 0 where
   end_of_list : Ending
   used_up : Ending
@@ -61,31 +68,39 @@ then_entry e l = record { entries = e ∷ l.entries; ending = l.ending }
 
 -- what was read, and then the entries of what is left
 abbrev pub then_list : {P : Type 0} → Reads (Option (Entry P)) → (View → RawList P) → RawList P
-then_list (Ok p) rest = elim p.0 [ Some e ↦ then_entry e (rest p.1) | None ↦ no_entries end_of_list ]
+then_list (Ok p) rest =
+    elim p.0 [ Some e ↦ then_entry e (rest p.1) | None ↦ no_entries end_of_list ]
 then_list (Err e) rest = no_entries (refused e)
 
--- The entries of a view, of which `next` reads each: one behind the other, up to the one that ends the list, the end of the
--- bytes or the first that is refused. Each takes a byte at least, so that n, the number of bytes, is enough.
+-- The entries of a view, of which `next` reads each: one behind the other, up to the one that ends
+-- the list, the end of the bytes or the first that is refused. Each takes a byte at least, so that
+-- n, the number of bytes, is enough.
 unfoldable pub list_within : {P : Type 0} → EntryReads P → ℕ → View → RawList P
 list_within next zero v = no_entries used_up
-list_within next (suc n) v = if length v.bytes == 0 then no_entries used_up else then_list (next v) (list_within next n)
+list_within next (suc n) v =
+    if length v.bytes == 0 then no_entries used_up else then_list (next v) (list_within next n)
 
 -- the list that begins here
 unfoldable pub list_at : {P : Type 0} → EntryReads P → View → RawList P
 list_at next v = list_within next (length v.bytes) v
 
--- an answer, and the view that it leaves: behind an entry what follows it, behind the end and behind a refusal nothing
-abbrev pub left_by : {P : Type 0} → View → Reads (Option (Entry P)) → Result (Option (Entry P)) Error × View
+-- an answer, and the view that it leaves: behind an entry what follows it, behind the end and
+-- behind a refusal nothing
+abbrev pub left_by : {P : Type 0} → View → Reads (Option (Entry P))
+    → Result (Option (Entry P)) Error × View
 left_by v (Ok p) = elim p.0 [ Some e ↦ (Ok (Some e), p.1) | None ↦ (Ok None, ended v) ]
 left_by v (Err e) = (Err e, ended v)
 
 -- the next entry of a list, and what is left of it: none where no byte is left
-unfoldable pub next_entry : {P : Type 0} → EntryReads P → View → Result (Option (Entry P)) Error × View
+unfoldable pub next_entry : {P : Type 0} → EntryReads P → View
+    → Result (Option (Entry P)) Error × View
 next_entry next v = if length v.bytes == 0 then (Ok None, v) else left_by v (next v)
 
--- An answer is that of a list, and leaves the rest: its first entry is in front of the rest, or it has no entry and ends as the
--- answer says, which leaves nothing.
-abbrev pub IsFirstOf : {P : Type 0} → Result (Option (Entry P)) Error → RawList P → RawList P → Type 0
-IsFirstOf (Ok None) l rest = ((l ≡ no_entries end_of_list) ⊎ (l ≡ no_entries used_up)) × (rest ≡ no_entries used_up)
+-- An answer is that of a list, and leaves the rest: its first entry is in front of the rest, or it
+-- has no entry and ends as the answer says, which leaves nothing.
+abbrev pub IsFirstOf : {P : Type 0} → Result (Option (Entry P)) Error → RawList P → RawList P
+    → Type 0
+IsFirstOf (Ok None) l rest =
+    ((l ≡ no_entries end_of_list) ⊎ (l ≡ no_entries used_up)) × (rest ≡ no_entries used_up)
 IsFirstOf (Ok (Some e)) l rest = l ≡ then_entry e rest
 IsFirstOf (Err e) l rest = (l ≡ no_entries (refused e)) × (rest ≡ no_entries used_up)

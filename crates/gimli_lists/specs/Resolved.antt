@@ -1,11 +1,17 @@
--- What the entries of a list stand for: each against the last base address that is known before it (DWARF 5, 2.6.2 and 2.17.3).
-use Rattle.std.specs.Prelude.{ℕ, ◌+◌, ◌-◌, ◌^◌, nat_lt, ◌&&◌, if◌then◌else◌, Bool, true, false, min, length, List, [], ◌∷◌, ◌++◌, map, take, reverse, Option, Some, None, unwrap_or, Result, Ok, Err}
+-- What the entries of a list stand for: each against the last base address that is known before it
+-- (DWARF 5, 2.6.2 and 2.17.3).
+use Rattle.std.specs.Prelude.{ℕ, ◌+◌, ◌-◌, ◌^◌, nat_lt, ◌&&◌, if◌then◌else◌, Bool, true, false, min}
+use Rattle.std.specs.Prelude.{length, List, [], ◌∷◌, ◌++◌, map, take, reverse, Option, Some, None}
+use Rattle.std.specs.Prelude.{unwrap_or, Result, Ok, Err}
 use Rattle.std.specs.List.{enumerate_from, filter_map, prefix_len}
 use Rattle.std.specs.Option.{option_or}
 use Rattle.std.specs.Result.{result_ok}
 use Rattle.gimli_base.specs.declared.error.Error.{Error}
 use Rattle.gimli_base.specs.Address.{min_tombstone, wrapped_sum}
-use Rattle.gimli_lists.specs.RawList.{Entry, address_or_offset_pair, base_address, base_addressx, startx_endx, startx_length, offset_pair, default_location, start_end, start_length, Ending, end_of_list, used_up, refused, RawList}
+use Rattle.gimli_lists.specs.RawList.{Entry, address_or_offset_pair, base_address, base_addressx}
+use Rattle.gimli_lists.specs.RawList.{startx_endx, startx_length, offset_pair, default_location}
+use Rattle.gimli_lists.specs.RawList.{start_end, start_length, Ending, end_of_list, used_up}
+use Rattle.gimli_lists.specs.RawList.{refused, RawList}
 
 -- the address at an index of a unit's table
 abbrev pub LookUp : Type 0
@@ -28,41 +34,55 @@ abbrev pub first_base : {P : Type 0} → LookUp → List (Entry P) → Option �
 first_base look_up [] = None
 first_base look_up (e ∷ es) = option_or (base_given look_up e) (first_base look_up es)
 
--- the base before entry i: of the entries before it, the last that gives one gives it, and else it is the one at hand
+-- the base before entry i: of the entries before it, the last that gives one gives it, and else it
+-- is the one at hand
 abbrev pub base_before : {P : Type 0} → LookUp → ℕ → List (Entry P) → ℕ → ℕ
 base_before look_up base entries i = unwrap_or (first_base look_up (reverse (take i entries))) base
 
--- addresses that are kept: they begin below the least address that stands for none, and below their end
+-- addresses that are kept: they begin below the least address that stands for none, and below their
+-- end
 abbrev pub located : {P : Type 0} → ℕ → ℕ → ℕ → P → Option (Resolved P)
 located size begin end payload =
-    if nat_lt begin (min_tombstone size) && nat_lt begin end then Some (record { begin = begin; end = end; payload = payload }) else None
+    if nat_lt begin (min_tombstone size)
+    && nat_lt begin end then Some (record { begin = begin; end = end; payload = payload })
+    else None
 
 -- the same, from a base address on; from one that stands for none nothing is kept
 abbrev pub located_from : {P : Type 0} → ℕ → ℕ → ℕ → ℕ → P → Option (Resolved P)
 located_from size base begin end payload =
-    if nat_lt base (min_tombstone size) then located size (wrapped_sum size base begin) (wrapped_sum size base end) payload else None
+    if nat_lt base (min_tombstone size)
+    then located size (wrapped_sum size base begin) (wrapped_sum size base end) payload
+    else None
 
 -- what is made of an address that is found
-abbrev pub if_found : {A : Type 0} → Result ℕ Error → (ℕ → Result (Option A) Error) → Result (Option A) Error
+abbrev pub if_found : {A : Type 0} → Result ℕ Error → (ℕ → Result (Option A) Error)
+    → Result (Option A) Error
 if_found (Ok address) f = f address
 if_found (Err e) f = Err e
 
--- What an entry stands for, with a base address: addresses, nothing, or the refusal of an address that is looked up. A base
--- address stands for nothing.
+-- What an entry stands for, with a base address: addresses, nothing, or the refusal of an address
+-- that is looked up. A base address stands for nothing.
 abbrev pub resolve : {P : Type 0} → ℕ → LookUp → ℕ → Entry P → Result (Option (Resolved P)) Error
-resolve size look_up base (address_or_offset_pair begin end p) = Ok (located_from size base begin end p)
+resolve size look_up base (address_or_offset_pair begin end p) =
+    Ok (located_from size base begin end p)
 resolve size look_up base (base_address address) = Ok None
 resolve size look_up base (base_addressx index) = if_found (look_up index) (λ address. Ok None)
-resolve size look_up base (startx_endx begin end p) = if_found (look_up begin) (λ b. if_found (look_up end) (λ e. Ok (located size b e p)))
-resolve size look_up base (startx_length begin length p) = if_found (look_up begin) (λ b. Ok (located size b (wrapped_sum size b length) p))
+resolve size look_up base (startx_endx begin end p) =
+    if_found (look_up begin) (λ b. if_found (look_up end) (λ e. Ok (located size b e p)))
+resolve size look_up base (startx_length begin length p) =
+    if_found (look_up begin) (λ b. Ok (located size b (wrapped_sum size b length) p))
 resolve size look_up base (offset_pair begin end p) = Ok (located_from size base begin end p)
 resolve size look_up base (default_location p) = Ok (located size 0 (2 ^ 64 - 1) p)
 resolve size look_up base (start_end begin end p) = Ok (located size begin end p)
-resolve size look_up base (start_length begin length p) = Ok (located size begin (wrapped_sum size begin length) p)
+resolve size look_up base (start_length begin length p) =
+    Ok (located size begin (wrapped_sum size begin length) p)
 
 -- what each entry stands for: entry i with the base before it
-abbrev pub resolve_each : {P : Type 0} → ℕ → LookUp → ℕ → List (Entry P) → List (Result (Option (Resolved P)) Error)
-resolve_each size look_up base entries = map (λ p. resolve size look_up (base_before look_up base entries p.0) p.1) (enumerate_from 0 entries)
+abbrev pub resolve_each : {P : Type 0} → ℕ → LookUp → ℕ → List (Entry P)
+    → List (Result (Option (Resolved P)) Error)
+resolve_each size look_up base entries =
+    map (λ p. resolve size look_up (base_before look_up base entries p.0) p.1)
+    (enumerate_from 0 entries)
 
 -- an answer, unless it is nothing
 abbrev pub some_answer : {A : Type 0} → Result (Option A) Error → Option (Result A Error)
@@ -77,12 +97,16 @@ last_answer used_up = []
 last_answer (refused e) = Err e ∷ []
 
 -- the answers of entries: what they stand for, in order and without those that stand for nothing
-abbrev pub entry_answers : {P : Type 0} → ℕ → LookUp → ℕ → List (Entry P) → List (Result (Resolved P) Error)
-entry_answers size look_up base entries = filter_map some_answer (resolve_each size look_up base entries)
+abbrev pub entry_answers : {P : Type 0} → ℕ → LookUp → ℕ → List (Entry P)
+    → List (Result (Resolved P) Error)
+entry_answers size look_up base entries =
+    filter_map some_answer (resolve_each size look_up base entries)
 
 -- the answers of a list: those of its entries, and then the refusal that ends it
-unfoldable pub resolved_list : {P : Type 0} → ℕ → LookUp → ℕ → RawList P → List (Result (Resolved P) Error)
-resolved_list size look_up base l = entry_answers size look_up base l.entries ++ last_answer l.ending
+unfoldable pub resolved_list : {P : Type 0} → ℕ → LookUp → ℕ → RawList P
+    → List (Result (Resolved P) Error)
+resolved_list size look_up base l =
+    entry_answers size look_up base l.entries ++ last_answer l.ending
 
 -- whether an entry stands for nothing
 abbrev pub is_nothing : {A : Type 0} → Result (Option A) Error → Bool
@@ -90,12 +114,15 @@ is_nothing (Ok None) = true
 is_nothing (Ok (Some x)) = false
 is_nothing (Err e) = false
 
--- how many entries are read for the next answer: those that stand for nothing, and the one behind them, if there is one
+-- how many entries are read for the next answer: those that stand for nothing, and the one behind
+-- them, if there is one
 abbrev pub entries_read : {P : Type 0} → ℕ → LookUp → ℕ → List (Entry P) → ℕ
-entries_read size look_up base entries = min (length entries) (prefix_len is_nothing (resolve_each size look_up base entries) + 1)
+entries_read size look_up base entries =
+    min (length entries) (prefix_len is_nothing (resolve_each size look_up base entries) + 1)
 
 -- the answer of a call before others: none where there is no other
-abbrev pub answered : {A : Type 0} → Result (Option A) Error → List (Result A Error) → List (Result A Error)
+abbrev pub answered : {A : Type 0} → Result (Option A) Error → List (Result A Error)
+    → List (Result A Error)
 answered (Ok None) others = []
 answered (Ok (Some x)) others = Ok x ∷ others
 answered (Err e) others = Err e ∷ others

@@ -1,13 +1,16 @@
 //! Sets of ranges of addresses (DWARF 5, 6.1.2).
 
-ghost use Rattle.std.specs.Prelude.{◌≡◌, ◌+◌, ◌*◌, ◌%◌, ◌<◌, ◌++◌, length, IsTrue, MatchResult, IfOk, OnSome, Ok, None, []};
+ghost use Rattle.std.specs.Prelude.{◌≡◌, ◌+◌, ◌*◌, ◌%◌, ◌<◌, ◌++◌, length, IsTrue, MatchResult};
+ghost use Rattle.std.specs.Prelude.{IfOk, OnSome, Ok, None, []};
 ghost use Rattle.std.specs.Fn.{FnOnceTakesAt, FnOnceReturnsAt};
 ghost use Rattle.std.specs.Iterator.{at_most};
 ghost use Rattle.std.specs.Option.{option_map, option_to_list, option_transpose};
 ghost use Rattle.gimli_base.specs.declared.common.SectionId.TheVariants.{DebugAranges as ArangesSection};
 ghost use Rattle.gimli_base.specs.Offset.{answer_of};
 ghost use Rattle.gimli_base.specs.Reading.{read, is_size};
-ghost use Rattle.gimli_lists.specs.ArangeSets.{ArangeSet, SetsPlace, fields_size, padding_size, set_fields_at, set_at, set_from, next_set, sets_ahead, sets_of, IsNextSet};
+ghost use Rattle.gimli_lists.specs.ArangeSets.{ArangeSet, SetsPlace, fields_size, padding_size};
+ghost use Rattle.gimli_lists.specs.ArangeSets.{set_fields_at, set_at, set_from, next_set};
+ghost use Rattle.gimli_lists.specs.ArangeSets.{sets_ahead, sets_of, IsNextSet};
 ghost use Rattle.gimli_lists.specs.Aranges.{ArangesPlace};
 
 use gimli_base::{
@@ -31,7 +34,8 @@ pub struct DebugAranges<R> {
 impl<'a, E: Endianity> DebugAranges<EndianSlice<'a, E>> {
     /// The section of these bytes.
     pub fn new(bytes: &'a [u8], endian: E) -> Self
-        ensures { ⟦<DebugAranges<EndianSlice<'a, E>> as Section<EndianSlice<'a, E>>>⟧.content result ≡ record { big = E.big endian; place = 0; bytes = bytes.now } }
+        ensures { ⟦<DebugAranges<EndianSlice<'a, E>> as Section<EndianSlice<'a, E>>>⟧.content result
+            ≡ record { big = E.big endian; place = 0; bytes = bytes.now } }
     {
         DebugAranges {
             section: EndianSlice::new(bytes, endian),
@@ -76,7 +80,8 @@ impl<R: Reader> Section<R> for DebugAranges<R> {
 impl<R: Reader> DebugAranges<R> {
     /// A section of the same bytes.
     pub fn copy(&self) -> Self
-        ensures { ⟦<DebugAranges<R> as Section<R>>⟧.content result ≡ ⟦<DebugAranges<R> as Section<R>>⟧.content self.now }
+        ensures { ⟦<DebugAranges<R> as Section<R>>⟧.content result
+            ≡ ⟦<DebugAranges<R> as Section<R>>⟧.content self.now }
     {
         DebugAranges {
             section: self.section.copy(),
@@ -85,8 +90,10 @@ impl<R: Reader> DebugAranges<R> {
 
     /// The sets of the section, from its beginning on: each begins where the one before ends.
     pub fn headers(&self) -> ArangeHeaderIter<R>
-        ensures begin { result ≡ record { rest = ⟦<DebugAranges<R> as Section<R>>⟧.content self.now; offset = 0 } }
-        ensures all { sets_ahead R.Offset.limit result ≡ sets_of R.Offset.limit (⟦<DebugAranges<R> as Section<R>>⟧.content self.now) }
+        ensures begin { result
+            ≡ record { rest = ⟦<DebugAranges<R> as Section<R>>⟧.content self.now; offset = 0 } }
+        ensures all { sets_ahead R.Offset.limit result
+            ≡ sets_of R.Offset.limit (⟦<DebugAranges<R> as Section<R>>⟧.content self.now) }
     {
         ArangeHeaderIter {
             input: self.section.copy(),
@@ -96,10 +103,13 @@ impl<R: Reader> DebugAranges<R> {
 
     /// The header of the set at an offset of the section.
     ///
-    /// Refusals: `UnexpectedEof`, also where the offset lies behind the section's end, and those of `next` of the headers.
+    /// Refusals: `UnexpectedEof`, also where the offset lies behind the section's end, and those of
+    /// `next` of the headers.
     #[tactic(auto, unfolding(crate::specs::ArangeSets::set_from))]
     pub fn header(&self, offset: DebugArangesOffset<R::Offset>) -> Result<ArangeHeader<R>>
-        ensures { answer_of ⟦<ArangeHeader<R> as HasArangeSet>⟧.set result ≡ set_from R.Offset.limit (R.Offset.number offset.0) (⟦<DebugAranges<R> as Section<R>>⟧.content self.now) }
+        ensures { answer_of ⟦<ArangeHeader<R> as HasArangeSet>⟧.set result
+            ≡ set_from R.Offset.limit (R.Offset.number offset.0)
+            (⟦<DebugAranges<R> as Section<R>>⟧.content self.now) }
     {
         let mut input = self.section.copy();
         input.skip(offset.0)?;
@@ -120,7 +130,8 @@ impl<R: Reader> Model for ArangeHeaderIter<R> {
 
     ghost view = { λ s. record { rest = R.view s.input; offset = R.Offset.number s.offset.0 } };
 
-    ghost invariant = { λ s. R.Offset.number s.offset.0 + length (R.view s.input).bytes < R.Offset.limit };
+    ghost invariant = { λ s. R.Offset.number s.offset.0 + length (R.view s.input).bytes
+        < R.Offset.limit };
 }
 
 impl<R: Reader> ArangeHeaderIter<R> {
@@ -136,14 +147,20 @@ impl<R: Reader> ArangeHeaderIter<R> {
 
     /// The header of the next set, or none at the end of the section.
     ///
-    /// Refusals: `UnexpectedEof`, `UnknownReservedLength`, `UnsupportedOffset`, `UnknownVersion` of a version other than 2
-    /// and 3, `UnsupportedAddressSize`, `UnsupportedSegmentSize` of segment selectors that take bytes; nothing is left then.
+    /// Refusals: `UnexpectedEof`, `UnknownReservedLength`, `UnsupportedOffset`, `UnknownVersion` of
+    /// a version other than 2 and 3, `UnsupportedAddressSize`, `UnsupportedSegmentSize` of segment
+    /// selectors that take bytes; nothing is left then.
     pub fn next(&mut self) -> Result<Option<ArangeHeader<R>>>
-        ensures value { answer_of (option_map ⟦<ArangeHeader<R> as HasArangeSet>⟧.set) result ≡ option_transpose (next_set R.Offset.limit self.old).0 }
+        ensures value { answer_of (option_map ⟦<ArangeHeader<R> as HasArangeSet>⟧.set) result
+            ≡ option_transpose (next_set R.Offset.limit self.old).0 }
         ensures left { self.new ≡ (next_set R.Offset.limit self.old).1 }
-        ensures ahead { sets_ahead R.Offset.limit self.old ≡ option_to_list (next_set R.Offset.limit self.old).0 ++ sets_ahead R.Offset.limit self.new }
+        ensures ahead { sets_ahead R.Offset.limit self.old
+            ≡ option_to_list (next_set R.Offset.limit self.old).0
+            ++ sets_ahead R.Offset.limit self.new }
         ensures ended { result ≡ Ok None → sets_ahead R.Offset.limit self.old ≡ [] }
-        ensures takes { MatchResult result (λ header. OnSome header (length self.new.rest.bytes < length self.old.rest.bytes)) (λ _. length self.new.rest.bytes < length self.old.rest.bytes) }
+        ensures takes { MatchResult result
+            (λ header. OnSome header (length self.new.rest.bytes < length self.old.rest.bytes))
+            (λ _. length self.new.rest.bytes < length self.old.rest.bytes) }
     {
         next_header(&mut self.input, &mut self.offset)
     }
@@ -152,7 +169,9 @@ impl<R: Reader> ArangeHeaderIter<R> {
 impl<R: Reader> Iterator for ArangeHeaderIter<R> {
     type Item = Result<ArangeHeader<R>>;
 
-    ghost next_gives = { λ s r t. IsNextSet R.Offset.limit s (option_map (answer_of ⟦<ArangeHeader<R> as HasArangeSet>⟧.set) r) t };
+    ghost next_gives = { λ s r t.
+        IsNextSet R.Offset.limit s
+        (option_map (answer_of ⟦<ArangeHeader<R> as HasArangeSet>⟧.set) r) t };
 
     ghost remaining = { λ s. at_most (length s.rest.bytes) };
 
@@ -167,7 +186,8 @@ pub trait HasArangeSet {
     ghost set: { Self → ArangeSet };
 }
 
-/// The header of a set of ranges of addresses, with the bytes of its tuples (DWARF 5, 6.1.2). The ranges belong to one unit.
+/// The header of a set of ranges of addresses, with the bytes of its tuples (DWARF 5, 6.1.2). The
+/// ranges belong to one unit.
 #[derive(Debug, PartialEq, Eq, Drop)]
 pub struct ArangeHeader<R: Reader, Offset: ReaderOffset = <R as Reader>::Offset> {
     offset: DebugArangesOffset<Offset>,
@@ -179,13 +199,22 @@ pub struct ArangeHeader<R: Reader, Offset: ReaderOffset = <R as Reader>::Offset>
 }
 
 impl<R: Reader> HasArangeSet for ArangeHeader<R> {
-    ghost set = { λ h. record { offset = R.Offset.number h.offset.0; encoding = h.encoding; length_field = R.Offset.number h.length; info_offset = R.Offset.number h.debug_info_offset.0; tuples = R.view h.entries } };
+    ghost set = { λ h.
+        record {
+          offset = R.Offset.number h.offset.0;
+          encoding = h.encoding;
+          length_field = R.Offset.number h.length;
+          info_offset =
+              R.Offset.number h.debug_info_offset.0;
+          tuples = R.view h.entries;
+        } };
 }
 
 impl<R: Reader> ArangeHeader<R> {
     /// The same header, its reader copied.
     pub fn copy(&self) -> Self
-        ensures { ⟦<ArangeHeader<R> as HasArangeSet>⟧.set result ≡ ⟦<ArangeHeader<R> as HasArangeSet>⟧.set self.now }
+        ensures { ⟦<ArangeHeader<R> as HasArangeSet>⟧.set result
+            ≡ ⟦<ArangeHeader<R> as HasArangeSet>⟧.set self.now }
     {
         ArangeHeader {
             offset: self.offset,
@@ -198,14 +227,16 @@ impl<R: Reader> ArangeHeader<R> {
 
     /// Where the set begins in `.debug_aranges`.
     pub fn offset(&self) -> DebugArangesOffset<R::Offset>
-        ensures { R.Offset.number result.0 ≡ (⟦<ArangeHeader<R> as HasArangeSet>⟧.set self.now).offset }
+        ensures { R.Offset.number result.0
+            ≡ (⟦<ArangeHeader<R> as HasArangeSet>⟧.set self.now).offset }
     {
         self.offset
     }
 
     /// The number in the length field, which does not count the field itself.
     pub fn length(&self) -> R::Offset
-        ensures { R.Offset.number result ≡ (⟦<ArangeHeader<R> as HasArangeSet>⟧.set self.now).length_field }
+        ensures { R.Offset.number result
+            ≡ (⟦<ArangeHeader<R> as HasArangeSet>⟧.set self.now).length_field }
     {
         self.length
     }
@@ -220,20 +251,26 @@ impl<R: Reader> ArangeHeader<R> {
 
     /// Where the unit begins in `.debug_info` to which the ranges belong.
     pub fn debug_info_offset(&self) -> DebugInfoOffset<R::Offset>
-        ensures { R.Offset.number result.0 ≡ (⟦<ArangeHeader<R> as HasArangeSet>⟧.set self.now).info_offset }
+        ensures { R.Offset.number result.0
+            ≡ (⟦<ArangeHeader<R> as HasArangeSet>⟧.set self.now).info_offset }
     {
         self.debug_info_offset
     }
 
     /// The ranges of the set, from the first on.
     pub fn entries(&self) -> ArangeEntryIter<R>
-        ensures { result ≡ record { rest = (⟦<ArangeHeader<R> as HasArangeSet>⟧.set self.now).tuples; encoding = (⟦<ArangeHeader<R> as HasArangeSet>⟧.set self.now).encoding } }
+        ensures { result
+            ≡ record {
+              rest = (⟦<ArangeHeader<R> as HasArangeSet>⟧.set self.now).tuples;
+              encoding = (⟦<ArangeHeader<R> as HasArangeSet>⟧.set self.now).encoding;
+            } }
     {
         ArangeEntryIter::new(self.entries.copy(), self.encoding)
     }
 }
 
-// The number of bytes between the fields of a header and the first tuple, which begins at a multiple of its size.
+// The number of bytes between the fields of a header and the first tuple, which begins at a
+// multiple of its size.
 fn padding_size(format: Format, address_size: u8) -> u8
     requires { IsTrue (is_size address_size) }
     ensures value { result ≡ padding_size format address_size }
@@ -245,13 +282,15 @@ fn padding_size(format: Format, address_size: u8) -> u8
     (tuple_size - fields_size % tuple_size) % tuple_size
 }
 
-// The fields behind the length, with the padding; where they are refused, the input is left anywhere.
+// The fields behind the length, with the padding; where they are refused, the input is left
+// anywhere.
 #[tactic(auto, unfolding(crate::specs::ArangeSets::set_fields_at))]
 fn parse_fields<R: Reader>(
     input: &mut R,
     format: Format,
 ) -> Result<(Encoding, DebugInfoOffset<R::Offset>)>
-    ensures value { read (answer_of (λ p. (p.0, R.Offset.number p.1.0)) result) (R.view input.new) ≡ set_fields_at R.Offset.limit format (R.view input.old) }
+    ensures value { read (answer_of (λ p. (p.0, R.Offset.number p.1.0)) result) (R.view input.new)
+        ≡ set_fields_at R.Offset.limit format (R.view input.old) }
     ensures sized { IfOk result (λ p. IsTrue (is_size p.0.address_size)) }
 {
     let version = input.read_u16()?;
@@ -273,13 +312,15 @@ fn parse_fields<R: Reader>(
     Ok((encoding, debug_info_offset))
 }
 
-// The next header, which begins at an offset of its section; where it is refused, the input is left anywhere.
+// The next header, which begins at an offset of its section; where it is refused, the input is left
+// anywhere.
 #[tactic(auto, unfolding(crate::specs::ArangeSets::set_at))]
 fn parse_header<R: Reader>(
     input: &mut R,
     offset: DebugArangesOffset<R::Offset>,
 ) -> Result<ArangeHeader<R>>
-    ensures { read (answer_of ⟦<ArangeHeader<R> as HasArangeSet>⟧.set result) (R.view input.new) ≡ set_at R.Offset.limit (R.Offset.number offset.0) (R.view input.old) }
+    ensures { read (answer_of ⟦<ArangeHeader<R> as HasArangeSet>⟧.set result) (R.view input.new)
+        ≡ set_at R.Offset.limit (R.Offset.number offset.0) (R.view input.old) }
 {
     let (length, format) = input.read_initial_length()?;
     let mut rest = input.split(length)?;
@@ -293,17 +334,25 @@ fn parse_header<R: Reader>(
     })
 }
 
-// The next header of a section, of which `input` is left and begins at `offset`: none where nothing is left. Behind a
-// refusal nothing is left.
+// The next header of a section, of which `input` is left and begins at `offset`: none where nothing
+// is left. Behind a refusal nothing is left.
 #[tactic(auto, unfolding(crate::specs::ArangeSets::next_set))]
 fn next_header<R: Reader>(
     input: &mut R,
     offset: &mut DebugArangesOffset<R::Offset>,
 ) -> Result<Option<ArangeHeader<R>>>
     requires { R.Offset.number offset.old.0 + length (R.view input.old).bytes < R.Offset.limit }
-    ensures value { answer_of (option_map ⟦<ArangeHeader<R> as HasArangeSet>⟧.set) result ≡ option_transpose (next_set R.Offset.limit (record { rest = R.view input.old; offset = R.Offset.number offset.old.0 })).0 }
-    ensures left { record { rest = R.view input.new; offset = R.Offset.number offset.new.0 } ≡ (next_set R.Offset.limit (record { rest = R.view input.old; offset = R.Offset.number offset.old.0 })).1 }
-    ensures takes { MatchResult result (λ header. OnSome header (length (R.view input.new).bytes < length (R.view input.old).bytes)) (λ _. length (R.view input.new).bytes < length (R.view input.old).bytes) }
+    ensures value { answer_of (option_map ⟦<ArangeHeader<R> as HasArangeSet>⟧.set) result
+        ≡ option_transpose
+        (next_set R.Offset.limit
+        (record { rest = R.view input.old; offset = R.Offset.number offset.old.0 })).0 }
+    ensures left { record { rest = R.view input.new; offset = R.Offset.number offset.new.0 }
+        ≡ (next_set R.Offset.limit
+        (record { rest = R.view input.old; offset = R.Offset.number offset.old.0 })).1 }
+    ensures takes { MatchResult result
+        (λ header. OnSome header
+        (length (R.view input.new).bytes < length (R.view input.old).bytes))
+        (λ _. length (R.view input.new).bytes < length (R.view input.old).bytes) }
     ensures fits { R.Offset.number offset.new.0 + length (R.view input.new).bytes < R.Offset.limit }
 {
     if input.is_empty() {

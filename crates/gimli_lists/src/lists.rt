@@ -1,4 +1,5 @@
-//! What sections of range lists and of location lists share: their header, and where their lists begin.
+//! What sections of range lists and of location lists share: their header, and where their lists
+//! begin.
 
 ghost use Rattle.std.specs.Prelude.{◌≡◌, OnErr};
 ghost use Rattle.gimli_base.specs.declared.common.Format.TheVariants.{Dwarf32};
@@ -42,13 +43,16 @@ impl ListsHeader {
         self.encoding.format.initial_length_size() + 2 + 1 + 1 + 4
     }
 
-    /// Reads the next header, and leaves the bytes behind it up to the end that its length field gives.
+    /// Reads the next header, and leaves the bytes behind it up to the end that its length field
+    /// gives.
     ///
-    /// Refusals, which leave the input: `UnexpectedEof`, `UnknownReservedLength`, `UnsupportedOffset`, `UnknownVersion` of
-    /// a version other than 5, `UnsupportedAddressSize`, `UnsupportedSegmentSize` of segment selectors that take bytes.
+    /// Refusals, which leave the input: `UnexpectedEof`, `UnknownReservedLength`,
+    /// `UnsupportedOffset`, `UnknownVersion` of a version other than 5, `UnsupportedAddressSize`,
+    /// `UnsupportedSegmentSize` of segment selectors that take bytes.
     #[tactic(auto, unfolding(crate::specs::ListsHeader::lists_header_at))]
     pub fn parse<R: Reader>(input: &mut R) -> Result<ListsHeader>
-        ensures value { read result (R.view input.new) ≡ lists_header_at R.Offset.limit (R.view input.old) }
+        ensures value { read result (R.view input.new)
+            ≡ lists_header_at R.Offset.limit (R.view input.old) }
         ensures kept { OnErr result (R.view input.new ≡ R.view input.old) }
     {
         let mut rest = input.copy();
@@ -109,7 +113,9 @@ pub(crate) fn offset_of_list<R: Reader>(
     base: R::Offset,
     index: R::Offset,
 ) -> Result<R::Offset>
-    ensures { answer_of R.Offset.number result ≡ list_offset R.Offset.limit format (R.Offset.number base) (R.Offset.number index) (R.view section.now) }
+    ensures { answer_of R.Offset.number result
+        ≡ list_offset R.Offset.limit format (R.Offset.number base) (R.Offset.number index)
+        (R.view section.now) }
 {
     let mut input = section.copy();
     input.skip(base)?;

@@ -3,7 +3,8 @@
 ghost use Rattle.std.specs.Prelude.{◌≡◌, true, false, IsTrue};
 ghost use Rattle.std.specs.Fn.{TakesAt, CalledAt};
 ghost use Rattle.std.specs.Option.{option_map};
-ghost use Rattle.gimli_base.specs.declared.common.SectionId.TheVariants.{DebugLoc as LocSection, DebugLocLists as LocListsSection};
+ghost use Rattle.gimli_base.specs.declared.common.SectionId.TheVariants.{DebugLoc as LocSection};
+ghost use Rattle.gimli_base.specs.declared.common.SectionId.TheVariants.{DebugLocLists as LocListsSection};
 ghost use Rattle.gimli_base.specs.Offset.{answer_of};
 ghost use Rattle.gimli_base.specs.Reading.{is_size};
 ghost use Rattle.gimli_lists.specs.Locations.{location_format, location_of};
@@ -33,7 +34,8 @@ pub struct LocationLists<R> {
 }
 
 impl<R: Reader> HasLists for LocationLists<R> {
-    ghost lists = { λ l. record { old = R.view l.debug_loc.section; new = R.view l.debug_loclists.section } };
+    ghost lists = { λ l.
+        record { old = R.view l.debug_loc.section; new = R.view l.debug_loclists.section } };
 }
 
 impl<R> LocationLists<R> {
@@ -49,13 +51,18 @@ impl<R> LocationLists<R> {
 }
 
 impl<T> LocationLists<T> {
-    /// The lists that are read by what `f` makes of this one's readers: of that of `.debug_loc` first, and then of that
-    /// of `.debug_loclists`.
+    /// The lists that are read by what `f` makes of this one's readers: of that of `.debug_loc`
+    /// first, and then of that of `.debug_loclists`.
     #[tactic(auto, using(crate::proofs::SecondCall::second_call))]
     pub fn borrow<'a, R, F: FnMut(&'a T) -> R + Drop>(&'a self, mut f: F) -> LocationLists<R>
         requires first { TakesAt F.FnMut f self.now.debug_loc.section }
-        requires second { (old : R) (mid : F) → CalledAt F.FnMut f self.now.debug_loc.section old mid → TakesAt F.FnMut mid self.now.debug_loclists.section }
-        ensures { (mid : F) × (last : F) × CalledAt F.FnMut f self.now.debug_loc.section result.debug_loc.section mid × CalledAt F.FnMut mid self.now.debug_loclists.section result.debug_loclists.section last }
+        requires second { (old : R) (mid : F)
+            → CalledAt F.FnMut f self.now.debug_loc.section old mid
+            → TakesAt F.FnMut mid self.now.debug_loclists.section }
+        ensures { (mid : F) × (last : F)
+            × CalledAt F.FnMut f self.now.debug_loc.section result.debug_loc.section mid
+            × CalledAt F.FnMut mid self.now.debug_loclists.section result.debug_loclists.section
+            last }
     {
         let old = f(&self.debug_loc.section);
         let new = f(&self.debug_loclists.section);
@@ -69,7 +76,8 @@ impl<T> LocationLists<T> {
 impl<R: Reader> LocationLists<R> {
     /// The lists of sections of the same bytes.
     pub fn copy(&self) -> Self
-        ensures { ⟦<LocationLists<R> as HasLists>⟧.lists result ≡ ⟦<LocationLists<R> as HasLists>⟧.lists self.now }
+        ensures { ⟦<LocationLists<R> as HasLists>⟧.lists result
+            ≡ ⟦<LocationLists<R> as HasLists>⟧.lists self.now }
     {
         LocationLists {
             debug_loc: self.debug_loc.copy(),
@@ -77,7 +85,8 @@ impl<R: Reader> LocationLists<R> {
         }
     }
 
-    // The entries of the list at an offset of the section in which a unit with this encoding has its lists.
+    // The entries of the list at an offset of the section in which a unit with this encoding has
+    // its lists.
     #[tactic(auto, unfolding(crate::specs::Places::raw_list_at))]
     fn raw_list(
         &self,
@@ -85,7 +94,8 @@ impl<R: Reader> LocationLists<R> {
         unit_encoding: Encoding,
         format: ListsFormat,
     ) -> Result<RawLocListIter<R>>
-        ensures { result ≡ raw_list_at format (R.Offset.number offset.0) unit_encoding (⟦<LocationLists<R> as HasLists>⟧.lists self.now) }
+        ensures { result ≡ raw_list_at format (R.Offset.number offset.0) unit_encoding
+            (⟦<LocationLists<R> as HasLists>⟧.lists self.now) }
     {
         let mut input = if unit_encoding.version <= 4 {
             self.debug_loc.section.copy()
@@ -96,14 +106,17 @@ impl<R: Reader> LocationLists<R> {
         Ok(RawLocListIter::new(input, unit_encoding, format))
     }
 
-    /// The entries, as they are written, of the list at an offset of the section in which a unit with this encoding has its
-    /// lists. Refusal: `UnexpectedEof`, where the offset lies behind the section's end, with the section's first place.
+    /// The entries, as they are written, of the list at an offset of the section in which a unit
+    /// with this encoding has its lists. Refusal: `UnexpectedEof`, where the offset lies behind the
+    /// section's end, with the section's first place.
     pub fn raw_locations(
         &self,
         offset: LocationListsOffset<R::Offset>,
         unit_encoding: Encoding,
     ) -> Result<RawLocListIter<R>>
-        ensures { result ≡ raw_list_at (location_format false unit_encoding.version) (R.Offset.number offset.0) unit_encoding (⟦<LocationLists<R> as HasLists>⟧.lists self.now) }
+        ensures { result ≡ raw_list_at (location_format false unit_encoding.version)
+            (R.Offset.number offset.0) unit_encoding
+            (⟦<LocationLists<R> as HasLists>⟧.lists self.now) }
     {
         let format = if unit_encoding.version <= 4 {
             ListsFormat::Bare
@@ -113,25 +126,30 @@ impl<R: Reader> LocationLists<R> {
         self.raw_list(offset, unit_encoding, format)
     }
 
-    /// The same of sections of a split file, whose lists have codes in every version: up to version 4 they lie in
-    /// `.debug_loc` with the codes of version 5, but the length of an expression has 2 bytes, and that of a range from an
-    /// indexed address 4. That is a GNU extension, which no version of DWARF defines.
+    /// The same of sections of a split file, whose lists have codes in every version: up to version
+    /// 4 they lie in `.debug_loc` with the codes of version 5, but the length of an expression has
+    /// 2 bytes, and that of a range from an indexed address 4. That is a GNU extension, which no
+    /// version of DWARF defines.
     pub fn raw_locations_dwo(
         &self,
         offset: LocationListsOffset<R::Offset>,
         unit_encoding: Encoding,
     ) -> Result<RawLocListIter<R>>
-        ensures { result ≡ raw_list_at (location_format true unit_encoding.version) (R.Offset.number offset.0) unit_encoding (⟦<LocationLists<R> as HasLists>⟧.lists self.now) }
+        ensures { result ≡ raw_list_at (location_format true unit_encoding.version)
+            (R.Offset.number offset.0) unit_encoding
+            (⟦<LocationLists<R> as HasLists>⟧.lists self.now) }
     {
         self.raw_list(offset, unit_encoding, ListsFormat::Coded)
     }
 
-    /// The locations of the list at an offset of the section in which a unit with this encoding has its lists.
+    /// The locations of the list at an offset of the section in which a unit with this encoding has
+    /// its lists.
     ///
-    /// Offsets count from `base_address` on, which is the unit's `DW_AT_low_pc`, until an entry gives another base.
-    /// Addresses that are named by their index are those of the table that begins at `debug_addr_base` in `debug_addr`. The
-    /// encoding's size of addresses has to be 1, 2, 4 or 8. Refusal: `UnexpectedEof`, where the offset lies behind the
-    /// section's end, with the section's first place.
+    /// Offsets count from `base_address` on, which is the unit's `DW_AT_low_pc`, until an entry
+    /// gives another base. Addresses that are named by their index are those of the table that
+    /// begins at `debug_addr_base` in `debug_addr`. The encoding's size of addresses has to be 1,
+    /// 2, 4 or 8. Refusal: `UnexpectedEof`, where the offset lies behind the section's end, with
+    /// the section's first place.
     #[tactic(auto, unfolding(crate::specs::Places::list_place_at))]
     pub fn locations(
         &self,
@@ -142,13 +160,17 @@ impl<R: Reader> LocationLists<R> {
         debug_addr_base: DebugAddrBase<R::Offset>,
     ) -> Result<LocListIter<R>>
         requires { IsTrue (is_size unit_encoding.address_size) }
-        ensures { result ≡ list_place_at (location_format false unit_encoding.version) (R.Offset.number offset.0) unit_encoding base_address (⟦<DebugAddr<R> as Section<R>>⟧.content debug_addr.now) (R.Offset.number debug_addr_base.0) (⟦<LocationLists<R> as HasLists>⟧.lists self.now) }
+        ensures { result ≡ list_place_at (location_format false unit_encoding.version)
+            (R.Offset.number offset.0) unit_encoding base_address
+            (⟦<DebugAddr<R> as Section<R>>⟧.content debug_addr.now)
+            (R.Offset.number debug_addr_base.0) (⟦<LocationLists<R> as HasLists>⟧.lists self.now) }
     {
         let raw = self.raw_locations(offset, unit_encoding)?;
         Ok(LocListIter::new(raw, base_address, debug_addr.copy(), debug_addr_base))
     }
 
-    /// The same of sections of a split file, whose lists have codes in every version, as `raw_locations_dwo` says.
+    /// The same of sections of a split file, whose lists have codes in every version, as
+    /// `raw_locations_dwo` says.
     #[tactic(auto, unfolding(crate::specs::Places::list_place_at))]
     pub fn locations_dwo(
         &self,
@@ -159,35 +181,42 @@ impl<R: Reader> LocationLists<R> {
         debug_addr_base: DebugAddrBase<R::Offset>,
     ) -> Result<LocListIter<R>>
         requires { IsTrue (is_size unit_encoding.address_size) }
-        ensures { result ≡ list_place_at (location_format true unit_encoding.version) (R.Offset.number offset.0) unit_encoding base_address (⟦<DebugAddr<R> as Section<R>>⟧.content debug_addr.now) (R.Offset.number debug_addr_base.0) (⟦<LocationLists<R> as HasLists>⟧.lists self.now) }
+        ensures { result ≡ list_place_at (location_format true unit_encoding.version)
+            (R.Offset.number offset.0) unit_encoding base_address
+            (⟦<DebugAddr<R> as Section<R>>⟧.content debug_addr.now)
+            (R.Offset.number debug_addr_base.0) (⟦<LocationLists<R> as HasLists>⟧.lists self.now) }
     {
         let raw = self.raw_locations_dwo(offset, unit_encoding)?;
         Ok(LocListIter::new(raw, base_address, debug_addr.copy(), debug_addr_base))
     }
 
-    /// The offset in `.debug_loclists` of the list at an index of the table of offsets that begins at `base`, which is a
-    /// unit's `DW_AT_loclists_base`.
+    /// The offset in `.debug_loclists` of the list at an index of the table of offsets that begins
+    /// at `base`, which is a unit's `DW_AT_loclists_base`.
     ///
-    /// Refusals: `UnexpectedEof`, where the base, the bytes before the index or the offset in the table lies behind the
-    /// section's end; `UnsupportedOffset`, where the number of bytes before the index, the offset or its sum with the base
-    /// does not fit the reader's offsets.
+    /// Refusals: `UnexpectedEof`, where the base, the bytes before the index or the offset in the
+    /// table lies behind the section's end; `UnsupportedOffset`, where the number of bytes before
+    /// the index, the offset or its sum with the base does not fit the reader's offsets.
     pub fn get_offset(
         &self,
         unit_encoding: Encoding,
         base: DebugLocListsBase<R::Offset>,
         index: DebugLocListsIndex<R::Offset>,
     ) -> Result<LocationListsOffset<R::Offset>>
-        ensures { answer_of (λ o. R.Offset.number o.0) result ≡ list_offset R.Offset.limit unit_encoding.format (R.Offset.number base.0) (R.Offset.number index.0) (⟦<LocationLists<R> as HasLists>⟧.lists self.now).new }
+        ensures { answer_of (λ o. R.Offset.number o.0) result
+            ≡ list_offset R.Offset.limit unit_encoding.format (R.Offset.number base.0)
+            (R.Offset.number index.0) (⟦<LocationLists<R> as HasLists>⟧.lists self.now).new }
     {
         let section = &self.debug_loclists.section;
         let offset = offset_of_list(section, unit_encoding.format, base.0, index.0)?;
         Ok(LocationListsOffset(offset))
     }
 
-    /// The section, and the number of its bytes before a place, where the place is one of its bytes or its end;
-    /// `.debug_loc` is asked first.
+    /// The section, and the number of its bytes before a place, where the place is one of its bytes
+    /// or its end; `.debug_loc` is asked first.
     pub fn lookup_offset_id(&self, id: ReaderOffsetId) -> Option<(SectionId, R::Offset)>
-        ensures { option_map (λ p. (p.0, R.Offset.number p.1)) result ≡ lookup_in LocSection LocListsSection id.0 (⟦<LocationLists<R> as HasLists>⟧.lists self.now) }
+        ensures { option_map (λ p. (p.0, R.Offset.number p.1)) result
+            ≡ lookup_in LocSection LocListsSection id.0
+            (⟦<LocationLists<R> as HasLists>⟧.lists self.now) }
     {
         match self.debug_loc.lookup_offset_id(id) {
             Some(found) => Some(found),
@@ -196,7 +225,8 @@ impl<R: Reader> LocationLists<R> {
     }
 }
 
-/// A range of addresses, and the expression that says where an object is while they are executed (DWARF 5, 2.6.2).
+/// A range of addresses, and the expression that says where an object is while they are executed
+/// (DWARF 5, 2.6.2).
 #[derive(Clone, Copy, Debug, PartialEq, Eq, Hash, Drop)]
 pub struct LocationListEntry<R> {
     /// The addresses.

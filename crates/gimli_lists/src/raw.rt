@@ -21,14 +21,17 @@ pub(crate) trait RawEntry<R: Reader>: Drop {
     // the entry that code holds
     ghost written: { Self → Entry Payload };
 
-    /// The next entry, or none where the list ends; where it is refused, the input is left anywhere.
+    /// The next entry, or none where the list ends; where it is refused, the input is left
+    /// anywhere.
     fn parse(input: &mut R, encoding: Encoding, format: ListsFormat) -> Result<Option<Self>>
-        ensures { read (answer_of (option_map written) result) (R.view input.new) ≡ grammar format encoding (R.view input.old) };
+        ensures { read (answer_of (option_map written) result) (R.view input.new)
+            ≡ grammar format encoding (R.view input.old) };
 
     ghost takes_bytes: { TakesBytes grammar };
 }
 
-/// Takes the next entry of a list, or none where it ends. Nothing is left behind the end, and behind a refusal.
+/// Takes the next entry of a list, or none where it ends. Nothing is left behind the end, and
+/// behind a refusal.
 #[inline(always)]
 #[tactic(auto, unfolding(crate::specs::RawList::next_entry, crate::specs::Places::next_raw))]
 pub(crate) fn take_entry<R: Reader, E: RawEntry<R>>(
@@ -36,11 +39,23 @@ pub(crate) fn take_entry<R: Reader, E: RawEntry<R>>(
     encoding: Encoding,
     format: ListsFormat,
 ) -> Result<Option<E>>
-    ensures value { (answer_of (option_map E.written) result, (record { rest = R.view input.new; encoding = encoding; format = format })) ≡ next_raw E.grammar (record { rest = R.view input.old; encoding = encoding; format = format }) }
+    ensures value { (
+      answer_of (option_map E.written) result,
+      (record { rest = R.view input.new; encoding = encoding; format = format }),
+    )
+        ≡ next_raw E.grammar
+        (record { rest = R.view input.old; encoding = encoding; format = format }) }
 
-    // An entry stands in front of those that are left; no entry and a refusal say how the list ends.
-    ensures ahead { IsFirstOf (answer_of (option_map E.written) result) (raw_list_ahead E.grammar (record { rest = R.view input.old; encoding = encoding; format = format })) (raw_list_ahead E.grammar (record { rest = R.view input.new; encoding = encoding; format = format })) }
-    ensures takes { MatchResult result (λ entry. OnSome entry (length (R.view input.new).bytes < length (R.view input.old).bytes)) (λ _. length (R.view input.new).bytes < length (R.view input.old).bytes) }
+    // An entry stands in front of those that are left; no entry and a refusal say how the list
+    // ends.
+    ensures ahead { IsFirstOf (answer_of (option_map E.written) result)
+        (raw_list_ahead E.grammar
+        (record { rest = R.view input.old; encoding = encoding; format = format }))
+        (raw_list_ahead E.grammar
+        (record { rest = R.view input.new; encoding = encoding; format = format })) }
+    ensures takes { MatchResult result
+        (λ entry. OnSome entry (length (R.view input.new).bytes < length (R.view input.old).bytes))
+        (λ _. length (R.view input.new).bytes < length (R.view input.old).bytes) }
 {
     if input.is_empty() {
         return Ok(None);

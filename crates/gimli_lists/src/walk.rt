@@ -1,10 +1,12 @@
-//! The walk over the entries of a list, of ranges or of locations alike, up to one that stands for something.
+//! The walk over the entries of a list, of ranges or of locations alike, up to one that stands for
+//! something.
 
 ghost use Rattle.std.specs.Prelude.{◌≡◌, ℕ, ◌<◌, length, MatchResult, IfOk, IfSome, IfNone, OnSome};
 ghost use Rattle.std.specs.Option.{option_map};
 ghost use Rattle.gimli_base.specs.Offset.{answer_of};
 ghost use Rattle.gimli_lists.specs.ListSteps.{IsSound};
-ghost use Rattle.gimli_lists.specs.Places.{Grammar, TakesBytes, ListPlace, next_raw, converted, answers_ahead, InList, IsBehind, IsSpent, read_from};
+ghost use Rattle.gimli_lists.specs.Places.{Grammar, TakesBytes, ListPlace, next_raw, converted};
+ghost use Rattle.gimli_lists.specs.Places.{answers_ahead, InList, IsBehind, IsSpent, read_from};
 ghost use Rattle.gimli_lists.specs.RawList.{Entry};
 ghost use Rattle.gimli_lists.specs.Resolved.{Resolved, answered};
 
@@ -37,13 +39,19 @@ pub(crate) trait EntryWalk {
 
     /// The next entry, or none behind the last; nothing is left behind a refusal.
     fn take_raw(&mut self) -> Result<Option<Self::Entry>>
-        ensures value { (answer_of (option_map written) result, (place self.new).raw) ≡ next_raw grammar (place self.old).raw }
+        ensures value { (answer_of (option_map written) result, (place self.new).raw)
+            ≡ next_raw grammar (place self.old).raw }
         ensures same { place self.new ≡ record (place self.old) { raw = (place self.new).raw } }
-        ensures takes { MatchResult result (λ entry. OnSome entry (length (place self.new).raw.rest.bytes < length (place self.old).raw.rest.bytes)) (λ _. length (place self.new).raw.rest.bytes < length (place self.old).raw.rest.bytes) };
+        ensures takes { MatchResult result
+            (λ entry. OnSome entry
+            (length (place self.new).raw.rest.bytes < length (place self.old).raw.rest.bytes))
+            (λ _. length (place self.new).raw.rest.bytes
+            < length (place self.old).raw.rest.bytes) };
 
     /// What an entry stands for, or none.
     fn convert(&mut self, raw: Self::Entry) -> Result<Option<Self::Item>>
-        ensures { (answer_of (option_map resolved) result, place self.new) ≡ converted limit (written raw) (place self.old) };
+        ensures { (answer_of (option_map resolved) result, place self.new)
+            ≡ converted limit (written raw) (place self.old) };
 
     ghost takes_bytes: { TakesBytes grammar };
 }
@@ -51,19 +59,32 @@ pub(crate) trait EntryWalk {
 /// What the next entry stands for that stands for something, or none behind the last entry.
 #[inline]
 pub(crate) fn next_item<W: EntryWalk>(walk: &mut W) -> Result<Option<W::Item>>
-    ensures ahead { answers_ahead W.grammar W.limit (W.place walk.old) ≡ answered (answer_of (option_map W.resolved) result) (answers_ahead W.grammar W.limit (W.place walk.new)) }
+    ensures ahead { answers_ahead W.grammar W.limit (W.place walk.old)
+        ≡ answered (answer_of (option_map W.resolved) result)
+        (answers_ahead W.grammar W.limit (W.place walk.new)) }
 
-    // The entries that stand for nothing are read, and the one behind them; the base before the others is at hand.
-    ensures place { IsBehind W.grammar W.limit (read_from W.grammar W.limit (W.place walk.old)) (W.place walk.old) (W.place walk.new) }
+    // The entries that stand for nothing are read, and the one behind them; the base before the
+    // others is at hand.
+    ensures place { IsBehind W.grammar W.limit (read_from W.grammar W.limit (W.place walk.old))
+        (W.place walk.old) (W.place walk.new) }
     ensures same { InList (W.place walk.old) (W.place walk.new) }
-    ensures takes { MatchResult result (λ item. OnSome item (length (W.place walk.new).raw.rest.bytes < length (W.place walk.old).raw.rest.bytes)) (λ _. length (W.place walk.new).raw.rest.bytes < length (W.place walk.old).raw.rest.bytes) }
-    ensures ended { IfOk result (λ item. IfNone item (length (W.place walk.new).raw.rest.bytes ≡ 0)) }
+    ensures takes { MatchResult result
+        (λ item.
+        OnSome item
+        (length (W.place walk.new).raw.rest.bytes < length (W.place walk.old).raw.rest.bytes))
+        (λ _. length (W.place walk.new).raw.rest.bytes < length (W.place walk.old).raw.rest.bytes) }
+    ensures ended { IfOk result
+        (λ item. IfNone item (length (W.place walk.new).raw.rest.bytes ≡ 0)) }
 
-    // Where none of the entries that are left answers anything, nothing is left, whether the list ends or is refused.
+    // Where none of the entries that are left answers anything, nothing is left, whether the list
+    // ends or is refused.
     ensures spent { IsSpent W.grammar W.limit (W.place walk.old) (W.place walk.new) }
 
-    // What stands for addresses begins below its end, and below the least address that stands for none.
-    ensures sound { IfOk result (λ item. IfSome item (λ i. IsSound (W.place walk.old).raw.encoding.address_size (W.resolved i))) }
+    // What stands for addresses begins below its end, and below the least address that stands for
+    // none.
+    ensures sound { IfOk result
+        (λ item.
+        IfSome item (λ i. IsSound (W.place walk.old).raw.encoding.address_size (W.resolved i))) }
 {
     'entries: while let Some(raw) = walk.take_raw()? {
         if let Some(item) = walk.convert(raw)? {

@@ -1,5 +1,6 @@
 -- A turn in a chain of indirect forms.
-use Rattle.std.proofs.Common.{◌≡◌, ℕ, zero, suc, ◌<◌, ◌≤◌, length, false, Ok, Err, refl, sym, ap, ◌∙◌, arith}
+use Rattle.std.proofs.Common.{◌≡◌, ℕ, zero, suc, ◌<◌, ◌≤◌, length, false, Ok, Err, refl, sym, ap}
+use Rattle.std.proofs.Common.{◌∙◌, arith}
 use Rattle.std.specs.Prelude.{◌==◌, ℤ, Bool, true, if◌then◌else◌, is_some, Option, Some, None}
 use Rattle.std.proofs.lemmas.Bool.{eqb-true, ne_eqb}
 use Rattle.gimli_base.specs.declared.error.Error.{Error}
@@ -12,7 +13,8 @@ uleb16_at-none : (v : View) → length v.bytes ≤ 0 → uleb16_at v ≡ Err (eo
 unfolding uleb16_at uleb_within byte_at
 uleb16_at-none v h = let e : length v.bytes ≡ 0 = omega (arith, h) in rw e refl
 
-pub uleb16_at-shorter : (v : View) (f : ℕ) (w : View) → Ok (f, w) ≡ uleb16_at v → length w.bytes < length v.bytes
+pub uleb16_at-shorter : (v : View) (f : ℕ) (w : View) → Ok (f, w) ≡ uleb16_at v
+    → length w.bytes < length v.bytes
 uleb16_at-shorter v f w h = omega (arith, IsLater-length 1 v w (uleb16_at-later v f w h))
 
 -- the chain's end, where at most so many bytes are left and the form is f
@@ -21,30 +23,38 @@ pub record EndsAs (total : Reads ℕ) (f : ℕ) (v : View) : Type 0 where
   pub enough : length v.bytes ≤ fuel
   pub same : total ≡ chain fuel f v
 
-more : (k : ℕ) (total : Reads ℕ) (v w : View) (f : ℕ) → length v.bytes ≤ k → total ≡ chain k 0x16 v → Ok (f, w) ≡ uleb16_at v → EndsAs total f w
+more : (k : ℕ) (total : Reads ℕ) (v w : View) (f : ℕ) → length v.bytes ≤ k → total ≡ chain k 0x16 v
+    → Ok (f, w) ≡ uleb16_at v → EndsAs total f w
 unfolding chain
-more zero total v w f le same h = let lt = uleb16_at-shorter v f w h in absurd (omega (arith, lt, le))
+more zero total v w f le same h = let lt = uleb16_at-shorter v f w h in
+    absurd (omega (arith, lt, le))
 more (suc k) total v w f le same h =
     let lt : length w.bytes < length v.bytes = uleb16_at-shorter v f w h in
     record { fuel = k; enough = omega (arith, lt, le); same = same ∙ rw (← h) refl }
 
-pub chain_more : (total : Reads ℕ) (v w : View) (g f : ℕ) → g ≡ 0x16 → EndsAs total g v → Ok (f, w) ≡ uleb16_at v → EndsAs total f w
-chain_more total v w g f is s h = more s.fuel total v w f s.enough (s.same ∙ ap (λ x. chain s.fuel x v) is) h
+pub chain_more : (total : Reads ℕ) (v w : View) (g f : ℕ) → g ≡ 0x16 → EndsAs total g v
+    → Ok (f, w) ≡ uleb16_at v → EndsAs total f w
+chain_more total v w g f is s h =
+    more s.fuel total v w f s.enough (s.same ∙ ap (λ x. chain s.fuel x v) is) h
 
-refused : (k : ℕ) (total : Reads ℕ) (v : View) (e : Error) → length v.bytes ≤ k → total ≡ chain k 0x16 v → Err e ≡ uleb16_at v → Err e ≡ total
+refused : (k : ℕ) (total : Reads ℕ) (v : View) (e : Error) → length v.bytes ≤ k
+    → total ≡ chain k 0x16 v → Err e ≡ uleb16_at v → Err e ≡ total
 unfolding chain
 refused zero total v e le same h = h ∙ uleb16_at-none v le ∙ sym same
 refused (suc k) total v e le same h = sym (same ∙ rw (← h) refl)
 
-pub chain_refused : (total : Reads ℕ) (v : View) (g : ℕ) (e : Error) → g ≡ 0x16 → EndsAs total g v → Err e ≡ uleb16_at v → Err e ≡ total
-chain_refused total v g e is s h = refused s.fuel total v e s.enough (s.same ∙ ap (λ x. chain s.fuel x v) is) h
+pub chain_refused : (total : Reads ℕ) (v : View) (g : ℕ) (e : Error) → g ≡ 0x16 → EndsAs total g v
+    → Err e ≡ uleb16_at v → Err e ≡ total
+chain_refused total v g e is s h =
+    refused s.fuel total v e s.enough (s.same ∙ ap (λ x. chain s.fuel x v) is) h
 
 ended : (k form : ℕ) (v : View) → (form ≡ 0x16 → ⊥) → chain k form v ≡ Ok (form, v)
 unfolding chain
 ended zero form v ne = let t : (form == 0x16) ≡ false = ne_eqb form 0x16 ne in rw t refl
 ended (suc k) form v ne = let t : (form == 0x16) ≡ false = ne_eqb form 0x16 ne in rw t refl
 
-pub chain_end : (total : Reads ℕ) (g : ℕ) (v : View) → (g ≡ 0x16 → ⊥) → EndsAs total g v → Ok (g, v) ≡ total
+pub chain_end : (total : Reads ℕ) (g : ℕ) (v : View) → (g ≡ 0x16 → ⊥) → EndsAs total g v
+    → Ok (g, v) ≡ total
 chain_end total g v ne s = sym (s.same ∙ ended s.fuel g v ne)
 
 pub chain_begin : (f : ℕ) (v : View) → EndsAs (form_at f v) f v

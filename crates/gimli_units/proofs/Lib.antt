@@ -1,3 +1,12 @@
+pub mod WidthLaw
+pub mod TreeLaw
+pub mod StartLaw
+pub mod RowLaw
+pub mod PlaceLaw
+pub mod PassReads
+pub mod PassLaw
+pub mod HonestShift
+pub mod CursorLaw
 pub mod AttributeTurns
 pub mod Bounds
 pub mod Chains

@@ -1,5 +1,7 @@
 -- Where a cursor stands, and what its steps do to it (DWARF 5, 2.3).
-use Rattle.std.specs.Prelude.{◌≡◌, ◌⊎◌, ℕ, ◌+◌, ◌-◌, ◌≤◌, ◌<◌, ◌^◌, ◌==◌, unsigned_abs, ℤ, Bool, true, false, if◌then◌else◌, length, int_le, Option, Some, None, Result, Ok, Err}
+use Rattle.std.specs.Prelude.{◌≡◌, ◌⊎◌, ℕ, ◌+◌, ◌-◌, ◌≤◌, ◌<◌, ◌^◌, ◌==◌, unsigned_abs, ℤ, Bool}
+use Rattle.std.specs.Prelude.{true, false, if◌then◌else◌, length, int_le, Option, Some, None}
+use Rattle.std.specs.Prelude.{Result, Ok, Err}
 use Rattle.gimli_base.specs.declared.error.Error.{Error}
 use Rattle.gimli_base.specs.declared.error.Error.TheVariants.{OutOfMemory}
 use Rattle.gimli_base.specs.Offset.{answer_of}
@@ -8,14 +10,16 @@ use Rattle.gimli_base.specs.Reading.{Reads}
 use Rattle.gimli_base.specs.Table.{found}
 use Rattle.gimli_base.specs.Later.{IsLater}
 use Rattle.gimli_units.specs.declared.entry.DebuggingInformationEntry.{DebuggingInformationEntry}
-use Rattle.gimli_units.specs.Entry.{Entry, entry_of, entry_at, abbreviation_at, takes_memory, null_entry, is_null}
+use Rattle.gimli_units.specs.Entry.{Entry, entry_of, entry_at, abbreviation_at, takes_memory}
+use Rattle.gimli_units.specs.Entry.{null_entry, is_null}
 use Rattle.gimli_units.specs.RawPlace.{RawPlace, next_offset_of, depth_after}
 use Rattle.gimli_units.specs.Rows.{Row, Ahead, ahead_at}
 use Rattle.gimli_units.specs.Honest.{usable, IsHonest, AreHonestUntil}
 use Rattle.gimli_units.specs.CursorPlace.{Place, Moved, some_of, IsPlaceUntil}
 
--- A cursor: where its reader stands, the entry that it read last (a null, where there is no current entry) with its offset and
--- depth, whether it follows references, and how many entries it has read.
+-- A cursor: where its reader stands, the entry that it read last (a null, where there is no current
+-- entry) with its offset and depth, whether it follows references, and how many entries it has
+-- read.
 pub record CursorView : Type 0 where
   pub raw : RawPlace
   pub entry : Entry
@@ -24,9 +28,19 @@ pub record CursorView : Type 0 where
   pub follows : Bool
   pub reads : ℕ
 
--- a cursor that code holds: its reader, the entry that was read last, whether it follows references, and its reads
-abbrev pub cursor_held : {R A O : Type 0} → (R → View) → (O → ℕ) → RawPlace → DebuggingInformationEntry R A O → Bool → ℕ → CursorView
-cursor_held f g raw e follows reads = record { raw = raw; entry = entry_of f g e; offset = g e.offset.0; depth = e.depth; follows = follows; reads = reads }
+-- a cursor that code holds: its reader, the entry that was read last, whether it follows
+-- references, and its reads
+abbrev pub cursor_held : {R A O : Type 0} → (R → View) → (O → ℕ) → RawPlace
+    → DebuggingInformationEntry R A O → Bool → ℕ → CursorView
+cursor_held f g raw e follows reads =
+    record {
+      raw = raw;
+      entry = entry_of f g e;
+      offset = g e.offset.0;
+      depth = e.depth;
+      follows = follows;
+      reads = reads;
+    }
 
 -- the next entry of a reader's unit
 abbrev pub next_of : ℕ → RawPlace → View → Reads Entry
@@ -38,20 +52,30 @@ rows_of limit p = ahead_at (next_of limit p) p.end p.depth p.rest
 
 -- the place of a cursor
 abbrev pub place_of : ℕ → CursorView → Place
-place_of limit c = record { ahead = rows_of limit c.raw; current = some_of c.entry; offset = c.offset; depth = c.depth }
+place_of limit c =
+    record {
+      ahead = rows_of limit c.raw;
+      current = some_of c.entry;
+      offset = c.offset;
+      depth = c.depth;
+    }
 
 -- the row of the entry that was read last
 abbrev pub last_row : CursorView → Row
-last_row c = record { offset = c.offset; next = next_offset_of c.raw; depth = c.depth; entry = c.entry }
+last_row c =
+    record { offset = c.offset; next = next_offset_of c.raw; depth = c.depth; entry = c.entry }
 
 -- a step's answer and place are those of a move
 abbrev pub Goes : ℕ → (Place → Moved) → CursorView → Result Bool Error → CursorView → Type 0
-Goes limit move old outcome new = record { outcome = outcome; place = place_of limit new } ≡ move (place_of limit old)
+Goes limit move old outcome new =
+    record { outcome = outcome; place = place_of limit new } ≡ move (place_of limit old)
 
--- What is asked where a row of this depth is sought with references followed: that the current row is honest, if it is at least
--- so deep, and so are the rows ahead that are, before the first of that depth.
+-- What is asked where a row of this depth is sought with references followed: that the current row
+-- is honest, if it is at least so deep, and so are the rows ahead that are, before the first of
+-- that depth.
 pub record IsHonestFor (limit : ℕ) (sought : ℤ) (c : CursorView) : Type 0 where
-  pub current : int_le sought c.depth ≡ true → IsHonest c.raw.end (last_row c) (rows_of limit c.raw).rows
+  pub current : int_le sought c.depth ≡ true
+      → IsHonest c.raw.end (last_row c) (rows_of limit c.raw).rows
   pub ahead : AreHonestUntil c.raw.end sought (rows_of limit c.raw).rows
 
 -- where the reference of the current entry leads, if it is followed
@@ -68,11 +92,13 @@ rows_from limit p offset depth = ahead_at (next_of limit p) p.end depth (view_fr
 
 -- what stands at an offset: an entry, or a refusal
 abbrev pub what_at : ℕ → RawPlace → ℕ → Result Entry Error
-what_at limit p offset = answer_of (λ (x : Entry × View). x.0) (next_of limit p (view_from p offset))
+what_at limit p offset =
+    answer_of (λ (x : Entry × View). x.0) (next_of limit p (view_from p offset))
 
 -- whether reading what stands at an offset takes memory
 abbrev pub takes_memory_at : RawPlace → ℕ → Bool
-takes_memory_at p offset = takes_memory (abbreviation_at (found p.abbreviations) (view_from p offset))
+takes_memory_at p offset =
+    takes_memory (abbreviation_at (found p.abbreviations) (view_from p offset))
 
 -- the same unit, read in the same way
 pub record IsSameUnit (old new : CursorView) : Type 0 where
@@ -81,8 +107,8 @@ pub record IsSameUnit (old new : CursorView) : Type 0 where
   pub end : new.raw.end ≡ old.raw.end
   pub follows : new.follows ≡ old.follows
 
--- The entry that a step answered is the one that stands at its offset, which is not before what stood next before the step; and
--- the reader is just behind it, at the depth that it makes.
+-- The entry that a step answered is the one that stands at its offset, which is not before what
+-- stood next before the step; and the reader is just behind it, at the depth that it makes.
 pub record IsTrueEntry (limit : ℕ) (old new : CursorView) : Type 0 where
   pub is : Ok (new.entry, new.raw.rest) ≡ next_of limit old.raw (view_from old.raw new.offset)
   pub depth : new.raw.depth ≡ depth_after new.entry new.depth
@@ -93,8 +119,9 @@ pub record IsTrueEntry (limit : ℕ) (old new : CursorView) : Type 0 where
 abbrev pub IsOver : CursorView → Type 0
 IsOver c = length c.raw.rest.bytes ≡ 0
 
--- A refusal of bytes is what stands at the pair's offset, which is not before what stood next before the step, and before the end; the walk is over,
--- with no current entry, and the next depth is the pair's.
+-- A refusal of bytes is what stands at the pair's offset, which is not before what stood next
+-- before the step, and before the end; the walk is over, with no current entry, and the next depth
+-- is the pair's.
 pub record IsRefused (limit : ℕ) (old : CursorView) (e : Error) (new : CursorView) : Type 0 where
   pub is : (e ≡ OutOfMemory → ⊥) → what_at limit old.raw new.offset ≡ Err e
   pub memory : e ≡ OutOfMemory → takes_memory_at old.raw new.offset ≡ true
@@ -104,20 +131,24 @@ pub record IsRefused (limit : ℕ) (old : CursorView) (e : Error) (new : CursorV
   pub over : IsOver new
   pub depth : new.raw.depth ≡ new.depth
 
--- a pair of offset and depth is that of the first row ahead that passes a test, or of one before it, or of the place behind the
--- last, where none does
+-- a pair of offset and depth is that of the first row ahead that passes a test, or of one before
+-- it, or of the place behind the last, where none does
 abbrev pub IsPlaceAhead : ℕ → (Row → Bool) → RawPlace → ℕ → ℤ → Type 0
-IsPlaceAhead limit test p offset depth = IsPlaceUntil test (rows_of limit p).stop (rows_of limit p).stop_depth offset depth (rows_of limit p).rows
+IsPlaceAhead limit test p offset depth =
+    IsPlaceUntil test (rows_of limit p).stop (rows_of limit p).stop_depth offset depth
+    (rows_of limit p).rows
 
--- the pair is that of a row that is passed or taken, where the first that passes a test is, or of the place behind the last
+-- the pair is that of a row that is passed or taken, where the first that passes a test is, or of
+-- the place behind the last
 abbrev pub IsAheadOf : ℕ → (Row → Bool) → CursorView → CursorView → Type 0
 IsAheadOf limit test old new = IsPlaceAhead limit test old.raw new.offset new.depth
 
--- An entry of this depth was not found, whatever the references: a null of it stands at the pair's offset; or nothing is left, and the pair
--- is that of the entry from which it was sought.
+-- An entry of this depth was not found, whatever the references: a null of it stands at the pair's
+-- offset; or nothing is left, and the pair is that of the entry from which it was sought.
 abbrev pub IsNotFound : ℕ → ℤ → ℕ → CursorView → CursorView → Type 0
 IsNotFound limit depth offset old new =
-    (is_null new.entry ≡ true) × (new.depth ≡ depth) × (IsTrueEntry limit old new ⊎ (IsOver new × (new.offset ≡ offset)))
+    (is_null new.entry ≡ true) × (new.depth ≡ depth)
+    × (IsTrueEntry limit old new ⊎ (IsOver new × (new.offset ≡ offset)))
 
 -- what is left of the bytes is some of what was left
 abbrev pub IsFurther : CursorView → CursorView → Type 0
@@ -137,7 +168,9 @@ reads_ahead a = length a.rows + elim a.refusal [ None ↦ 0 | Some e ↦ 1 ]
 
 -- each entry that was passed was read once
 abbrev pub IsReadOnce : ℕ → CursorView → CursorView → Type 0
-IsReadOnce limit old new = new.reads + reads_ahead (rows_of limit new.raw) ≡ old.reads + reads_ahead (rows_of limit old.raw)
+IsReadOnce limit old new =
+    new.reads + reads_ahead (rows_of limit new.raw)
+    ≡ old.reads + reads_ahead (rows_of limit old.raw)
 
 -- each entry before the one that was refused was read once, and so was that one
 abbrev pub IsReadUpTo : ℕ → CursorView → CursorView → Type 0
@@ -149,8 +182,8 @@ IsReadUpTo limit old new =
 abbrev pub StandsBehind : CursorView → Type 0
 StandsBehind c = is_null c.entry ≡ false → c.raw.depth ≡ depth_after c.entry c.depth
 
--- What holds of every cursor: the reads and the depths are few beside the bytes that are left, and it stands behind its entry, past
--- the offset where that begins.
+-- What holds of every cursor: the reads and the depths are few beside the bytes that are left, and
+-- it stands behind its entry, past the offset where that begins.
 pub record IsSound (c : CursorView) : Type 0 where
   pub few : c.reads + length c.raw.rest.bytes < 2 ^ 63
   pub shallow : unsigned_abs c.depth + length c.raw.rest.bytes < 2 ^ 63

@@ -10,7 +10,8 @@ use Rattle.gimli_units.specs.CursorMoves.{CursorView}
 
 -- before the first step there is no current entry, the pair is (0, 0), and nothing was read
 abbrev pub before_first : Bool → RawPlace → CursorView
-before_first follows p = record { raw = p; entry = null_entry; offset = 0; depth = pos 0; follows = follows; reads = 0 }
+before_first follows p =
+    record { raw = p; entry = null_entry; offset = 0; depth = pos 0; follows = follows; reads = 0 }
 
 -- a cursor over all the entries of a unit
 abbrev pub cursor_of : UnitView → Table → Bool → CursorView
@@ -18,7 +19,8 @@ cursor_of u abbreviations follows = before_first follows (entries_of u abbreviat
 
 -- a cursor over the entries from an offset on
 abbrev pub cursor_from : UnitView → Table → Bool → ℕ → Result CursorView Error
-cursor_from u abbreviations follows offset = answer_of (before_first follows) (entries_from u abbreviations (Some offset))
+cursor_from u abbreviations follows offset =
+    answer_of (before_first follows) (entries_from u abbreviations (Some offset))
 
 -- a reader of the entries from an offset on, or of all
 abbrev pub raw_start : UnitView → Table → Option ℕ → Result RawPlace Error
@@ -27,4 +29,5 @@ raw_start u abbreviations (Some offset) = entries_from u abbreviations (Some off
 
 -- a cursor over the entries from an offset on, or over all
 abbrev pub cursor_start : UnitView → Table → Bool → Option ℕ → Result CursorView Error
-cursor_start u abbreviations follows start = answer_of (before_first follows) (raw_start u abbreviations start)
+cursor_start u abbreviations follows start =
+    answer_of (before_first follows) (raw_start u abbreviations start)

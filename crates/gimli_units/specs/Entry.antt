@@ -1,5 +1,6 @@
 -- The entry at a view, under a finite map of codes to declarations (DWARF 5, 7.5.2 and 7.5.3).
-use Rattle.std.specs.Prelude.{ℕ, ◌==◌, if◌then◌else◌, Bool, true, false, List, [], ◌∷◌, map, Option, Some, None, Ok, Err}
+use Rattle.std.specs.Prelude.{ℕ, ◌==◌, if◌then◌else◌, Bool, true, false, List, [], ◌∷◌, map, Option}
+use Rattle.std.specs.Prelude.{Some, None, Ok, Err}
 use Rattle.std.specs.List.{find}
 use Rattle.gimli_base.specs.declared.common.Encoding.{Encoding}
 use Rattle.gimli_base.specs.declared.constants.DwTag.{DwTag}
@@ -19,14 +20,17 @@ Attr = Attribute View ℕ
 -- the attribute of a specification
 unfoldable pub attribute_at : ℕ → Encoding → Specification → View → Reads Attr
 attribute_at limit e s v =
-    made (λ x. record { name = s.name; form = s.form; value = x }) (value_at limit e s.name.0 s.constant s.form.0 v)
+    made (λ x. record { name = s.name; form = s.form; value = x })
+    (value_at limit e s.name.0 s.constant s.form.0 v)
 
 -- the attributes of these specifications, in their order
 unfoldable pub attributes_at : ℕ → Encoding → List Specification → View → Reads (List Attr)
 attributes_at limit e [] v = Ok ([], v)
-attributes_at limit e (s ∷ ss) v = attribute_at limit e s v >>= λ p. made (λ xs. p.0 ∷ xs) (attributes_at limit e ss p.1)
+attributes_at limit e (s ∷ ss) v =
+    attribute_at limit e s v >>= λ p. made (λ xs. p.0 ∷ xs) (attributes_at limit e ss p.1)
 
--- an entry: a tag, whether children follow, and attributes. A null has the tag 0, which no other entry has.
+-- an entry: a tag, whether children follow, and attributes. A null has the tag 0, which no other
+-- entry has.
 pub record Entry : Type 0 where
   pub tag : DwTag
   pub has_children : Bool
@@ -40,11 +44,14 @@ abbrev pub is_null : Entry → Bool
 is_null e = e.tag.0 == 0
 
 -- an entry of these parts, by what their readers and offsets stand for
-abbrev pub entry_of_parts : {R O : Type 0} → (R → View) → (O → ℕ) → DwTag → Bool → List (Attribute R O) → Entry
-entry_of_parts f g tag has_children attrs = record { tag = tag; has_children = has_children; attributes = map (map_attribute f g) attrs }
+abbrev pub entry_of_parts : {R O : Type 0} → (R → View) → (O → ℕ) → DwTag → Bool
+    → List (Attribute R O) → Entry
+entry_of_parts f g tag has_children attrs =
+    record { tag = tag; has_children = has_children; attributes = map (map_attribute f g) attrs }
 
 -- an entry that code holds, likewise
-abbrev pub entry_of : {R A O : Type 0} → (R → View) → (O → ℕ) → DebuggingInformationEntry R A O → Entry
+abbrev pub entry_of : {R A O : Type 0} → (R → View) → (O → ℕ) → DebuggingInformationEntry R A O
+    → Entry
 entry_of f g e = entry_of_parts f g e.tag e.has_children e.attrs.items
 
 -- the first attribute of a name
@@ -55,11 +62,15 @@ first_of name attributes = find (λ a. a.name.0 == name) attributes
 unfoldable pub abbreviation_at : Map → View → Reads (Option Declaration)
 abbreviation_at declared v = uleb_at v >>= λ code.
     if code.0 == 0 then Ok (None, code.1)
-    else elim (declared code.0) [ Some d ↦ Ok (Some d, code.1) | None ↦ Err (InvalidAbbreviationCode code.0) ]
+    else elim (declared code.0)
+    [ Some d ↦ Ok (Some d, code.1) | None ↦ Err (InvalidAbbreviationCode code.0) ]
 
--- the entry of a declaration with these attributes; a declaration has no tag 0, so this is never a null with children
+-- the entry of a declaration with these attributes; a declaration has no tag 0, so this is never a
+-- null with children
 abbrev pub entry_of_declared : Declaration → List Attr → Entry
-entry_of_declared d xs = if d.tag.0 == 0 then null_entry else record { tag = d.tag; has_children = d.has_children; attributes = xs }
+entry_of_declared d xs =
+    if d.tag.0 == 0 then null_entry
+    else record { tag = d.tag; has_children = d.has_children; attributes = xs }
 
 -- the entry of a declaration, or the null
 abbrev pub content_at : ℕ → Encoding → Option Declaration → View → Reads Entry
@@ -73,4 +84,5 @@ entry_at limit e declared v = abbreviation_at declared v >>= λ p. content_at li
 -- whether reading an entry takes memory: only where its declaration has attributes
 abbrev pub takes_memory : Reads (Option Declaration) → Bool
 takes_memory (Err e) = false
-takes_memory (Ok p) = elim p.0 [ None ↦ false | Some d ↦ elim d.attributes [ [] ↦ false | s ∷ ss ↦ true ] ]
+takes_memory (Ok p) =
+    elim p.0 [ None ↦ false | Some d ↦ elim d.attributes [ [] ↦ false | s ∷ ss ↦ true ] ]

@@ -1,5 +1,7 @@
--- The first sibling reference that is false, and that there is none exactly where the rows are honest (DWARF 5, 2.3).
-use Rattle.std.specs.Prelude.{◌≡◌, ℕ, ◌==◌, Bool, true, false, not, if◌then◌else◌, List, [], ◌∷◌, Option, Some, None}
+-- The first sibling reference that is false, and that there is none exactly where the rows are
+-- honest (DWARF 5, 2.3).
+use Rattle.std.specs.Prelude.{◌≡◌, ℕ, ◌==◌, Bool, true, false, not, if◌then◌else◌, List, [], ◌∷◌}
+use Rattle.std.specs.Prelude.{Option, Some, None}
 use Rattle.std.proofs.Common.{refl, ap, ◌∙◌}
 use Rattle.std.proofs.lemmas.Bool.{eq-eqb, eqb-true}
 use Rattle.gimli_units.specs.Rows.{Row}
@@ -10,7 +12,8 @@ abbrev pub misses : ℕ → Option ℕ → Bool
 misses t None = true
 misses t (Some p) = not (p == t)
 
--- a row, with the rows behind it, whose reference can be followed and does not lead just past the closer
+-- a row, with the rows behind it, whose reference can be followed and does not lead just past the
+-- closer
 abbrev pub is_false : ℕ → Row → List Row → Bool
 is_false end r rest = elim (usable end r) [ None ↦ false | Some t ↦ misses t (past r.depth rest) ]
 
@@ -20,10 +23,12 @@ first_false end [] = None
 first_false end (r ∷ rest) = if is_false end r rest then Some r.offset else first_false end rest
 
 -- a row whose reference is not false is honest
-pub not_false : (end : ℕ) (r : Row) (rest : List Row) → is_false end r rest ≡ false → IsHonest end r rest
+pub not_false : (end : ℕ) (r : Row) (rest : List Row) → is_false end r rest ≡ false
+    → IsHonest end r rest
 not_false end r rest = cases (usable end r) (past r.depth rest)
   where
-    cases : (u p : Option ℕ) → ◌≡◌ {A = Bool} (elim u [ None ↦ false | Some t ↦ misses t p ]) false → (t : ℕ) → u ≡ Some t → p ≡ Some t
+    cases : (u p : Option ℕ) → ◌≡◌ {A = Bool} (elim u [ None ↦ false | Some t ↦ misses t p ]) false
+        → (t : ℕ) → u ≡ Some t → p ≡ Some t
     cases None p h t e = absurd (cc)
     cases (Some x) None h t e = absurd (cc)
     cases (Some x) (Some y) h t e = same (y == x) refl h
@@ -33,10 +38,12 @@ not_false end r rest = cases (usable end r) (past r.depth rest)
         same false is h = absurd (cc)
 
 -- and the reference of an honest row is not false
-pub honest_is_not : (end : ℕ) (r : Row) (rest : List Row) → IsHonest end r rest → is_false end r rest ≡ false
+pub honest_is_not : (end : ℕ) (r : Row) (rest : List Row) → IsHonest end r rest
+    → is_false end r rest ≡ false
 honest_is_not end r rest = cases (usable end r) (past r.depth rest)
   where
-    cases : (u p : Option ℕ) → ((t : ℕ) → u ≡ Some t → p ≡ Some t) → ◌≡◌ {A = Bool} (elim u [ None ↦ false | Some t ↦ misses t p ]) false
+    cases : (u p : Option ℕ) → ((t : ℕ) → u ≡ Some t → p ≡ Some t)
+        → ◌≡◌ {A = Bool} (elim u [ None ↦ false | Some t ↦ misses t p ]) false
     cases None p h = refl
     cases (Some x) p h = rw (h x refl, eq-eqb x x refl) refl
 
@@ -45,8 +52,10 @@ pub none_false : (end : ℕ) (rows : List Row) → first_false end rows ≡ None
 none_false end [] h = tt
 none_false end (r ∷ rest) h = cases (is_false end r rest) refl (none_false end rest) h
   where
-    cases : (b : Bool) → is_false end r rest ≡ b → (first_false end rest ≡ None → AreHonest end rest)
-        → ◌≡◌ {A = Option ℕ} (if b then Some r.offset else first_false end rest) None → AreHonest end (r ∷ rest)
+    cases : (b : Bool) → is_false end r rest ≡ b
+        → (first_false end rest ≡ None → AreHonest end rest)
+        → ◌≡◌ {A = Option ℕ} (if b then Some r.offset else first_false end rest) None
+        → AreHonest end (r ∷ rest)
     cases true is more h = absurd (cc)
     cases false is more h = (not_false end r rest is, more h)
 

@@ -1,5 +1,7 @@
--- Sibling references, and when they are honest: when each leads just past what closes its entry's children (DWARF 5, 2.3).
-use Rattle.std.specs.Prelude.{◌≡◌, ℕ, ℤ, pos, ◌+ℤ◌, Bool, true, false, ◌&&◌, nat_le, int_le, if◌then◌else◌, List, [], ◌∷◌, Option, Some, None}
+-- Sibling references, and when they are honest: when each leads just past what closes its entry's
+-- children (DWARF 5, 2.3).
+use Rattle.std.specs.Prelude.{◌≡◌, ℕ, ℤ, pos, ◌+ℤ◌, Bool, true, false, ◌&&◌, nat_le, int_le}
+use Rattle.std.specs.Prelude.{if◌then◌else◌, List, [], ◌∷◌, Option, Some, None}
 use Rattle.std.specs.Ordering.{int_eq}
 use Rattle.gimli_units.specs.Entry.{is_null}
 use Rattle.gimli_units.specs.Kind.{Kind, null, leaf, parent, kind_of}
@@ -24,7 +26,8 @@ abbrev pub within : ℕ → ℕ → Option ℕ → Option ℕ
 within low high None = None
 within low high (Some t) = if nat_le low t && nat_le t high then Some t else None
 
--- where it leads, if it can be followed: not before what is behind the row, and not past the end of the bytes
+-- where it leads, if it can be followed: not before what is behind the row, and not past the end of
+-- the bytes
 abbrev pub usable : ℕ → Row → Option ℕ
 usable end r = within r.next end (target (kind_of r.entry))
 
@@ -41,4 +44,5 @@ AreHonest end (r ∷ rest) = IsHonest end r rest × AreHonest end rest
 abbrev pub AreHonestUntil : ℕ → ℤ → List Row → Type 0
 AreHonestUntil end depth [] = Unit {0}
 AreHonestUntil end depth (r ∷ rest) =
-    int_eq r.depth depth ≡ false → (int_le depth r.depth ≡ true → IsHonest end r rest) × AreHonestUntil end depth rest
+    int_eq r.depth depth ≡ false
+    → (int_le depth r.depth ≡ true → IsHonest end r rest) × AreHonestUntil end depth rest

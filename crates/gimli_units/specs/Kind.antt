@@ -1,4 +1,5 @@
--- What a walk minds of an entry: whether it is a null, whether children follow, and where its sibling reference leads (DWARF 5, 2.3).
+-- What a walk minds of an entry: whether it is a null, whether children follow, and where its
+-- sibling reference leads (DWARF 5, 2.3).
 use Rattle.std.specs.Prelude.{ℕ, if◌then◌else◌, List, Option, Some, None}
 use Rattle.gimli_units.specs.declared.value.AttributeValue.TheVariants.{UnitRef}
 use Rattle.gimli_units.specs.Value.{Value}
@@ -18,4 +19,5 @@ abbrev pub sibling_of : List Attr → Option ℕ
 sibling_of attributes = elim (first_of 0x01 attributes) [ Some a ↦ reference a.value | None ↦ None ]
 
 abbrev pub kind_of : Entry → Kind
-kind_of e = if is_null e then null else if e.has_children then parent (sibling_of e.attributes) else leaf
+kind_of e = if is_null e then null else if e.has_children then parent (sibling_of e.attributes)
+    else leaf

@@ -1,22 +1,40 @@
 -- How the value of each form lies in the bytes, and what it reads as (DWARF 5, 7.5.6, table 7.6).
-use Rattle.std.specs.Prelude.{ℕ, ℤ, true, not, ◌==◌, if◌then◌else◌, List, [], ◌∷◌, Option, Some, None}
+use Rattle.std.specs.Prelude.{ℕ, ℤ, true, not, ◌==◌, if◌then◌else◌, List, [], ◌∷◌, Option, Some}
+use Rattle.std.specs.Prelude.{None}
 use Rattle.gimli_base.specs.View.{View}
 use Rattle.gimli_units.specs.Value.{Value}
-use Rattle.gimli_units.specs.declared.value.AttributeValue.TheVariants.{Addr, Block, Data1, Data2, Data4, Data8, Data16, Sdata, Udata, Exprloc, Flag, SecOffset, String, UnitRef, DebugStrRef, DebugStrRefSup, DebugLineStrRef, DebugInfoRef, DebugInfoRefSup, DebugTypesRef, DebugStrOffsetsIndex, DebugAddrIndex, DebugAddrIndexOffset, DebugLocListsIndex, DebugRngListsIndex}
+use Rattle.gimli_units.specs.declared.value.AttributeValue.TheVariants.{Addr, Block, Data1, Data2}
+use Rattle.gimli_units.specs.declared.value.AttributeValue.TheVariants.{Data4, Data8, Data16, Sdata}
+use Rattle.gimli_units.specs.declared.value.AttributeValue.TheVariants.{Udata, Exprloc, Flag}
+use Rattle.gimli_units.specs.declared.value.AttributeValue.TheVariants.{SecOffset, String, UnitRef}
+use Rattle.gimli_units.specs.declared.value.AttributeValue.TheVariants.{DebugStrRef, DebugStrRefSup}
+use Rattle.gimli_units.specs.declared.value.AttributeValue.TheVariants.{DebugLineStrRef}
+use Rattle.gimli_units.specs.declared.value.AttributeValue.TheVariants.{DebugInfoRef}
+use Rattle.gimli_units.specs.declared.value.AttributeValue.TheVariants.{DebugInfoRefSup}
+use Rattle.gimli_units.specs.declared.value.AttributeValue.TheVariants.{DebugTypesRef}
+use Rattle.gimli_units.specs.declared.value.AttributeValue.TheVariants.{DebugStrOffsetsIndex}
+use Rattle.gimli_units.specs.declared.value.AttributeValue.TheVariants.{DebugAddrIndex}
+use Rattle.gimli_units.specs.declared.value.AttributeValue.TheVariants.{DebugAddrIndexOffset}
+use Rattle.gimli_units.specs.declared.value.AttributeValue.TheVariants.{DebugLocListsIndex}
+use Rattle.gimli_units.specs.declared.value.AttributeValue.TheVariants.{DebugRngListsIndex}
 
 -- The bytes of a value, and the value that is made of what they hold.
 pub data Layout : Type 0 where
   byte : (ℕ → Value) → Layout  -- one byte
   number : ℕ → (ℕ → Value) → Layout  -- n bytes
-  section_or : ℕ → (ℕ → Value) → Layout  -- n bytes; where the name is one of a section's and n is the format's width, an offset
+  section_or : ℕ → (ℕ → Value)
+      → Layout  -- n bytes; where the name is one of a section's and n is the format's width,
+      an offset
   address : (ℕ → Value) → Layout  -- as many bytes as the unit's addresses have
   uleb : (ℕ → Value) → Layout  -- an unsigned LEB128 number
   sleb : (ℤ → Value) → Layout  -- a signed LEB128 number
   offset : ℕ → (ℕ → Value) → Layout  -- n bytes, an offset or index
   word_offset : (ℕ → Value) → Layout  -- as many bytes as the format's offsets have, an offset
-  reference : (ℕ → Value) → Layout  -- in version 2 as many bytes as addresses have, else as word_offset
+  reference : (ℕ → Value) → Layout  -- in
+      version 2 as many bytes as addresses have, else as word_offset
   offset_leb : (ℕ → Value) → Layout  -- an unsigned LEB128 number, an offset or index
-  offset_leb_and : ℕ → (ℕ → ℕ → Value) → Layout  -- an unsigned LEB128 number, an offset or index, and then n bytes
+  offset_leb_and : ℕ → (ℕ → ℕ → Value) → Layout  -- an unsigned LEB128 number, an offset or index,
+      and then n bytes
   block : ℕ → (View → Value) → Layout  -- a length of n bytes, and that many bytes
   block_leb : (View → Value) → Layout  -- a length in LEB128, and that many bytes
   text : (View → Value) → Layout  -- bytes up to a zero, which is passed too

@@ -1,5 +1,6 @@
 -- The first sibling reference that is false is the one of the least offset (DWARF 5, 2.3).
-use Rattle.std.specs.Prelude.{◌≡◌, ◌⊎◌, ℕ, ◌<◌, ◌≤◌, ℤ, pos, Bool, true, false, if◌then◌else◌, List, [], ◌∷◌, length, Option, Some, Ok}
+use Rattle.std.specs.Prelude.{◌≡◌, ◌⊎◌, ℕ, ◌<◌, ◌≤◌, ℤ, pos, Bool, true, false, if◌then◌else◌, List}
+use Rattle.std.specs.Prelude.{[], ◌∷◌, length, Option, Some, Ok}
 use Rattle.std.proofs.Common.{refl, sym, ◌∙◌, arith, inl, inr}
 use Rattle.gimli_base.specs.declared.error.Error.{Error}
 use Rattle.gimli_base.specs.View.{View}
@@ -18,11 +19,13 @@ use Rattle.gimli_units.specs.UnitRows.{unit_rows_at, unit_rows}
 -- at this offset stands one of these rows, and it is not honest
 abbrev pub IsFalseAt : ℕ → ℕ → List Row → Type 0
 IsFalseAt end offset [] = ⊥
-IsFalseAt end offset (r ∷ rest) = ((r.offset ≡ offset) × (IsHonest end r rest → ⊥)) ⊎ IsFalseAt end offset rest
+IsFalseAt end offset (r ∷ rest) =
+    ((r.offset ≡ offset) × (IsHonest end r rest → ⊥)) ⊎ IsFalseAt end offset rest
 
 -- and at none before it
 abbrev pub IsLeastFalse : ℕ → ℕ → List Row → Type 0
-IsLeastFalse end offset rows = IsFalseAt end offset rows × ((other : ℕ) → IsFalseAt end other rows → offset ≤ other)
+IsLeastFalse end offset rows =
+    IsFalseAt end offset rows × ((other : ℕ) → IsFalseAt end other rows → offset ≤ other)
 
 -- no row stands before an offset, nor before one that it lies behind
 abbrev Grow : ℕ → List Row → Type 0
@@ -33,44 +36,66 @@ grow_down : (low high : ℕ) (rows : List Row) → low ≤ high → Grow high ro
 grow_down low high [] le h = tt
 grow_down low high (r ∷ rest) le h = (omega (arith, le, h.0), h.1)
 
-behind_low : (end low other : ℕ) (rows : List Row) → Grow low rows → IsFalseAt end other rows → low ≤ other
+behind_low : (end low other : ℕ) (rows : List Row) → Grow low rows → IsFalseAt end other rows
+    → low ≤ other
 behind_low end low other [] h there = absurd there
 behind_low end low other (r ∷ rest) h (inl here) = omega (arith, h.0, here.0)
-behind_low end low other (r ∷ rest) h (inr on) = let more = behind_low end r.offset other rest h.1 on in omega (arith, h.0, more)
+behind_low end low other (r ∷ rest) h (inr on) =
+    let more = behind_low end r.offset other rest h.1 on in omega (arith, h.0, more)
 
-broken : (end : ℕ) (r : Row) (rest : List Row) → is_false end r rest ≡ true → IsHonest end r rest → ⊥
-broken end r rest is honest = let e : true ≡ false = sym is ∙ honest_is_not end r rest honest in absurd (cc)
+broken : (end : ℕ) (r : Row) (rest : List Row) → is_false end r rest ≡ true → IsHonest end r rest
+    → ⊥
+broken end r rest is honest = let e : true ≡ false = sym is ∙ honest_is_not end r rest honest in
+    absurd (cc)
 
-least : (end low : ℕ) (rows : List Row) (offset : ℕ) → Grow low rows → first_false end rows ≡ Some offset → IsLeastFalse end offset rows
+least : (end low : ℕ) (rows : List Row) (offset : ℕ) → Grow low rows
+    → first_false end rows ≡ Some offset → IsLeastFalse end offset rows
 least end low [] offset h is = absurd (cc)
-least end low (r ∷ rest) offset h is = cases (is_false end r rest) refl (least end r.offset rest offset h.1) is
+least end low (r ∷ rest) offset h is =
+    cases (is_false end r rest) refl (least end r.offset rest offset h.1) is
   where
     first : (other : ℕ) → r.offset ≡ offset → IsFalseAt end other (r ∷ rest) → offset ≤ other
     first other same (inl here) = omega (arith, here.0, same)
-    first other same (inr on) = let more = behind_low end r.offset other rest h.1 on in omega (arith, same, more)
+    first other same (inr on) = let more = behind_low end r.offset other rest h.1 on in
+        omega (arith, same, more)
 
-    later : (other : ℕ) → is_false end r rest ≡ false → IsLeastFalse end offset rest → IsFalseAt end other (r ∷ rest) → offset ≤ other
+    later : (other : ℕ) → is_false end r rest ≡ false → IsLeastFalse end offset rest
+        → IsFalseAt end other (r ∷ rest) → offset ≤ other
     later other honest more (inl here) = absurd (here.1 (not_false end r rest honest))
     later other honest more (inr on) = more.1 other on
 
-    cases : (b : Bool) → is_false end r rest ≡ b → (first_false end rest ≡ Some offset → IsLeastFalse end offset rest)
-        → ◌≡◌ {A = Option ℕ} (if b then Some r.offset else first_false end rest) (Some offset) → IsLeastFalse end offset (r ∷ rest)
-    cases true wrong more e = let same : r.offset ≡ offset = cc in (inl (same, broken end r rest wrong), λ other there. first other same there)
+    cases : (b : Bool) → is_false end r rest ≡ b
+        → (first_false end rest ≡ Some offset → IsLeastFalse end offset rest)
+        → ◌≡◌ {A = Option ℕ} (if b then Some r.offset else first_false end rest) (Some offset)
+        → IsLeastFalse end offset (r ∷ rest)
+    cases true wrong more e = let same : r.offset ≡ offset = cc in
+        (inl (same, broken end r rest wrong), λ other there. first other same there)
     cases false honest more e = (inr (more e).0, λ other there. later other honest (more e) there)
 
-module _ (next : View → Reads Entry) (end : ℕ) (shorter : (v w : View) (e : Entry) → Ok (e, w) ≡ next v → length w.bytes < length v.bytes) where
-  grow : (rows : List Row) (v : View) (depth : ℤ) (refusal : Option Error) (stop : ℕ) (stop_depth : ℤ) → AreRows next end v depth rows refusal stop stop_depth → Grow (offset_of_view end v) rows
+module _ (next : View → Reads Entry) (end : ℕ)
+    (shorter : (v w : View) (e : Entry) → Ok (e, w) ≡ next v
+    → length w.bytes < length v.bytes) where
+  grow : (rows : List Row) (v : View) (depth : ℤ) (refusal : Option Error) (stop : ℕ)
+      (stop_depth : ℤ) → AreRows next end v depth rows refusal stop stop_depth
+      → Grow (offset_of_view end v) rows
   grow [] v depth refusal stop stop_depth are = tt
   grow (r ∷ rest) v depth refusal stop stop_depth (w, is, more) =
-      let lt = shorter v w r.entry is.reads in
-      (omega (arith, is.offset), grow_down r.offset (offset_of_view end w) rest (omega (arith, is.offset, lt)) (grow rest w (depth_after r.entry depth) refusal stop stop_depth more))
+      let lt = shorter v w r.entry is.reads in (
+        omega (arith, is.offset),
+        grow_down r.offset (offset_of_view end w) rest (omega (arith, is.offset, lt))
+            (grow rest w (depth_after r.entry depth) refusal stop stop_depth more),
+      )
 
 -- the first of the rows of a unit whose reference is false has the least offset
-pub least_false : (limit : ℕ) (u : UnitView) (declared : Map) (offset : ℕ) → first_false (whole_length u) (unit_rows limit u declared) ≡ Some offset
+pub least_false : (limit : ℕ) (u : UnitView) (declared : Map) (offset : ℕ)
+    → first_false (whole_length u) (unit_rows limit u declared) ≡ Some offset
     → IsLeastFalse (whole_length u) offset (unit_rows limit u declared)
 least_false limit u declared offset is =
     let next = entry_at limit u.encoding declared in
     let end = whole_length u in
-    let shorter = λ (v w : View) (e : Entry) (h : Ok (e, w) ≡ next v). entry_at-shorter limit u.encoding declared v w e h in
+    let shorter = λ (v w : View) (e : Entry) (h : Ok (e, w) ≡ next v).
+    entry_at-shorter limit u.encoding declared v w e h in
     let a : Ahead = unit_rows_at limit u declared (pos 0) u.entries in
-    least end (offset_of_view end u.entries) a.rows offset (grow next end shorter a.rows u.entries (pos 0) a.refusal a.stop a.stop_depth (exist_rows next end shorter u.entries (pos 0))) is
+    least end (offset_of_view end u.entries) a.rows offset
+    (grow next end shorter a.rows u.entries (pos 0) a.refusal a.stop a.stop_depth
+    (exist_rows next end shorter u.entries (pos 0))) is

@@ -1,10 +1,30 @@
--- The normal value of an attribute, by its name, and the conversions that it tries (DWARF 5, 7.5.4, table 7.5).
-use Rattle.std.specs.Prelude.{ℕ, ℤ, pos, ◌-ℤ◌, nat_lt, ◌==◌, ◌-◌, ◌^◌, if◌then◌else◌, List, [], ◌∷◌, Option, Some, None, Result, Ok, Err}
+-- The normal value of an attribute, by its name, and the conversions that it tries (DWARF 5, 7.5.4,
+-- table 7.5).
+use Rattle.std.specs.Prelude.{ℕ, ℤ, pos, ◌-ℤ◌, nat_lt, ◌==◌, ◌-◌, ◌^◌, if◌then◌else◌, List, [], ◌∷◌}
+use Rattle.std.specs.Prelude.{Option, Some, None, Result, Ok, Err}
 use Rattle.gimli_base.specs.declared.error.Error.{Error}
 use Rattle.gimli_base.specs.View.{View}
 use Rattle.gimli_base.specs.Reading.{text_from}
 use Rattle.gimli_units.specs.Value.{Value}
-use Rattle.gimli_units.specs.declared.value.AttributeValue.TheVariants.{Accessibility, AddressClass, Block, CallingConvention, Data1, Data2, Data4, Data8, DebugAddrBase, DebugLineRef, DebugLocListsBase, DebugMacinfoRef, DebugMacroRef, DebugRngListsBase, DebugStrOffsetsBase, DecimalSign, DwoId, Encoding, Endianity, Exprloc, FileIndex, IdentifierCase, Inline, Language, LocationListsRef, Ordering, RangeListsRef, Sdata, SecOffset, String, DebugStrRef, DebugStrRefSup, Udata, Virtuality, Visibility}
+use Rattle.gimli_units.specs.declared.value.AttributeValue.TheVariants.{Accessibility, AddressClass}
+use Rattle.gimli_units.specs.declared.value.AttributeValue.TheVariants.{Block, CallingConvention}
+use Rattle.gimli_units.specs.declared.value.AttributeValue.TheVariants.{Data1, Data2, Data4, Data8}
+use Rattle.gimli_units.specs.declared.value.AttributeValue.TheVariants.{DebugAddrBase, DebugLineRef}
+use Rattle.gimli_units.specs.declared.value.AttributeValue.TheVariants.{DebugLocListsBase}
+use Rattle.gimli_units.specs.declared.value.AttributeValue.TheVariants.{DebugMacinfoRef}
+use Rattle.gimli_units.specs.declared.value.AttributeValue.TheVariants.{DebugMacroRef}
+use Rattle.gimli_units.specs.declared.value.AttributeValue.TheVariants.{DebugRngListsBase}
+use Rattle.gimli_units.specs.declared.value.AttributeValue.TheVariants.{DebugStrOffsetsBase}
+use Rattle.gimli_units.specs.declared.value.AttributeValue.TheVariants.{DecimalSign, DwoId}
+use Rattle.gimli_units.specs.declared.value.AttributeValue.TheVariants.{Encoding, Endianity}
+use Rattle.gimli_units.specs.declared.value.AttributeValue.TheVariants.{Exprloc, FileIndex}
+use Rattle.gimli_units.specs.declared.value.AttributeValue.TheVariants.{IdentifierCase, Inline}
+use Rattle.gimli_units.specs.declared.value.AttributeValue.TheVariants.{Language, LocationListsRef}
+use Rattle.gimli_units.specs.declared.value.AttributeValue.TheVariants.{Ordering, RangeListsRef}
+use Rattle.gimli_units.specs.declared.value.AttributeValue.TheVariants.{Sdata, SecOffset, String}
+use Rattle.gimli_units.specs.declared.value.AttributeValue.TheVariants.{DebugStrRef, DebugStrRefSup}
+use Rattle.gimli_units.specs.declared.value.AttributeValue.TheVariants.{Udata, Virtuality}
+use Rattle.gimli_units.specs.declared.value.AttributeValue.TheVariants.{Visibility}
 
 -- an unsigned number
 abbrev pub udata_of : Value → Option ℕ

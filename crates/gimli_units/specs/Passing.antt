@@ -1,12 +1,16 @@
 -- Passing values without reading them (DWARF 5, 7.5.5 and 7.5.6).
-use Rattle.std.specs.Prelude.{◌≡◌, ℕ, ◌+◌, ◌≤◌, ◌==◌, if◌then◌else◌, length, List, [], ◌∷◌, Option, Some, None, Ok, Err}
+use Rattle.std.specs.Prelude.{◌≡◌, ℕ, ◌+◌, ◌≤◌, ◌==◌, if◌then◌else◌, length, List, [], ◌∷◌, Option}
+use Rattle.std.specs.Prelude.{Some, None, Ok, Err}
 use Rattle.gimli_base.specs.declared.common.Encoding.{Encoding}
 use Rattle.gimli_base.specs.declared.error.Error.{Error}
 use Rattle.gimli_base.specs.declared.error.Error.TheVariants.{UnknownForm, UnexpectedEof}
 use Rattle.gimli_base.specs.View.{View}
-use Rattle.gimli_base.specs.Reading.{Reads, ◌>>=◌, made, uint_offset_at, text_at, word_size_of, skip_at, skip_leb_at}
+use Rattle.gimli_base.specs.Reading.{Reads, ◌>>=◌, made, uint_offset_at, text_at, word_size_of}
+use Rattle.gimli_base.specs.Reading.{skip_at, skip_leb_at}
 use Rattle.gimli_base.specs.Abbreviations.{Specification}
-use Rattle.gimli_units.specs.Layout.{Layout, byte, number, section_or, address, uleb, sleb, offset, word_offset, reference, offset_leb, offset_leb_and, block, block_leb, text, nothing, constant, layout_of}
+use Rattle.gimli_units.specs.Layout.{Layout, byte, number, section_or, address, uleb, sleb, offset}
+use Rattle.gimli_units.specs.Layout.{word_offset, reference, offset_leb, offset_leb_and, block}
+use Rattle.gimli_units.specs.Layout.{block_leb, text, nothing, constant, layout_of}
 use Rattle.gimli_units.specs.Form.{uleb_offset_at, form_at}
 
 -- the number of bytes of a layout, where it does not depend on the bytes
@@ -36,7 +40,8 @@ pass limit e (section_or n f) v = skip_at n v
 pass limit e (address f) v = skip_at e.address_size v
 pass limit e (offset n f) v = skip_at n v
 pass limit e (word_offset f) v = skip_at (word_size_of e.format) v
-pass limit e (reference f) v = skip_at (if e.version == 2 then e.address_size else word_size_of e.format) v
+pass limit e (reference f) v =
+    skip_at (if e.version == 2 then e.address_size else word_size_of e.format) v
 pass limit e (nothing x) v = skip_at 0 v
 pass limit e (constant f) v = skip_at 0 v
 pass limit e (uleb f) v = skip_leb_at v

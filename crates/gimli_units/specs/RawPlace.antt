@@ -1,4 +1,5 @@
--- Where a reader of entries stands: what is left, how it is read, the offset of its end, and the depth (DWARF 5, 7.5.2).
+-- Where a reader of entries stands: what is left, how it is read, the offset of its end, and the
+-- depth (DWARF 5, 7.5.2).
 use Rattle.std.specs.Prelude.{ℕ, ℤ, pos, ◌+ℤ◌, ◌-ℤ◌, Bool, Option, Some, None, if◌then◌else◌}
 use Rattle.gimli_base.specs.declared.common.Encoding.{Encoding}
 use Rattle.gimli_base.specs.View.{View}
@@ -29,4 +30,5 @@ depth_read (Some d) depth = below_flag d.has_children depth
 
 -- the depth behind an entry: a flag adds one, and a null takes one
 abbrev pub depth_after : Entry → ℤ → ℤ
-depth_after e depth = if is_null e then below_flag e.has_children depth -ℤ pos 1 else below_flag e.has_children depth
+depth_after e depth =
+    if is_null e then below_flag e.has_children depth -ℤ pos 1 else below_flag e.has_children depth

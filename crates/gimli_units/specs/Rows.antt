@@ -1,5 +1,7 @@
--- The rows of a unit: its entries one behind the other, with how they end, and the depth of each (DWARF 5, 2.3 and 7.5.2).
-use Rattle.std.specs.Prelude.{ℕ, zero, suc, ◌-◌, ◌==◌, ℤ, pos, ◌+ℤ◌, ◌-ℤ◌, if◌then◌else◌, List, [], ◌∷◌, ◌++◌, length, count_by, Option, Some, None, Ok, Err}
+-- The rows of a unit: its entries one behind the other, with how they end, and the depth of each
+-- (DWARF 5, 2.3 and 7.5.2).
+use Rattle.std.specs.Prelude.{ℕ, zero, suc, ◌-◌, ◌==◌, ℤ, pos, ◌+ℤ◌, ◌-ℤ◌, if◌then◌else◌, List, []}
+use Rattle.std.specs.Prelude.{◌∷◌, ◌++◌, length, count_by, Option, Some, None, Ok, Err}
 use Rattle.gimli_base.specs.declared.error.Error.{Error}
 use Rattle.gimli_base.specs.View.{View}
 use Rattle.gimli_base.specs.Reading.{Reads}
@@ -11,8 +13,8 @@ pub record Sited : Type 0 where
   pub next : ℕ
   pub entry : Entry
 
--- Entries one behind the other, with the refusal that ends them, if it isn't the end of the bytes, and the offset of the
--- place behind the last.
+-- Entries one behind the other, with the refusal that ends them, if it isn't the end of the bytes,
+-- and the offset of the place behind the last.
 pub record Entries : Type 0 where
   pub sited : List Sited
   pub refusal : Option Error
@@ -26,14 +28,17 @@ offset_of_view end v = end - length v.bytes
 abbrev pub then_sited : Sited → Entries → Entries
 then_sited s es = record { sited = s ∷ es.sited; refusal = es.refusal; stop = es.stop }
 
--- The entries that `next` reads up to the end of the bytes, or to a refusal. Each takes a byte at least, so that n, the
--- number of bytes, is enough.
+-- The entries that `next` reads up to the end of the bytes, or to a refusal. Each takes a byte at
+-- least, so that n, the number of bytes, is enough.
 unfoldable pub entries_within : (View → Reads Entry) → ℕ → ℕ → View → Entries
 entries_within next end zero v = record { sited = []; refusal = None; stop = offset_of_view end v }
 entries_within next end (suc n) v =
     if length v.bytes == 0 then record { sited = []; refusal = None; stop = offset_of_view end v }
     else elim (next v) [
-      | Ok p ↦ then_sited (record { offset = offset_of_view end v; next = offset_of_view end p.1; entry = p.0 }) (entries_within next end n p.1)
+      | Ok p ↦
+          then_sited
+          (record { offset = offset_of_view end v; next = offset_of_view end p.1; entry = p.0 })
+          (entries_within next end n p.1)
       | Err e ↦ record { sited = []; refusal = Some e; stop = offset_of_view end v }
     ]
 
@@ -44,7 +49,9 @@ entries_at next end v = entries_within next end (length v.bytes) v
 -- the depth of the place behind these entries: the children flags among them, less the nulls
 unfoldable pub depth_behind : ℤ → List Sited → ℤ
 depth_behind start before =
-    start +ℤ (pos (count_by (λ s. s.entry.has_children) before) -ℤ pos (count_by (λ s. is_null s.entry) before))
+    start
+    +ℤ (pos (count_by (λ s. s.entry.has_children) before)
+    -ℤ pos (count_by (λ s. is_null s.entry) before))
 
 -- an entry with its offset and its depth, and the offset of what is behind it
 pub record Row : Type 0 where
@@ -57,10 +64,11 @@ pub record Row : Type 0 where
 unfoldable pub rows_behind : ℤ → List Sited → List Sited → List Row
 rows_behind start before [] = []
 rows_behind start before (s ∷ rest) =
-    record { offset = s.offset; next = s.next; depth = depth_behind start before; entry = s.entry } ∷ rows_behind start (before ++ s ∷ []) rest
+    record { offset = s.offset; next = s.next; depth = depth_behind start before; entry = s.entry }
+    ∷ rows_behind start (before ++ s ∷ []) rest
 
--- The rows that are ahead of a place, and how they end. `stop` and `stop_depth` are the offset and the depth of the place
--- behind the last row.
+-- The rows that are ahead of a place, and how they end. `stop` and `stop_depth` are the offset and
+-- the depth of the place behind the last row.
 pub record Ahead : Type 0 where
   pub rows : List Row
   pub refusal : Option Error
@@ -71,4 +79,9 @@ pub record Ahead : Type 0 where
 unfoldable pub ahead_at : (View → Reads Entry) → ℕ → ℤ → View → Ahead
 ahead_at next end depth v =
     let es : Entries = entries_at next end v in
-    record { rows = rows_behind depth [] es.sited; refusal = es.refusal; stop = es.stop; stop_depth = depth_behind depth es.sited }
+    record {
+      rows = rows_behind depth [] es.sited;
+      refusal = es.refusal;
+      stop = es.stop;
+      stop_depth = depth_behind depth es.sited;
+    }

@@ -1,5 +1,6 @@
 -- A place in the tree of a unit's entries, and the answer of each step (DWARF 5, 2.3).
-use Rattle.std.specs.Prelude.{ℕ, ℤ, pos, ◌+ℤ◌, if◌then◌else◌, List, [], ◌∷◌, Option, Some, None, Ok, Err}
+use Rattle.std.specs.Prelude.{ℕ, ℤ, pos, ◌+ℤ◌, if◌then◌else◌, List, [], ◌∷◌, Option, Some, None, Ok}
+use Rattle.std.specs.Prelude.{Err}
 use Rattle.gimli_base.specs.declared.error.Error.{Error}
 use Rattle.gimli_base.specs.declared.error.Error.TheVariants.{NoEntryAtGivenOffset}
 use Rattle.gimli_units.specs.Entry.{Entry}
@@ -12,11 +13,13 @@ pub record Node : Type 0 where
   pub offset : ℕ
   pub depth : ℤ
 
--- the lists of children that were entered, the innermost first: the depth of the list's rows while it is open, and none when it is closed
+-- the lists of children that were entered, the innermost first: the depth of the list's rows while
+-- it is open, and none when it is closed
 abbrev pub Lists : Type 0
 Lists = List (Option ℤ)
 
--- A place: the rows that are ahead of the last one that was read, the node, if there is one, and the lists.
+-- A place: the rows that are ahead of the last one that was read, the node, if there is one, and
+-- the lists.
 pub record TreePlace : Type 0 where
   pub ahead : Ahead
   pub node : Option Node
@@ -46,10 +49,19 @@ node_of p = elim p.current [
 -- the first row was looked at: it is the root; a null is refused, and so is what can't be read
 abbrev pub rooted : Moved → TreeMoved
 rooted m = elim m.outcome [
-  | Err e ↦ record { told = a_fault e; place = record { ahead = m.place.ahead; node = None; lists = [] } }
+  | Err e ↦
+      record { told = a_fault e; place = record { ahead = m.place.ahead; node = None; lists = [] } }
   | Ok b ↦ elim (node_of m.place) [
-    | None ↦ record { told = a_fault (NoEntryAtGivenOffset m.place.offset); place = record { ahead = m.place.ahead; node = None; lists = [] } }
-    | Some n ↦ record { told = a_node n; place = record { ahead = m.place.ahead; node = Some n; lists = [] } }
+    | None ↦
+        record {
+          told = a_fault (NoEntryAtGivenOffset m.place.offset);
+          place = record { ahead = m.place.ahead; node = None; lists = [] };
+        }
+    | Some n ↦
+        record {
+          told = a_node n;
+          place = record { ahead = m.place.ahead; node = Some n; lists = [] };
+        }
   ]
 ]
 
@@ -57,14 +69,26 @@ rooted m = elim m.outcome [
 unfoldable pub to_root : ℕ → Ahead → TreeMoved
 to_root end rows = rooted (first_of_rows end (pos 0) 0 rows)
 
--- A row of an open list's depth was sought: an entry is the node, and a null, or the end of the bytes, closes the list. Behind a refusal no
--- row is ahead, so that every list ends.
+-- A row of an open list's depth was sought: an entry is the node, and a null, or the end of the
+-- bytes, closes the list. Behind a refusal no row is ahead, so that every list ends.
 abbrev pub found_in : ℤ → Lists → Moved → TreeMoved
 found_in depth outer m = elim m.outcome [
-  | Err e ↦ record { told = a_fault e; place = record { ahead = m.place.ahead; node = None; lists = Some depth ∷ outer } }
+  | Err e ↦
+      record {
+        told = a_fault e;
+        place = record { ahead = m.place.ahead; node = None; lists = Some depth ∷ outer };
+      }
   | Ok b ↦ elim (node_of m.place) [
-    | None ↦ record { told = list_end; place = record { ahead = m.place.ahead; node = None; lists = None ∷ outer } }
-    | Some n ↦ record { told = a_node n; place = record { ahead = m.place.ahead; node = Some n; lists = Some depth ∷ outer } }
+    | None ↦
+        record {
+          told = list_end;
+          place = record { ahead = m.place.ahead; node = None; lists = None ∷ outer };
+        }
+    | Some n ↦
+        record {
+          told = a_node n;
+          place = record { ahead = m.place.ahead; node = Some n; lists = Some depth ∷ outer };
+        }
   ]
 ]
 
@@ -73,7 +97,11 @@ unfoldable pub to_next : ℕ → TreePlace → TreeMoved
 to_next end p = elim p.lists [
   | [] ↦ record { told = no_node; place = p }
   | list ∷ outer ↦ elim list [
-    | None ↦ record { told = list_end; place = record { ahead = p.ahead; node = None; lists = None ∷ outer } }
+    | None ↦
+        record {
+          told = list_end;
+          place = record { ahead = p.ahead; node = None; lists = None ∷ outer };
+        }
     | Some depth ↦ found_in depth outer (seek end depth 0 p.ahead)
   ]
 ]
@@ -86,12 +114,17 @@ children_of n = if n.entry.has_children then Some (n.depth +ℤ pos 1) else None
 unfoldable pub to_enter : TreePlace → TreeMoved
 to_enter p = elim p.node [
   | None ↦ record { told = no_node; place = p }
-  | Some n ↦ record { told = has_entered; place = record { ahead = p.ahead; node = None; lists = children_of n ∷ p.lists } }
+  | Some n ↦
+      record {
+        told = has_entered;
+        place = record { ahead = p.ahead; node = None; lists = children_of n ∷ p.lists };
+      }
 ]
 
 -- Leave: the innermost list is dropped
 unfoldable pub to_leave : TreePlace → TreeMoved
 to_leave p = elim p.lists [
   | [] ↦ record { told = no_node; place = p }
-  | list ∷ outer ↦ record { told = has_left; place = record { ahead = p.ahead; node = None; lists = outer } }
+  | list ∷ outer ↦
+      record { told = has_left; place = record { ahead = p.ahead; node = None; lists = outer } }
 ]

@@ -1,14 +1,17 @@
 -- Where a walker over a tree stands, and what its steps do to it (DWARF 5, 2.3).
-use Rattle.std.specs.Prelude.{◌≡◌, ℕ, ◌<◌, ◌^◌, ℤ, unsigned_abs, Bool, true, false, [], ◌∷◌, Option, Some, None, Result, Ok, Err}
+use Rattle.std.specs.Prelude.{◌≡◌, ℕ, ◌<◌, ◌^◌, ℤ, unsigned_abs, Bool, true, false, [], ◌∷◌, Option}
+use Rattle.std.specs.Prelude.{Some, None, Result, Ok, Err}
 use Rattle.gimli_base.specs.declared.error.Error.{Error}
 use Rattle.gimli_base.specs.View.{View}
 use Rattle.gimli_units.specs.declared.entry.DebuggingInformationEntry.{DebuggingInformationEntry}
 use Rattle.gimli_units.specs.Entry.{entry_of, is_null}
-use Rattle.gimli_units.specs.TreePlace.{Node, Lists, TreePlace, Told, a_node, list_end, has_entered, has_left, no_node, a_fault, TreeMoved, children_of}
+use Rattle.gimli_units.specs.TreePlace.{Node, Lists, TreePlace, Told, a_node, list_end, has_entered}
+use Rattle.gimli_units.specs.TreePlace.{has_left, no_node, a_fault, TreeMoved, children_of}
 use Rattle.gimli_units.specs.CursorMoves.{IsHonestFor}
 use Rattle.gimli_units.specs.TreeMoves.{TreeView, node_at, on_node, in_lists, IsTree, HasGoneOn}
 
--- Where a walker stands: its tree, whether that stands on a node, and the lists that were entered, the innermost first.
+-- Where a walker stands: its tree, whether that stands on a node, and the lists that were entered,
+-- the innermost first.
 pub record Standing : Type 0 where
   pub tree : TreeView
   pub is_on : Bool
@@ -22,14 +25,16 @@ at_none t lists = record { tree = t; is_on = false; lists = lists }
 
 -- its place
 abbrev pub standing_place : ℕ → Standing → TreePlace
-standing_place limit s = elim s.is_on [ true ↦ on_node limit s.tree s.lists | false ↦ in_lists limit s.tree s.lists ]
+standing_place limit s =
+    elim s.is_on [ true ↦ on_node limit s.tree s.lists | false ↦ in_lists limit s.tree s.lists ]
 
 -- the node that it stands on
 abbrev pub standing_node : Standing → Option Node
 standing_node s = elim s.is_on [ true ↦ Some (node_at s.tree) | false ↦ None ]
 
 -- an entry that code holds, as a node
-abbrev pub node_held : {R A O : Type 0} → (R → View) → (O → ℕ) → DebuggingInformationEntry R A O → Node
+abbrev pub node_held : {R A O : Type 0} → (R → View) → (O → ℕ) → DebuggingInformationEntry R A O
+    → Node
 node_held f g e = record { entry = entry_of f g e; offset = g e.offset.0; depth = e.depth }
 
 -- the depth of a list that is open is not the least of its type
@@ -75,7 +80,8 @@ after_asked list outer (Err e) t = at_none t (list ∷ outer)
 -- The innermost of these lists was asked for its next node; where there is none, nothing moved.
 abbrev pub HasAskedOne : ℕ → Lists → Standing → Result Bool Error → Standing → Type 0
 HasAskedOne limit [] old outcome new = (outcome ≡ Ok false) × (new ≡ old)
-HasAskedOne limit (list ∷ outer) old outcome new = WasAsked limit list old.tree outcome new.tree × (new ≡ after_asked list outer outcome new.tree)
+HasAskedOne limit (list ∷ outer) old outcome new =
+    WasAsked limit list old.tree outcome new.tree × (new ≡ after_asked list outer outcome new.tree)
 
 -- what that answered
 abbrev pub told_of : Lists → Result Bool Error → TreeView → Told
@@ -90,7 +96,8 @@ IsHonestIn limit (Some depth ∷ outer) t = IsHonestFor limit depth t.cursor
 
 -- Enter: the list of the node's children is the innermost
 abbrev pub entered_from : Standing → Standing
-entered_from s = elim s.is_on [ true ↦ at_none s.tree (children_of (node_at s.tree) ∷ s.lists) | false ↦ s ]
+entered_from s = elim s.is_on
+    [ true ↦ at_none s.tree (children_of (node_at s.tree) ∷ s.lists) | false ↦ s ]
 
 -- Leave: the innermost list is dropped
 abbrev pub left_from : Lists → Standing → Standing

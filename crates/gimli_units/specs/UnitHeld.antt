@@ -6,7 +6,8 @@ use Rattle.gimli_units.specs.UnitKind.{map_type}
 use Rattle.gimli_units.specs.Unit.{UnitView}
 
 -- a unit that code holds, by what its reader and offsets stand for
-abbrev pub unit_view : {R O E P K : Type 0} {r : ReaderOf R E P K} {a : _} {b : _} {c : _} {d : _} {e : _} {f : _} {g : _} {h : _} {i : _} {o : OffsetOf O} {k : _} {l : _} {m : _} {n : _}
+abbrev pub unit_view : {R O E P K : Type 0} {r : ReaderOf R E P K} {a : _} {b : _} {c : _} {d : _}
+    {e : _} {f : _} {g : _} {h : _} {i : _} {o : OffsetOf O} {k : _} {l : _} {m : _} {n : _}
     → UnitHeader R O E P K r a b c d e f g h i o k l m n → UnitView
 unit_view {r = r} {o = o} u = record {
   encoding = u.encoding;

@@ -1,6 +1,9 @@
 -- The type of a unit at numbers, in place of offsets (DWARF 5, 7.5.1).
 use Rattle.gimli_units.specs.declared.unit_type.UnitType.{UnitType}
-use Rattle.gimli_units.specs.declared.unit_type.UnitType.TheVariants.{Compilation, TypeUnit, Partial, Skeleton, SplitCompilation, SplitType, Vendor}
+use Rattle.gimli_units.specs.declared.unit_type.UnitType.TheVariants.{Compilation, TypeUnit}
+use Rattle.gimli_units.specs.declared.unit_type.UnitType.TheVariants.{Partial, Skeleton}
+use Rattle.gimli_units.specs.declared.unit_type.UnitType.TheVariants.{SplitCompilation, SplitType}
+use Rattle.gimli_units.specs.declared.unit_type.UnitType.TheVariants.{Vendor}
 
 -- a type of unit, by what its offsets stand for
 abbrev pub map_type : {O P : Type 0} → (O → P) → UnitType O → UnitType P

@@ -1,5 +1,6 @@
 -- The rows of a unit from a start on, and when they are honest (DWARF 5, 2.3).
-use Rattle.std.specs.Prelude.{◌≡◌, ◌⊎◌, ℕ, ℤ, pos, ◌-◌, List, [], ◌∷◌, Option, Some, None, Result, Ok, Err}
+use Rattle.std.specs.Prelude.{◌≡◌, ◌⊎◌, ℕ, ℤ, pos, ◌-◌, List, [], ◌∷◌, Option, Some, None, Result}
+use Rattle.std.specs.Prelude.{Ok, Err}
 use Rattle.gimli_base.specs.declared.error.Error.{Error}
 use Rattle.gimli_base.specs.View.{View, cut}
 use Rattle.gimli_base.specs.Abbreviations.{Map}
@@ -10,11 +11,13 @@ use Rattle.gimli_units.specs.Honest.{AreHonest}
 
 -- the rows of a unit from a view of its bytes on, whose place has this depth
 abbrev pub unit_rows_at : ℕ → UnitView → Map → ℤ → View → Ahead
-unit_rows_at limit u declared depth v = ahead_at (entry_at limit u.encoding declared) (whole_length u) depth v
+unit_rows_at limit u declared depth v =
+    ahead_at (entry_at limit u.encoding declared) (whole_length u) depth v
 
 -- the rows of a unit from an offset on, whose place has this depth
 abbrev pub unit_rows_from : ℕ → UnitView → Map → ℕ → ℤ → Ahead
-unit_rows_from limit u declared offset depth = unit_rows_at limit u declared depth (cut (offset - header_size u) u.entries)
+unit_rows_from limit u declared offset depth =
+    unit_rows_at limit u declared depth (cut (offset - header_size u) u.entries)
 
 -- the bytes from a start on: an offset, or the first entry
 abbrev pub start_view : UnitView → Option ℕ → Result View Error
@@ -23,7 +26,8 @@ start_view u (Some offset) = range_from u offset
 
 -- the rows of a unit from a view on are honest
 abbrev pub IsHonestAt : ℕ → UnitView → Map → View → Type 0
-IsHonestAt limit u declared v = AreHonest (whole_length u) (unit_rows_at limit u declared (pos 0) v).rows
+IsHonestAt limit u declared v =
+    AreHonest (whole_length u) (unit_rows_at limit u declared (pos 0) v).rows
 
 -- the rows of a unit from a start on are honest
 abbrev pub IsHonestFrom : ℕ → UnitView → Map → Result View Error → Type 0

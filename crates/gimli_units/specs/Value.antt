@@ -2,11 +2,40 @@
 use Rattle.std.specs.Prelude.{ℕ}
 use Rattle.gimli_base.specs.View.{View}
 use Rattle.gimli_units.specs.declared.value.AttributeValue.{AttributeValue}
-use Rattle.gimli_units.specs.declared.value.AttributeValue.TheVariants.{Addr, Block, Data1, Data2, Data4, Data8, Data16, Sdata, Udata, Exprloc, Flag, SecOffset, DebugAddrBase, DebugAddrIndex, DebugAddrIndexOffset, UnitRef, DebugInfoRef, DebugInfoRefSup, DebugLineRef, LocationListsRef, DebugLocListsBase, DebugLocListsIndex, DebugMacinfoRef, DebugMacroRef, RangeListsRef, DebugRngListsBase, DebugRngListsIndex, DebugTypesRef, DebugStrRef, DebugStrRefSup, DebugStrOffsetsBase, DebugStrOffsetsIndex, DebugLineStrRef, String, Encoding, DecimalSign, Endianity, Accessibility, Visibility, Virtuality, Language, AddressClass, IdentifierCase, CallingConvention, Inline, Ordering, FileIndex, DwoId}
+use Rattle.gimli_units.specs.declared.value.AttributeValue.TheVariants.{Addr, Block, Data1, Data2}
+use Rattle.gimli_units.specs.declared.value.AttributeValue.TheVariants.{Data4, Data8, Data16, Sdata}
+use Rattle.gimli_units.specs.declared.value.AttributeValue.TheVariants.{Udata, Exprloc, Flag}
+use Rattle.gimli_units.specs.declared.value.AttributeValue.TheVariants.{SecOffset, DebugAddrBase}
+use Rattle.gimli_units.specs.declared.value.AttributeValue.TheVariants.{DebugAddrIndex}
+use Rattle.gimli_units.specs.declared.value.AttributeValue.TheVariants.{DebugAddrIndexOffset}
+use Rattle.gimli_units.specs.declared.value.AttributeValue.TheVariants.{UnitRef, DebugInfoRef}
+use Rattle.gimli_units.specs.declared.value.AttributeValue.TheVariants.{DebugInfoRefSup}
+use Rattle.gimli_units.specs.declared.value.AttributeValue.TheVariants.{DebugLineRef}
+use Rattle.gimli_units.specs.declared.value.AttributeValue.TheVariants.{LocationListsRef}
+use Rattle.gimli_units.specs.declared.value.AttributeValue.TheVariants.{DebugLocListsBase}
+use Rattle.gimli_units.specs.declared.value.AttributeValue.TheVariants.{DebugLocListsIndex}
+use Rattle.gimli_units.specs.declared.value.AttributeValue.TheVariants.{DebugMacinfoRef}
+use Rattle.gimli_units.specs.declared.value.AttributeValue.TheVariants.{DebugMacroRef}
+use Rattle.gimli_units.specs.declared.value.AttributeValue.TheVariants.{RangeListsRef}
+use Rattle.gimli_units.specs.declared.value.AttributeValue.TheVariants.{DebugRngListsBase}
+use Rattle.gimli_units.specs.declared.value.AttributeValue.TheVariants.{DebugRngListsIndex}
+use Rattle.gimli_units.specs.declared.value.AttributeValue.TheVariants.{DebugTypesRef, DebugStrRef}
+use Rattle.gimli_units.specs.declared.value.AttributeValue.TheVariants.{DebugStrRefSup}
+use Rattle.gimli_units.specs.declared.value.AttributeValue.TheVariants.{DebugStrOffsetsBase}
+use Rattle.gimli_units.specs.declared.value.AttributeValue.TheVariants.{DebugStrOffsetsIndex}
+use Rattle.gimli_units.specs.declared.value.AttributeValue.TheVariants.{DebugLineStrRef, String}
+use Rattle.gimli_units.specs.declared.value.AttributeValue.TheVariants.{Encoding, DecimalSign}
+use Rattle.gimli_units.specs.declared.value.AttributeValue.TheVariants.{Endianity, Accessibility}
+use Rattle.gimli_units.specs.declared.value.AttributeValue.TheVariants.{Visibility, Virtuality}
+use Rattle.gimli_units.specs.declared.value.AttributeValue.TheVariants.{Language, AddressClass}
+use Rattle.gimli_units.specs.declared.value.AttributeValue.TheVariants.{IdentifierCase}
+use Rattle.gimli_units.specs.declared.value.AttributeValue.TheVariants.{CallingConvention, Inline}
+use Rattle.gimli_units.specs.declared.value.AttributeValue.TheVariants.{Ordering, FileIndex, DwoId}
 use Rattle.gimli_units.specs.declared.attribute.Attribute.{Attribute}
 
 -- a value, by what its readers and offsets stand for
-abbrev pub map_value : {R O S P : Type 0} → (R → S) → (O → P) → AttributeValue R O → AttributeValue S P
+abbrev pub map_value : {R O S P : Type 0} → (R → S) → (O → P) → AttributeValue R O
+    → AttributeValue S P
 map_value f g (Addr x) = Addr x
 map_value f g (Block r) = Block (f r)
 map_value f g (Data1 x) = Data1 x

@@ -6,7 +6,8 @@ ghost use Rattle.gimli_base.specs.Offset.{answer_of};
 ghost use Rattle.gimli_base.specs.Reading.{read};
 ghost use Rattle.gimli_units.specs.Value.{map_value, map_attribute};
 ghost use Rattle.gimli_units.specs.Kind.{reference};
-ghost use Rattle.gimli_units.specs.NormalValue.{udata_of, sdata_of, offset_of, exprloc_of, string_of, string_sup_of, below};
+ghost use Rattle.gimli_units.specs.NormalValue.{udata_of, sdata_of, offset_of, exprloc_of};
+ghost use Rattle.gimli_units.specs.NormalValue.{string_of, string_sup_of, below};
 ghost use Rattle.gimli_units.specs.Entry.{attribute_at};
 
 use crate::form::parse_value;
@@ -47,7 +48,8 @@ impl<R: Reader> Attribute<R> {
     /// The value as the form shows it.
     #[inline]
     pub fn raw_value(&self) -> AttributeValue<R>
-        ensures { map_value R.view R.Offset.number result ≡ map_value R.view R.Offset.number self.now.value }
+        ensures { map_value R.view R.Offset.number result
+            ≡ map_value R.view R.Offset.number self.now.value }
     {
         self.value.copy()
     }
@@ -55,7 +57,8 @@ impl<R: Reader> Attribute<R> {
     /// The same attribute, its readers copied.
     #[inline]
     pub fn copy(&self) -> Attribute<R>
-        ensures { map_attribute R.view R.Offset.number result ≡ map_attribute R.view R.Offset.number self.now }
+        ensures { map_attribute R.view R.Offset.number result
+            ≡ map_attribute R.view R.Offset.number self.now }
     {
         Attribute {
             name: self.name,
@@ -66,21 +69,24 @@ impl<R: Reader> Attribute<R> {
 
     // Where it leads in its unit, if it is a reference there.
     pub(crate) fn reference(&self) -> Option<UnitOffset<R::Offset>>
-        ensures { option_map (λ o. R.Offset.number o.0) result ≡ reference (map_value R.view R.Offset.number self.now.value) }
+        ensures { option_map (λ o. R.Offset.number o.0) result
+            ≡ reference (map_value R.view R.Offset.number self.now.value) }
     {
         self.value.reference()
     }
 
     /// The value as an unsigned number of 8 bits, where it is one and fits.
     pub fn u8_value(&self) -> Option<u8>
-        ensures { result ≡ below (2 ^ 8) (udata_of (map_value R.view R.Offset.number self.now.value)) }
+        ensures { result ≡ below (2 ^ 8)
+            (udata_of (map_value R.view R.Offset.number self.now.value)) }
     {
         self.value.u8_value()
     }
 
     /// The value as an unsigned number of 16 bits, where it is one and fits.
     pub fn u16_value(&self) -> Option<u16>
-        ensures { result ≡ below (2 ^ 16) (udata_of (map_value R.view R.Offset.number self.now.value)) }
+        ensures { result ≡ below (2 ^ 16)
+            (udata_of (map_value R.view R.Offset.number self.now.value)) }
     {
         self.value.u16_value()
     }
@@ -101,34 +107,41 @@ impl<R: Reader> Attribute<R> {
 
     /// The value as an offset into a section that the name gives, where it is one.
     pub fn offset_value(&self) -> Option<R::Offset>
-        ensures { option_map R.Offset.number result ≡ offset_of (map_value R.view R.Offset.number self.now.value) }
+        ensures { option_map R.Offset.number result
+            ≡ offset_of (map_value R.view R.Offset.number self.now.value) }
     {
         self.value.offset_value()
     }
 
     /// The value as an expression, where it is one, or a block.
     pub fn exprloc_value(&self) -> Option<Expression<R>>
-        ensures { option_map (λ e. R.view e.0) result ≡ exprloc_of (map_value R.view R.Offset.number self.now.value) }
+        ensures { option_map (λ e. R.view e.0) result
+            ≡ exprloc_of (map_value R.view R.Offset.number self.now.value) }
     {
         self.value.exprloc_value()
     }
 
-    /// The value as the bytes of a text, where it is one that stands in the attribute or in `.debug_str`. None too where
-    /// `.debug_str` has no text at the offset.
+    /// The value as the bytes of a text, where it is one that stands in the attribute or in
+    /// `.debug_str`. None too where `.debug_str` has no text at the offset.
     pub fn string_value(&self, debug_str: &DebugStr<R>) -> Option<R>
-        ensures { option_map R.view result ≡ string_of (⟦<DebugStr<R> as Section<R>>⟧.content debug_str.now) (map_value R.view R.Offset.number self.now.value) }
+        ensures { option_map R.view result
+            ≡ string_of (⟦<DebugStr<R> as Section<R>>⟧.content debug_str.now)
+            (map_value R.view R.Offset.number self.now.value) }
     {
         self.value.string_value(debug_str)
     }
 
-    /// The value as the bytes of a text, as `string_value`, or of one in `.debug_str` of the supplementary file, where
-    /// that is given.
+    /// The value as the bytes of a text, as `string_value`, or of one in `.debug_str` of the
+    /// supplementary file, where that is given.
     pub fn string_value_sup(
         &self,
         debug_str: &DebugStr<R>,
         debug_str_sup: Option<&DebugStr<R>>,
     ) -> Option<R>
-        ensures { option_map R.view result ≡ string_sup_of (⟦<DebugStr<R> as Section<R>>⟧.content debug_str.now) (option_map (λ s. ⟦<DebugStr<R> as Section<R>>⟧.content s.now) debug_str_sup.entry) (map_value R.view R.Offset.number self.now.value) }
+        ensures { option_map R.view result
+            ≡ string_sup_of (⟦<DebugStr<R> as Section<R>>⟧.content debug_str.now)
+            (option_map (λ s. ⟦<DebugStr<R> as Section<R>>⟧.content s.now) debug_str_sup.entry)
+            (map_value R.view R.Offset.number self.now.value) }
     {
         self.value.string_value_sup(debug_str, debug_str_sup)
     }
@@ -142,7 +155,8 @@ pub(crate) fn parse_attribute<R: Reader>(
     encoding: Encoding,
     specification: AttributeSpecification,
 ) -> Result<Attribute<R>>
-    ensures { read (answer_of (map_attribute R.view R.Offset.number) result) (R.view input.new) ≡ attribute_at R.Offset.limit encoding specification (R.view input.old) }
+    ensures { read (answer_of (map_attribute R.view R.Offset.number) result) (R.view input.new)
+        ≡ attribute_at R.Offset.limit encoding specification (R.view input.old) }
 {
     let value = parse_value(input, encoding, specification)?;
     Ok(Attribute {

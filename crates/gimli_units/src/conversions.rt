@@ -3,12 +3,14 @@
 ghost use Rattle.std.specs.Prelude.{◌≡◌, ◌<◌, ◌≤◌, ◌*◌, ◌^◌, nat_lt, if◌then◌else◌, pos, ◌-ℤ◌};
 ghost use Rattle.std.specs.Option.{option_map};
 ghost use Rattle.gimli_units.specs.Value.{map_value};
-ghost use Rattle.gimli_units.specs.NormalValue.{udata_of, sdata_of, offset_of, exprloc_of, string_of, string_sup_of, below};
+ghost use Rattle.gimli_units.specs.NormalValue.{udata_of, sdata_of, offset_of, exprloc_of};
+ghost use Rattle.gimli_units.specs.NormalValue.{string_of, string_sup_of, below};
 
 use crate::AttributeValue;
 use gimli_base::{DebugStr, Expression, Reader, Section};
 
-// A number below twice `half` that stands for one less than `half`, by twice `half` where it is not less.
+// A number below twice `half` that stands for one less than `half`, by twice `half` where it is not
+// less.
 fn signed(number: u64, half: u64) -> i64
     requires low { 0 < half }
     requires high { half ≤ 2 ^ 63 }
@@ -43,7 +45,8 @@ impl<R: Reader> AttributeValue<R> {
         }
     }
 
-    /// The value as an unsigned number, where it is one: data of 1 to 8 bytes, or a number that is not negative.
+    /// The value as an unsigned number, where it is one: data of 1 to 8 bytes, or a number that is
+    /// not negative.
     pub fn udata_value(&self) -> Option<u64>
         ensures { result ≡ udata_of (map_value R.view R.Offset.number self.now) }
     {
@@ -57,7 +60,8 @@ impl<R: Reader> AttributeValue<R> {
         }
     }
 
-    /// The value as a signed number, where it is one: data of 1 to 8 bytes with a sign, or a number that fits.
+    /// The value as a signed number, where it is one: data of 1 to 8 bytes with a sign, or a number
+    /// that fits.
     pub fn sdata_value(&self) -> Option<i64>
         ensures { result ≡ sdata_of (map_value R.view R.Offset.number self.now) }
     {
@@ -80,7 +84,8 @@ impl<R: Reader> AttributeValue<R> {
 
     /// The value as an offset into a section that the name gives, where it is one.
     pub fn offset_value(&self) -> Option<R::Offset>
-        ensures { option_map R.Offset.number result ≡ offset_of (map_value R.view R.Offset.number self.now) }
+        ensures { option_map R.Offset.number result
+            ≡ offset_of (map_value R.view R.Offset.number self.now) }
     {
         match self {
             AttributeValue::SecOffset(offset) => Some(*offset),
@@ -90,7 +95,8 @@ impl<R: Reader> AttributeValue<R> {
 
     /// The value as an expression, where it is one, or a block, as older versions have it.
     pub fn exprloc_value(&self) -> Option<Expression<R>>
-        ensures { option_map (λ e. R.view e.0) result ≡ exprloc_of (map_value R.view R.Offset.number self.now) }
+        ensures { option_map (λ e. R.view e.0) result
+            ≡ exprloc_of (map_value R.view R.Offset.number self.now) }
     {
         match self {
             AttributeValue::Block(bytes) => Some(Expression(bytes.copy())),
@@ -99,10 +105,12 @@ impl<R: Reader> AttributeValue<R> {
         }
     }
 
-    /// The value as the bytes of a text, where it is one that stands in the attribute or in `.debug_str`. None too where
-    /// `.debug_str` has no text at the offset.
+    /// The value as the bytes of a text, where it is one that stands in the attribute or in
+    /// `.debug_str`. None too where `.debug_str` has no text at the offset.
     pub fn string_value(&self, debug_str: &DebugStr<R>) -> Option<R>
-        ensures { option_map R.view result ≡ string_of (⟦<DebugStr<R> as Section<R>>⟧.content debug_str.now) (map_value R.view R.Offset.number self.now) }
+        ensures { option_map R.view result
+            ≡ string_of (⟦<DebugStr<R> as Section<R>>⟧.content debug_str.now)
+            (map_value R.view R.Offset.number self.now) }
     {
         match self {
             AttributeValue::String(text) => Some(text.copy()),
@@ -111,14 +119,17 @@ impl<R: Reader> AttributeValue<R> {
         }
     }
 
-    /// The value as the bytes of a text, as `string_value`, or of one in `.debug_str` of the supplementary file, where
-    /// that is given.
+    /// The value as the bytes of a text, as `string_value`, or of one in `.debug_str` of the
+    /// supplementary file, where that is given.
     pub fn string_value_sup(
         &self,
         debug_str: &DebugStr<R>,
         debug_str_sup: Option<&DebugStr<R>>,
     ) -> Option<R>
-        ensures { option_map R.view result ≡ string_sup_of (⟦<DebugStr<R> as Section<R>>⟧.content debug_str.now) (option_map (λ s. ⟦<DebugStr<R> as Section<R>>⟧.content s.now) debug_str_sup.entry) (map_value R.view R.Offset.number self.now) }
+        ensures { option_map R.view result
+            ≡ string_sup_of (⟦<DebugStr<R> as Section<R>>⟧.content debug_str.now)
+            (option_map (λ s. ⟦<DebugStr<R> as Section<R>>⟧.content s.now) debug_str_sup.entry)
+            (map_value R.view R.Offset.number self.now) }
     {
         match self {
             AttributeValue::DebugStrRefSup(offset) => debug_str_sup?.get_str(*offset).ok(),

@@ -14,7 +14,9 @@ impl<T: ReaderOffset> DebugInfoOffset<T> {
         &self,
         unit: &UnitHeader<R>,
     ) -> Option<UnitSectionOffset<T>>
-        ensures { option_map (λ o. T.number o.0) result ≡ (if is_debug_info (unit_view unit.now).section then Some (T.number self.now.0) else None) }
+        ensures { option_map (λ o. T.number o.0) result
+            ≡ (if is_debug_info (unit_view unit.now).section then Some (T.number self.now.0)
+            else None) }
     {
         match unit.section() {
             SectionId::DebugInfo => Some(UnitSectionOffset(self.0)),
@@ -27,8 +29,11 @@ impl<T: ReaderOffset> DebugInfoOffset<T> {
         &self,
         unit: &UnitHeader<R>,
     ) -> Option<UnitOffset<T>>
-        ensures value { option_map (λ o. T.number o.0) result ≡ (if is_debug_info (unit_view unit.now).section then within_unit (unit_view unit.now) (T.number self.now.0) else None) }
-        ensures back { IfSome result (λ o. (unit_view unit.now).offset + T.number o.0 ≡ T.number self.now.0) }
+        ensures value { option_map (λ o. T.number o.0) result
+            ≡ (if is_debug_info (unit_view unit.now).section
+            then within_unit (unit_view unit.now) (T.number self.now.0) else None) }
+        ensures back { IfSome result
+            (λ o. (unit_view unit.now).offset + T.number o.0 ≡ T.number self.now.0) }
     {
         self.to_unit_section_offset(unit)?.to_unit_offset(unit)
     }
@@ -40,7 +45,9 @@ impl<T: ReaderOffset> DebugTypesOffset<T> {
         &self,
         unit: &UnitHeader<R>,
     ) -> Option<UnitSectionOffset<T>>
-        ensures { option_map (λ o. T.number o.0) result ≡ (if is_debug_types (unit_view unit.now).section then Some (T.number self.now.0) else None) }
+        ensures { option_map (λ o. T.number o.0) result
+            ≡ (if is_debug_types (unit_view unit.now).section then Some (T.number self.now.0)
+            else None) }
     {
         match unit.section() {
             SectionId::DebugTypes => Some(UnitSectionOffset(self.0)),
@@ -53,8 +60,11 @@ impl<T: ReaderOffset> DebugTypesOffset<T> {
         &self,
         unit: &UnitHeader<R>,
     ) -> Option<UnitOffset<T>>
-        ensures value { option_map (λ o. T.number o.0) result ≡ (if is_debug_types (unit_view unit.now).section then within_unit (unit_view unit.now) (T.number self.now.0) else None) }
-        ensures back { IfSome result (λ o. (unit_view unit.now).offset + T.number o.0 ≡ T.number self.now.0) }
+        ensures value { option_map (λ o. T.number o.0) result
+            ≡ (if is_debug_types (unit_view unit.now).section
+            then within_unit (unit_view unit.now) (T.number self.now.0) else None) }
+        ensures back { IfSome result
+            (λ o. (unit_view unit.now).offset + T.number o.0 ≡ T.number self.now.0) }
     {
         let in_section = self.to_unit_section_offset(unit)?;
         in_section.to_unit_offset(unit)
@@ -67,8 +77,10 @@ impl<T: ReaderOffset> UnitSectionOffset<T> {
         &self,
         unit: &UnitHeader<R>,
     ) -> Option<UnitOffset<T>>
-        ensures value { option_map (λ o. T.number o.0) result ≡ within_unit (unit_view unit.now) (T.number self.now.0) }
-        ensures back { IfSome result (λ o. (unit_view unit.now).offset + T.number o.0 ≡ T.number self.now.0) }
+        ensures value { option_map (λ o. T.number o.0) result
+            ≡ within_unit (unit_view unit.now) (T.number self.now.0) }
+        ensures back { IfSome result
+            (λ o. (unit_view unit.now).offset + T.number o.0 ≡ T.number self.now.0) }
     {
         let offset = UnitOffset(self.0.checked_sub(unit.offset().0)?);
         if unit.is_in_bounds(offset) {
@@ -83,7 +95,9 @@ impl<T: ReaderOffset> UnitSectionOffset<T> {
         &self,
         unit: &UnitHeader<R>,
     ) -> Option<DebugInfoOffset<T>>
-        ensures { option_map (λ o. T.number o.0) result ≡ (if is_debug_info (unit_view unit.now).section then Some (T.number self.now.0) else None) }
+        ensures { option_map (λ o. T.number o.0) result
+            ≡ (if is_debug_info (unit_view unit.now).section then Some (T.number self.now.0)
+            else None) }
     {
         match unit.section() {
             SectionId::DebugInfo => Some(DebugInfoOffset(self.0)),
@@ -96,7 +110,9 @@ impl<T: ReaderOffset> UnitSectionOffset<T> {
         &self,
         unit: &UnitHeader<R>,
     ) -> Option<DebugTypesOffset<T>>
-        ensures { option_map (λ o. T.number o.0) result ≡ (if is_debug_types (unit_view unit.now).section then Some (T.number self.now.0) else None) }
+        ensures { option_map (λ o. T.number o.0) result
+            ≡ (if is_debug_types (unit_view unit.now).section then Some (T.number self.now.0)
+            else None) }
     {
         match unit.section() {
             SectionId::DebugTypes => Some(DebugTypesOffset(self.0)),
@@ -124,24 +140,30 @@ impl<T: ReaderOffset> UnitOffset<T> {
         UnitSectionOffset(unit.offset().0.checked_add(self.0).unwrap())
     }
 
-    /// The offset as one of `.debug_info`, where the unit lies there; the sum with the unit's own offset has to fit.
+    /// The offset as one of `.debug_info`, where the unit lies there; the sum with the unit's own
+    /// offset has to fit.
     pub fn to_debug_info_offset<R: Reader<Offset = T>>(
         &self,
         unit: &UnitHeader<R>,
     ) -> Option<DebugInfoOffset<T>>
         requires { (unit_view unit.now).offset + T.number self.now.0 < T.limit }
-        ensures { option_map (λ o. T.number o.0) result ≡ (if is_debug_info (unit_view unit.now).section then Some ((unit_view unit.now).offset + T.number self.now.0) else None) }
+        ensures { option_map (λ o. T.number o.0) result
+            ≡ (if is_debug_info (unit_view unit.now).section
+            then Some ((unit_view unit.now).offset + T.number self.now.0) else None) }
     {
         self.to_unit_section_offset(unit).to_debug_info_offset(unit)
     }
 
-    /// The offset as one of `.debug_types`, where the unit lies there; the sum with the unit's own offset has to fit.
+    /// The offset as one of `.debug_types`, where the unit lies there; the sum with the unit's own
+    /// offset has to fit.
     pub fn to_debug_types_offset<R: Reader<Offset = T>>(
         &self,
         unit: &UnitHeader<R>,
     ) -> Option<DebugTypesOffset<T>>
         requires { (unit_view unit.now).offset + T.number self.now.0 < T.limit }
-        ensures { option_map (λ o. T.number o.0) result ≡ (if is_debug_types (unit_view unit.now).section then Some ((unit_view unit.now).offset + T.number self.now.0) else None) }
+        ensures { option_map (λ o. T.number o.0) result
+            ≡ (if is_debug_types (unit_view unit.now).section
+            then Some ((unit_view unit.now).offset + T.number self.now.0) else None) }
     {
         self.to_unit_section_offset(unit)
             .to_debug_types_offset(unit)

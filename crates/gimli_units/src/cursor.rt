@@ -1,6 +1,7 @@
 //! Cursors over the entries of a unit.
 
-ghost use Rattle.std.specs.Prelude.{◌≡◌, ◌+◌, ◌-◌, ◌<◌, ◌≤◌, ◌^◌, length, unsigned_abs, Ok, Err, Some, false, true, not, IfOk, IfErr, IfSome, IsOk, []};
+ghost use Rattle.std.specs.Prelude.{◌≡◌, ◌+◌, ◌-◌, ◌<◌, ◌≤◌, ◌^◌, length, unsigned_abs, Ok, Err};
+ghost use Rattle.std.specs.Prelude.{Some, false, true, not, IfOk, IfErr, IfSome, IsOk, []};
 ghost use Rattle.std.specs.Ordering.{int_eq};
 ghost use Rattle.std.specs.Option.{option_map};
 ghost use Rattle.gimli_base.specs.declared.error.Error.TheVariants.{OutOfMemory};
@@ -17,11 +18,11 @@ use gimli_base::{Reader, ReaderOffset, Result};
 use std::alloc::Allocator;
 use std::marker::Model;
 
-/// A cursor over the entries of a unit, which lie one behind the other as a tree is written in depth-first order
-/// (DWARF 5, 2.3).
+/// A cursor over the entries of a unit, which lie one behind the other as a tree is written in
+/// depth-first order (DWARF 5, 2.3).
 ///
-/// `next_entry` answers whether there was an entry or a null, and the other steps lend the entry. Behind a refusal the walk
-/// is over.
+/// `next_entry` answers whether there was an entry or a null, and the other steps lend the entry.
+/// Behind a refusal the walk is over.
 #[derive(Drop)]
 #[derive_where(Debug)]
 pub struct EntriesCursor<'abbrev, R: Reader, A: Allocator> {
@@ -37,11 +38,13 @@ impl<'abbrev, R: Reader, A: Allocator> Model for EntriesCursor<'abbrev, R, A> {
 
     ghost view = { λ c. cursor_held R.view R.Offset.number c.raw c.entry c.follows c.reads };
 
-    ghost invariant = { λ c. IsSound (cursor_held R.view R.Offset.number c.raw c.entry c.follows c.reads) };
+    ghost invariant = { λ c.
+        IsSound (cursor_held R.view R.Offset.number c.raw c.entry c.follows c.reads) };
 }
 
 impl<'abbrev, R: Reader, A: Allocator + Copy> EntriesCursor<'abbrev, R, A> {
-    // A cursor before the first entry that `raw` reads; it follows sibling references, or reads every entry.
+    // A cursor before the first entry that `raw` reads; it follows sibling references, or reads
+    // every entry.
     pub(crate) fn new(alloc: A, raw: EntriesRaw<'abbrev, R, A>, follows: bool) -> Self
         requires fits { length raw.rest.bytes ≤ raw.end }
         requires shallow { unsigned_abs raw.depth + length raw.rest.bytes < 2 ^ 63 }
@@ -55,8 +58,8 @@ impl<'abbrev, R: Reader, A: Allocator + Copy> EntriesCursor<'abbrev, R, A> {
         }
     }
 
-    /// A cursor that stands where this one stands. Refusal: `OutOfMemory`, only where there is a current entry with
-    /// attributes.
+    /// A cursor that stands where this one stands. Refusal: `OutOfMemory`, only where there is a
+    /// current entry with attributes.
     pub fn try_clone(&self, alloc: A) -> Result<Self>
         ensures value { IfOk result (λ c. c ≡ self.now) }
         ensures refusal { IfErr result (λ e. e ≡ OutOfMemory) }
@@ -75,7 +78,8 @@ impl<'abbrev, R: Reader, A: Allocator> EntriesCursor<'abbrev, R, A> {
     /// The entry that the cursor stands on, if it is on one and not on a null.
     #[inline]
     pub fn current(&self) -> Option<&DebuggingInformationEntry<R, A>>
-        ensures entry { option_map (λ e. entry_of R.view R.Offset.number e.now) result ≡ some_of self.now.entry }
+        ensures entry { option_map (λ e. entry_of R.view R.Offset.number e.now) result
+            ≡ some_of self.now.entry }
         ensures offset { IfSome result (λ e. R.Offset.number e.now.offset.0 ≡ self.now.offset) }
         ensures depth { IfSome result (λ e. e.now.depth ≡ self.now.depth) }
     {
@@ -187,7 +191,8 @@ impl<'abbrev, R: Reader, A: Allocator> EntriesCursor<'abbrev, R, A> {
         }
     }
 
-    // Where the reference of the entry leads, if references are followed and it has at least the depth that is sought.
+    // Where the reference of the entry leads, if references are followed and it has at least the
+    // depth that is sought.
     fn reference(&self, sought: isize) -> Option<UnitOffset<R::Offset>>
         ensures { option_map (λ o. R.Offset.number o.0) result ≡ reference_for sought self.now }
     {
@@ -213,10 +218,11 @@ impl<'abbrev, R: Reader, A: Allocator> EntriesCursor<'abbrev, R, A> {
         }
     }
 
-    /// Reads the next entry, a null too. Answers false at the end, and then there is no current entry.
+    /// Reads the next entry, a null too. Answers false at the end, and then there is no current
+    /// entry.
     ///
-    /// Refusals: those of `EntriesRaw::read_entry`; the walk is then over, without a current entry, at the offset and the
-    /// depth of what was refused.
+    /// Refusals: those of `EntriesRaw::read_entry`; the walk is then over, without a current entry,
+    /// at the offset and the depth of what was refused.
     #[inline(always)]
     pub fn next_entry(&mut self) -> Result<bool>
         ensures { HasReadOn R.Offset.limit self.old result self.new }
@@ -237,7 +243,8 @@ impl<'abbrev, R: Reader, A: Allocator> EntriesCursor<'abbrev, R, A> {
         Ok(false)
     }
 
-    // Goes to the next sibling of the current entry, if there is one. Answers whether there was one.
+    // Goes to the next sibling of the current entry, if there is one. Answers whether there was
+    // one.
     pub(crate) fn walk_over(&mut self) -> Result<bool>
         ensures { HasWalkedOver R.Offset.limit self.old result self.new }
     {
@@ -267,12 +274,13 @@ impl<'abbrev, R: Reader, A: Allocator> EntriesCursor<'abbrev, R, A> {
         self.entry.depth = depth;
     }
 
-    // Reads on to the first entry of a depth; the references of entries that are at least so deep are followed. At the end
-    // of the input the pair becomes `offset` and that depth.
+    // Reads on to the first entry of a depth; the references of entries that are at least so deep
+    // are followed. At the end of the input the pair becomes `offset` and that depth.
     pub(crate) fn seek(&mut self, offset: UnitOffset<R::Offset>, depth: isize) -> Result<bool>
         requires sound { IsSound self.old }
         requires shallow { unsigned_abs depth < 2 ^ 63 }
-        ensures { HasSought R.Offset.limit depth (R.Offset.number offset.0) self.old result self.new }
+        ensures { HasSought R.Offset.limit depth (R.Offset.number offset.0) self.old result
+            self.new }
     {
         'seeking: loop {
             self.follow(depth);

@@ -142,9 +142,11 @@ impl<R: Reader, A: Allocator> DebuggingInformationEntry<R, A> {
         self.attrs.iter().find(|attr| attr.name() == name)
     }
 
-    // Where the sibling reference leads, if there are children and the first reference is an offset in the unit.
+    // Where the sibling reference leads, if there are children and the first reference is an offset
+    // in the unit.
     pub(crate) fn sibling(&self) -> Option<UnitOffset<R::Offset>>
-        ensures { option_map (λ o. R.Offset.number o.0) result ≡ target (kind_of (entry_of R.view R.Offset.number self.now)) }
+        ensures { option_map (λ o. R.Offset.number o.0) result
+            ≡ target (kind_of (entry_of R.view R.Offset.number self.now)) }
     {
         if self.is_null() || !self.has_children {
             return None;
@@ -157,14 +159,18 @@ impl<R: Reader, A: Allocator> DebuggingInformationEntry<R, A> {
 
     /// The value of the first attribute of this name, as its form shows it.
     pub fn attr_value_raw(&self, name: DwAt) -> Option<AttributeValue<R>>
-        ensures { option_map (map_value R.view R.Offset.number) result ≡ option_map (λ a. map_value R.view R.Offset.number a.value) (first_of name.0 self.now.attrs.items) }
+        ensures { option_map (map_value R.view R.Offset.number) result
+            ≡ option_map (λ a. map_value R.view R.Offset.number a.value)
+            (first_of name.0 self.now.attrs.items) }
     {
         self.attr(name).map(|attr| attr.raw_value())
     }
 
     /// The value of the first attribute of this name, as the name makes it.
     pub fn attr_value(&self, name: DwAt) -> Option<AttributeValue<R>>
-        ensures { option_map (map_value R.view R.Offset.number) result ≡ option_map (λ a. normal a.name.0 (map_value R.view R.Offset.number a.value)) (first_of name.0 self.now.attrs.items) }
+        ensures { option_map (map_value R.view R.Offset.number) result
+            ≡ option_map (λ a. normal a.name.0 (map_value R.view R.Offset.number a.value))
+            (first_of name.0 self.now.attrs.items) }
     {
         self.attr(name).map(|attr| attr.value())
     }
@@ -173,7 +179,8 @@ impl<R: Reader, A: Allocator> DebuggingInformationEntry<R, A> {
 impl<R: Reader, A: Allocator + Copy> DebuggingInformationEntry<R, A> {
     /// An equal entry. Refusal: `OutOfMemory`, only where it has attributes.
     pub fn try_clone(&self, alloc: A) -> Result<Self>
-        ensures value { IfOk result (λ e. entry_of R.view R.Offset.number e ≡ entry_of R.view R.Offset.number self.now) }
+        ensures value { IfOk result
+            (λ e. entry_of R.view R.Offset.number e ≡ entry_of R.view R.Offset.number self.now) }
         ensures offset { IfOk result (λ e. e.offset ≡ self.now.offset) }
         ensures depth { IfOk result (λ e. e.depth ≡ self.now.depth) }
         ensures refusal { IfErr result (λ e. e ≡ OutOfMemory) }
@@ -192,7 +199,9 @@ impl<R: Reader, A: Allocator + Copy> DebuggingInformationEntry<R, A> {
 
 // The same attributes.
 fn copies<R: Reader, A: Allocator>(alloc: A, attrs: &[Attribute<R>]) -> Result<Vec<Attribute<R>, A>>
-    ensures value { IfOk result (λ copies. map (map_attribute R.view R.Offset.number) copies.items ≡ map (map_attribute R.view R.Offset.number) attrs.now) }
+    ensures value { IfOk result
+        (λ copies. map (map_attribute R.view R.Offset.number) copies.items
+        ≡ map (map_attribute R.view R.Offset.number) attrs.now) }
     ensures refusal { IfErr result (λ e. e ≡ OutOfMemory) }
     ensures without_memory { attrs.now ≡ [] → IsOk result }
 {

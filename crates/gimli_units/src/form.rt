@@ -4,7 +4,8 @@ ghost use Rattle.std.specs.Prelude.{◌≡◌, ◌≤◌};
 ghost use Rattle.gimli_base.specs.Offset.{answer_of};
 ghost use Rattle.gimli_base.specs.Reading.{read, address_at, uint_offset_at};
 ghost use Rattle.gimli_units.specs.Value.{map_value};
-ghost use Rattle.gimli_units.specs.Form.{is_section_name, uleb_offset_at, direct_at, form_at, value_at};
+ghost use Rattle.gimli_units.specs.Form.{is_section_name, uleb_offset_at, direct_at, form_at};
+ghost use Rattle.gimli_units.specs.Form.{value_at};
 
 use crate::{AttributeValue, DebugInfoOffset, UnitOffset};
 use gimli_base::{
@@ -50,8 +51,9 @@ fn allow_section_offset(name: DwAt, version: u16) -> bool
     }
 }
 
-// The next address; where it is refused, the input is left anywhere. One of 8 bytes is read in place, and the others by a call
-// that gets a reader of its own, so that the caller's stays in registers.
+// The next address; where it is refused, the input is left anywhere. One of 8 bytes is read in
+// place, and the others by a call that gets a reader of its own, so that the caller's stays in
+// registers.
 #[inline(always)]
 #[tactic(auto, unfolding(gimli_base::specs::Reading::address_at))]
 fn address<R: Reader>(input: &mut R, size: u8) -> Result<u64>
@@ -68,7 +70,8 @@ fn address<R: Reader>(input: &mut R, size: u8) -> Result<u64>
 
 // The next three bytes as an offset; where they are refused, the input is left anywhere.
 fn three_byte_offset<R: Reader>(input: &mut R) -> Result<R::Offset>
-    ensures { read (answer_of R.Offset.number result) (R.view input.new) ≡ uint_offset_at R.Offset.limit 3 (R.view input.old) }
+    ensures { read (answer_of R.Offset.number result) (R.view input.new)
+        ≡ uint_offset_at R.Offset.limit 3 (R.view input.old) }
 {
     R::Offset::from_u64(input.read_uint(3)?)
 }
@@ -76,7 +79,8 @@ fn three_byte_offset<R: Reader>(input: &mut R) -> Result<R::Offset>
 // The next LEB128 number as an offset; where it is refused, the input is left anywhere.
 #[inline(always)]
 pub(crate) fn uleb128_offset<R: Reader>(input: &mut R) -> Result<R::Offset>
-    ensures { read (answer_of R.Offset.number result) (R.view input.new) ≡ uleb_offset_at R.Offset.limit (R.view input.old) }
+    ensures { read (answer_of R.Offset.number result) (R.view input.new)
+        ≡ uleb_offset_at R.Offset.limit (R.view input.old) }
 {
     R::Offset::from_u64(input.read_uleb128()?)
 }
@@ -91,7 +95,8 @@ fn direct<R: Reader>(
     constant: Option<i64>,
     form: DwForm,
 ) -> Result<AttributeValue<R>>
-    ensures { read (answer_of (map_value R.view R.Offset.number) result) (R.view input.new) ≡ direct_at R.Offset.limit encoding name.0 constant form.0 (R.view input.old) }
+    ensures { read (answer_of (map_value R.view R.Offset.number) result) (R.view input.new)
+        ≡ direct_at R.Offset.limit encoding name.0 constant form.0 (R.view input.old) }
 {
     match form {
         DW_FORM_addr => Ok(AttributeValue::Addr(address(input, encoding.address_size)?)),
@@ -220,10 +225,12 @@ fn direct<R: Reader>(
     }
 }
 
-// The form that a chain of indirect forms leads to; where it is refused, the input is left anywhere.
+// The form that a chain of indirect forms leads to; where it is refused, the input is left
+// anywhere.
 #[tactic(auto, unfolding(crate::specs::Form::form_at))]
 pub(crate) fn direct_form<R: Reader>(input: &mut R, form: DwForm) -> Result<DwForm>
-    ensures { read (answer_of (λ f. f.0) result) (R.view input.new) ≡ form_at form.0 (R.view input.old) }
+    ensures { read (answer_of (λ f. f.0) result) (R.view input.new)
+        ≡ form_at form.0 (R.view input.old) }
 {
     let mut form = form;
     'indirect: while form == DW_FORM_indirect {
@@ -240,7 +247,9 @@ pub(crate) fn parse_value<R: Reader>(
     encoding: Encoding,
     specification: AttributeSpecification,
 ) -> Result<AttributeValue<R>>
-    ensures { read (answer_of (map_value R.view R.Offset.number) result) (R.view input.new) ≡ value_at R.Offset.limit encoding specification.name.0 specification.constant specification.form.0 (R.view input.old) }
+    ensures { read (answer_of (map_value R.view R.Offset.number) result) (R.view input.new)
+        ≡ value_at R.Offset.limit encoding specification.name.0 specification.constant
+        specification.form.0 (R.view input.old) }
 {
     let form = direct_form(input, specification.form())?;
     direct(

@@ -1,6 +1,7 @@
 //! Headers of units.
 
-ghost use Rattle.std.specs.Prelude.{◌≡◌, ◌+◌, ◌-◌, ◌<◌, ◌≤◌, length, pos, ⊤, IsTrue, false, true, ◌↔◌, IfOk};
+ghost use Rattle.std.specs.Prelude.{◌≡◌, ◌+◌, ◌-◌, ◌<◌, ◌≤◌, length, pos, ⊤, IsTrue, false, true};
+ghost use Rattle.std.specs.Prelude.{◌↔◌, IfOk};
 ghost use Rattle.std.specs.Option.{option_map};
 ghost use Rattle.gimli_base.specs.Offset.{answer_of};
 ghost use Rattle.gimli_base.specs.Abbreviations.{map_at};
@@ -33,7 +34,8 @@ pub trait HasUnit {
 
 /// The header of a unit, with the bytes of its entries (DWARF 5, 7.5.1).
 ///
-/// The unit's whole length fits the reader's offsets, and is no less than the number of the entries' bytes.
+/// The unit's whole length fits the reader's offsets, and is no less than the number of the
+/// entries' bytes.
 #[derive(Debug, PartialEq, Eq, Drop)]
 pub struct UnitHeader<R: Reader, Offset: ReaderOffset = <R as Reader>::Offset> {
     encoding: Encoding,
@@ -43,12 +45,17 @@ pub struct UnitHeader<R: Reader, Offset: ReaderOffset = <R as Reader>::Offset> {
     section: SectionId,
     unit_offset: UnitSectionOffset<Offset>,
     entries_buf: R,
-    ghost length_fits: { initial_length_size_of encoding.format + Offset.number unit_length < Offset.limit },
-    ghost entries_fit: { length (R.view entries_buf).bytes ≤ initial_length_size_of encoding.format + Offset.number unit_length },
+    ghost length_fits: { initial_length_size_of encoding.format + Offset.number unit_length
+        < Offset.limit },
+    ghost entries_fit: { length (R.view entries_buf).bytes
+        ≤ initial_length_size_of encoding.format + Offset.number unit_length },
 }
 
 impl<R: Reader + Copy, Offset: ReaderOffset> Clone for UnitHeader<R, Offset> {
-    ghost is_clone = { λ u copy. (copy.encoding ≡ u.encoding) × (copy.unit_length ≡ u.unit_length) × (copy.unit_type ≡ u.unit_type) × (copy.debug_abbrev_offset ≡ u.debug_abbrev_offset) × (copy.section ≡ u.section) × (copy.unit_offset ≡ u.unit_offset) × (copy.entries_buf ≡ u.entries_buf) };
+    ghost is_clone = { λ u copy. (copy.encoding ≡ u.encoding) × (copy.unit_length ≡ u.unit_length)
+        × (copy.unit_type ≡ u.unit_type) × (copy.debug_abbrev_offset ≡ u.debug_abbrev_offset)
+        × (copy.section ≡ u.section) × (copy.unit_offset ≡ u.unit_offset)
+        × (copy.entries_buf ≡ u.entries_buf) };
 
     ghost is_infallible = { λ _. ⊤ };
 
@@ -68,15 +75,29 @@ impl<R: Reader + Copy, Offset: ReaderOffset> Clone for UnitHeader<R, Offset> {
 impl<R: Reader + Copy, Offset: ReaderOffset> Copy for UnitHeader<R, Offset> {}
 
 impl<R: Reader> HasUnit for UnitHeader<R> {
-    ghost unit = { λ u. record { encoding = u.encoding; unit_length = R.Offset.number u.unit_length; kind = map_type R.Offset.number u.unit_type; abbreviations = R.Offset.number u.debug_abbrev_offset.0; section = u.section; offset = R.Offset.number u.unit_offset.0; entries = R.view u.entries_buf } };
+    ghost unit = { λ u.
+        record {
+          encoding = u.encoding;
+          unit_length = R.Offset.number u.unit_length;
+          kind = map_type R.Offset.number u.unit_type;
+          abbreviations =
+              R.Offset.number u.debug_abbrev_offset.0;
+          section = u.section;
+          offset =
+              R.Offset.number u.unit_offset.0;
+          entries = R.view u.entries_buf;
+        } };
 }
 
 impl<R: Reader> UnitHeader<R> {
     ghost use Rattle.gimli_units.specs.UnitHeld.{unit_view};
-    ghost use Rattle.gimli_units.specs.Unit.{UnitView, whole_length, header_size, in_bounds, range_from, entries_of, entries_from, range_of, range_to, debug_info_offset, debug_types_offset, size_of_header, unit_entry_at, takes_memory_in};
+    ghost use Rattle.gimli_units.specs.Unit.{UnitView, whole_length, header_size, in_bounds};
+    ghost use Rattle.gimli_units.specs.Unit.{range_from, entries_of, entries_from, range_of};
+    ghost use Rattle.gimli_units.specs.Unit.{range_to, debug_info_offset, debug_types_offset};
+    ghost use Rattle.gimli_units.specs.Unit.{size_of_header, unit_entry_at, takes_memory_in};
 
-    /// A header of these parts. The whole length, which is 4 or 12 and `unit_length`, has to fit the reader's offsets,
-    /// and to be no less than the number of bytes in `entries_buf`.
+    /// A header of these parts. The whole length, which is 4 or 12 and `unit_length`, has to fit
+    /// the reader's offsets, and to be no less than the number of bytes in `entries_buf`.
     pub fn new(
         encoding: Encoding,
         unit_length: R::Offset,
@@ -86,9 +107,22 @@ impl<R: Reader> UnitHeader<R> {
         unit_offset: UnitSectionOffset<R::Offset>,
         entries_buf: R,
     ) -> Self
-        requires length_fits { initial_length_size_of encoding.format + R.Offset.number unit_length < R.Offset.limit }
-        requires entries_fit { length (R.view entries_buf).bytes ≤ initial_length_size_of encoding.format + R.Offset.number unit_length }
-        ensures { unit_view result ≡ record { encoding = encoding; unit_length = R.Offset.number unit_length; kind = map_type R.Offset.number unit_type; abbreviations = R.Offset.number debug_abbrev_offset.0; section = section; offset = R.Offset.number unit_offset.0; entries = R.view entries_buf } }
+        requires length_fits { initial_length_size_of encoding.format + R.Offset.number unit_length
+            < R.Offset.limit }
+        requires entries_fit { length (R.view entries_buf).bytes
+            ≤ initial_length_size_of encoding.format + R.Offset.number unit_length }
+        ensures { unit_view result
+            ≡ record {
+              encoding = encoding;
+              unit_length = R.Offset.number unit_length;
+              kind = map_type R.Offset.number unit_type;
+              abbreviations =
+                  R.Offset.number debug_abbrev_offset.0;
+              section = section;
+              offset =
+                  R.Offset.number unit_offset.0;
+              entries = R.view entries_buf;
+            } }
     {
         UnitHeader {
             encoding,
@@ -177,7 +211,8 @@ impl<R: Reader> UnitHeader<R> {
 
     /// Where the unit begins in `.debug_info`, if it lies there.
     pub fn debug_info_offset(&self) -> Option<DebugInfoOffset<R::Offset>>
-        ensures { option_map (λ o. R.Offset.number o.0) result ≡ debug_info_offset (unit_view self.now) }
+        ensures { option_map (λ o. R.Offset.number o.0) result
+            ≡ debug_info_offset (unit_view self.now) }
     {
         match self.section {
             SectionId::DebugInfo => Some(DebugInfoOffset(self.unit_offset.0)),
@@ -187,7 +222,8 @@ impl<R: Reader> UnitHeader<R> {
 
     /// Where the unit begins in `.debug_types`, if it lies there.
     pub fn debug_types_offset(&self) -> Option<DebugTypesOffset<R::Offset>>
-        ensures { option_map (λ o. R.Offset.number o.0) result ≡ debug_types_offset (unit_view self.now) }
+        ensures { option_map (λ o. R.Offset.number o.0) result
+            ≡ debug_types_offset (unit_view self.now) }
     {
         match self.section {
             SectionId::DebugTypes => Some(DebugTypesOffset(self.unit_offset.0)),
@@ -211,11 +247,12 @@ impl<R: Reader> UnitHeader<R> {
         field + 2 + word + 1 + type_code + added
     }
 
-    /// Whether an address stands for none: it is all ones in the unit's size of addresses, or one less. The size has to
-    /// be 1, 2, 4 or 8.
+    /// Whether an address stands for none: it is all ones in the unit's size of addresses, or one
+    /// less. The size has to be 1, 2, 4 or 8.
     pub fn is_tombstone_address(&self, address: u64) -> bool
         requires { IsTrue (is_size (unit_view self.now).encoding.address_size) }
-        ensures { IsTrue result ↔ (min_tombstone (unit_view self.now).encoding.address_size ≤ address) }
+        ensures { IsTrue result
+            ↔ (min_tombstone (unit_view self.now).encoding.address_size ≤ address) }
     {
         address >= u64::min_tombstone(self.encoding.address_size)
     }
@@ -260,7 +297,10 @@ impl<R: Reader> UnitHeader<R> {
         alloc: A,
         debug_abbrev: &DebugAbbrev<R>,
     ) -> Result<Abbreviations<A>>
-        ensures { UnlessMemory result (answer_of found result ≡ map_at (unit_view self.now).abbreviations (⟦<DebugAbbrev<R> as Section<R>>⟧.content debug_abbrev.now)) }
+        ensures { UnlessMemory result
+            (answer_of found result
+            ≡ map_at (unit_view self.now).abbreviations
+            (⟦<DebugAbbrev<R> as Section<R>>⟧.content debug_abbrev.now)) }
     {
         debug_abbrev.abbreviations(alloc, self.debug_abbrev_offset)
     }
@@ -278,7 +318,8 @@ impl<R: Reader> UnitHeader<R> {
     /// The bytes from an offset to the unit's end. Refusal: `OffsetOutOfBounds`.
     #[tactic(auto, unfolding(crate::specs::Unit::range_from, gimli_base::specs::Reading::skip_at))]
     pub fn range_from(&self, idx: RangeFrom<UnitOffset<R::Offset>>) -> Result<R>
-        ensures { answer_of R.view result ≡ range_from (unit_view self.now) (R.Offset.number idx.start.0) }
+        ensures { answer_of R.view result
+            ≡ range_from (unit_view self.now) (R.Offset.number idx.start.0) }
     {
         if !self.is_in_bounds(idx.start) {
             return Err(Error::OffsetOutOfBounds(idx.start.0.into_u64()));
@@ -289,12 +330,15 @@ impl<R: Reader> UnitHeader<R> {
         Ok(range)
     }
 
-    /// The bytes from an offset to the one before another, which must not be before it. Refusal: `OffsetOutOfBounds` of
-    /// the first offset, or else of the second; so the unit's end is none that can be named.
+    /// The bytes from an offset to the one before another, which must not be before it. Refusal:
+    /// `OffsetOutOfBounds` of the first offset, or else of the second; so the unit's end is none
+    /// that can be named.
     #[tactic(auto, unfolding(crate::specs::Unit::range_of, crate::specs::Unit::range_from, gimli_base::specs::Reading::truncate_at))]
     pub fn range(&self, idx: Range<UnitOffset<R::Offset>>) -> Result<R>
         requires { R.Offset.number idx.start.0 ≤ R.Offset.number idx.end.0 }
-        ensures { answer_of R.view result ≡ range_of (unit_view self.now) (R.Offset.number idx.start.0) (R.Offset.number idx.end.0) }
+        ensures { answer_of R.view result
+            ≡ range_of (unit_view self.now) (R.Offset.number idx.start.0)
+            (R.Offset.number idx.end.0) }
     {
         let start = idx.start;
         let end = idx.end;
@@ -309,7 +353,8 @@ impl<R: Reader> UnitHeader<R> {
     /// The bytes from the first entry to the one before an offset. Refusal: `OffsetOutOfBounds`.
     #[tactic(auto, unfolding(crate::specs::Unit::range_to, gimli_base::specs::Reading::truncate_at))]
     pub fn range_to(&self, idx: RangeTo<UnitOffset<R::Offset>>) -> Result<R>
-        ensures { answer_of R.view result ≡ range_to (unit_view self.now) (R.Offset.number idx.end.0) }
+        ensures { answer_of R.view result
+            ≡ range_to (unit_view self.now) (R.Offset.number idx.end.0) }
     {
         if !self.is_in_bounds(idx.end) {
             return Err(Error::OffsetOutOfBounds(idx.end.0.into_u64()));
@@ -322,8 +367,8 @@ impl<R: Reader> UnitHeader<R> {
 
     /// The entry at an offset, at depth 0.
     ///
-    /// Refusals: `OffsetOutOfBounds`, then those of reading the entry, and `NoEntryAtGivenOffset` at a null. Memory is
-    /// taken only where the entry's declaration has attributes.
+    /// Refusals: `OffsetOutOfBounds`, then those of reading the entry, and `NoEntryAtGivenOffset`
+    /// at a null. Memory is taken only where the entry's declaration has attributes.
     #[tactic(auto, unfolding(crate::specs::Unit::unit_entry_at, crate::specs::Unit::entries_from))]
     pub fn entry<A: Allocator + Copy>(
         &self,
@@ -331,8 +376,15 @@ impl<R: Reader> UnitHeader<R> {
         abbreviations: &Abbreviations<A>,
         offset: UnitOffset<R::Offset>,
     ) -> Result<DebuggingInformationEntry<R, A>>
-        ensures value { UnlessMemory result (answer_of (entry_of R.view R.Offset.number) result ≡ unit_entry_at R.Offset.limit (unit_view self.now) (found abbreviations.now) (R.Offset.number offset.0)) }
-        ensures without_memory { takes_memory_in (found abbreviations.now) (range_from (unit_view self.now) (R.Offset.number offset.0)) ≡ false → answer_of (entry_of R.view R.Offset.number) result ≡ unit_entry_at R.Offset.limit (unit_view self.now) (found abbreviations.now) (R.Offset.number offset.0) }
+        ensures value { UnlessMemory result
+            (answer_of (entry_of R.view R.Offset.number) result
+            ≡ unit_entry_at R.Offset.limit (unit_view self.now) (found abbreviations.now)
+            (R.Offset.number offset.0)) }
+        ensures without_memory { takes_memory_in (found abbreviations.now)
+            (range_from (unit_view self.now) (R.Offset.number offset.0)) ≡ false
+            → answer_of (entry_of R.view R.Offset.number) result
+            ≡ unit_entry_at R.Offset.limit (unit_view self.now) (found abbreviations.now)
+            (R.Offset.number offset.0) }
         ensures offset { IfOk result (λ e. R.Offset.number e.offset.0 ≡ R.Offset.number offset.0) }
         ensures depth { IfOk result (λ e. e.depth ≡ pos 0) }
     {
@@ -345,23 +397,24 @@ impl<R: Reader> UnitHeader<R> {
         }
     }
 
-    /// A reader of the entries from an offset on, or from the first. Refusal: `OffsetOutOfBounds`, also without an
-    /// offset where the unit has no bytes of entries.
+    /// A reader of the entries from an offset on, or from the first. Refusal: `OffsetOutOfBounds`,
+    /// also without an offset where the unit has no bytes of entries.
     #[tactic(auto, unfolding(crate::specs::Unit::entries_from, crate::specs::Unit::range_from))]
     pub fn entries_raw<'abbrev, A: Allocator>(
         &self,
         abbreviations: &'abbrev Abbreviations<A>,
         offset: Option<UnitOffset<R::Offset>>,
     ) -> Result<EntriesRaw<'abbrev, R, A>>
-        ensures { result ≡ entries_from (unit_view self.now) abbreviations.now (option_map (λ o. R.Offset.number o.0) offset) }
+        ensures { result ≡ entries_from (unit_view self.now) abbreviations.now
+            (option_map (λ o. R.Offset.number o.0) offset) }
     {
         let start = offset.unwrap_or(self.root_offset());
         let input = self.range_from(start..)?;
         Ok(EntriesRaw::new(input, self.encoding, abbreviations, start))
     }
 
-    /// A cursor over all the entries, which follows sibling references. It never refuses: where the unit has no bytes of
-    /// entries, it ends at once.
+    /// A cursor over all the entries, which follows sibling references. It never refuses: where the
+    /// unit has no bytes of entries, it ends at once.
     pub fn entries<'abbrev, A: Allocator + Copy>(
         &self,
         alloc: A,
@@ -372,14 +425,16 @@ impl<R: Reader> UnitHeader<R> {
         EntriesCursor::new(alloc, self.all_entries(abbreviations), true)
     }
 
-    /// A cursor over the entries from an offset on, which follows sibling references. Refusal: `OffsetOutOfBounds`.
+    /// A cursor over the entries from an offset on, which follows sibling references. Refusal:
+    /// `OffsetOutOfBounds`.
     pub fn entries_at_offset<'abbrev, A: Allocator + Copy>(
         &self,
         alloc: A,
         abbreviations: &'abbrev Abbreviations<A>,
         offset: UnitOffset<R::Offset>,
     ) -> Result<EntriesCursor<'abbrev, R, A>>
-        ensures { result ≡ cursor_from (unit_view self.now) abbreviations.now true (R.Offset.number offset.0) }
+        ensures { result ≡ cursor_from (unit_view self.now) abbreviations.now true
+            (R.Offset.number offset.0) }
     {
         let raw = self.entries_raw(abbreviations, Some(offset))?;
         Ok(EntriesCursor::new(alloc, raw, true))
@@ -396,14 +451,16 @@ impl<R: Reader> UnitHeader<R> {
         EntriesCursor::new(alloc, self.all_entries(abbreviations), false)
     }
 
-    /// A cursor over the entries from an offset on, which follows no reference. Refusal: `OffsetOutOfBounds`.
+    /// A cursor over the entries from an offset on, which follows no reference. Refusal:
+    /// `OffsetOutOfBounds`.
     pub fn entries_plain_at_offset<'abbrev, A: Allocator + Copy>(
         &self,
         alloc: A,
         abbreviations: &'abbrev Abbreviations<A>,
         offset: UnitOffset<R::Offset>,
     ) -> Result<EntriesCursor<'abbrev, R, A>>
-        ensures { result ≡ cursor_from (unit_view self.now) abbreviations.now false (R.Offset.number offset.0) }
+        ensures { result ≡ cursor_from (unit_view self.now) abbreviations.now false
+            (R.Offset.number offset.0) }
     {
         let raw = self.entries_raw(abbreviations, Some(offset))?;
         Ok(EntriesCursor::new(alloc, raw, false))

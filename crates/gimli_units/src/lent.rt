@@ -11,7 +11,8 @@ use gimli_base::{Reader, Result};
 use std::alloc::Allocator;
 
 impl<'abbrev, R: Reader, A: Allocator> EntriesCursor<'abbrev, R, A> {
-    /// Reads on to the next entry that is no null, and lends it. Answers `None` at the end, and then there is no current entry.
+    /// Reads on to the next entry that is no null, and lends it. Answers `None` at the end, and
+    /// then there is no current entry.
     ///
     /// Refusals: those of `next_entry`.
     pub fn next_dfs(&mut self) -> Result<Option<&DebuggingInformationEntry<R, A>>>
@@ -31,13 +32,14 @@ impl<'abbrev, R: Reader, A: Allocator> EntriesCursor<'abbrev, R, A> {
         Ok(self.current())
     }
 
-    /// Goes to the next sibling of the current entry, and lends it: the next entry of its depth, before the null that closes
-    /// their list. Answers `None` where there is none, and then there is no current entry; at the end of the input the cursor is
-    /// set back to the entry's offset and depth. Without a current entry it answers `None` and moves nothing.
+    /// Goes to the next sibling of the current entry, and lends it: the next entry of its depth,
+    /// before the null that closes their list. Answers `None` where there is none, and then there
+    /// is no current entry; at the end of the input the cursor is set back to the entry's offset
+    /// and depth. Without a current entry it answers `None` and moves nothing.
     ///
-    /// Where the cursor follows references, an entry whose `DW_AT_sibling` leads on in the unit is left for where it leads,
-    /// with its children unread. So it answers as plain walking does where those references are honest; any others lead to an
-    /// entry of the unit, too.
+    /// Where the cursor follows references, an entry whose `DW_AT_sibling` leads on in the unit is
+    /// left for where it leads, with its children unread. So it answers as plain walking does where
+    /// those references are honest; any others lead to an entry of the unit, too.
     ///
     /// Refusals: those of `next_entry`.
     pub fn next_sibling(&mut self) -> Result<Option<&DebuggingInformationEntry<R, A>>>

@@ -1,6 +1,8 @@
 //! Entries that are read one behind the other.
 
-ghost use Rattle.std.specs.Prelude.{◌≡◌, ◌+◌, ◌-◌, ◌<◌, ◌≤◌, ◌^◌, ◌==◌, ◌↔◌, pos, ◌-ℤ◌, not, length, map, IsTrue, IsOk, IfOk, IfErr, OnOk, OnErr, Option, [], true, false, unsigned_abs, Some};
+ghost use Rattle.std.specs.Prelude.{◌≡◌, ◌+◌, ◌-◌, ◌<◌, ◌≤◌, ◌^◌, ◌==◌, ◌↔◌, pos, ◌-ℤ◌, not};
+ghost use Rattle.std.specs.Prelude.{length, map, IsTrue, IsOk, IfOk, IfErr, OnOk, OnErr, Option};
+ghost use Rattle.std.specs.Prelude.{[], true, false, unsigned_abs, Some};
 ghost use Rattle.std.specs.Option.{option_copied};
 ghost use Rattle.gimli_base.specs.Offset.{answer_of};
 ghost use Rattle.gimli_base.specs.View.{View, ended};
@@ -8,9 +10,11 @@ ghost use Rattle.gimli_base.specs.Reading.{read, filled, UnlessMemory};
 ghost use Rattle.gimli_base.specs.Passed.{PassesAs};
 ghost use Rattle.gimli_base.specs.Table.{Table, found};
 ghost use Rattle.gimli_units.specs.Value.{map_attribute};
-ghost use Rattle.gimli_units.specs.Entry.{attribute_at, attributes_at, abbreviation_at, entry_at, entry_of, null_entry, is_null, takes_memory};
+ghost use Rattle.gimli_units.specs.Entry.{attribute_at, attributes_at, abbreviation_at, entry_at};
+ghost use Rattle.gimli_units.specs.Entry.{entry_of, null_entry, is_null, takes_memory};
 ghost use Rattle.gimli_units.specs.Passing.{pass_all, without_place, NamesPlaceOf};
-ghost use Rattle.gimli_units.specs.RawPlace.{RawPlace, next_offset_of, below_flag, depth_read, depth_after};
+ghost use Rattle.gimli_units.specs.RawPlace.{RawPlace, next_offset_of, below_flag, depth_read};
+ghost use Rattle.gimli_units.specs.RawPlace.{depth_after};
 ghost use Rattle.gimli_units.specs.Honest.{within};
 ghost use Rattle.gimli_units.specs.CursorRead.{stands_at, stands_if};
 
@@ -41,14 +45,22 @@ pub struct EntriesRaw<'abbrev, R: Reader, A: Allocator> {
 impl<'abbrev, R: Reader, A: Allocator> Model for EntriesRaw<'abbrev, R, A> {
     ghost Value = { RawPlace };
 
-    ghost view = { λ e. record { rest = R.view e.input; encoding = e.encoding; abbreviations = e.abbreviations.now; end = R.Offset.number e.end_offset.0; depth = e.depth } };
+    ghost view = { λ e.
+        record {
+          rest = R.view e.input;
+          encoding = e.encoding;
+          abbreviations = e.abbreviations.now;
+          end = R.Offset.number e.end_offset.0;
+          depth = e.depth;
+        } };
 
-    ghost invariant = { λ e. (length (R.view e.input).bytes ≤ R.Offset.number e.end_offset.0) × (unsigned_abs e.depth + length (R.view e.input).bytes < 2 ^ 63) };
+    ghost invariant = { λ e. (length (R.view e.input).bytes ≤ R.Offset.number e.end_offset.0)
+        × (unsigned_abs e.depth + length (R.view e.input).bytes < 2 ^ 63) };
 }
 
 impl<'abbrev, R: Reader, A: Allocator> EntriesRaw<'abbrev, R, A> {
-    /// A reader of the entries in `input`, which begins at `offset` of its unit, at depth 0; the offset of its end
-    /// fits the reader's offsets.
+    /// A reader of the entries in `input`, which begins at `offset` of its unit, at depth 0; the
+    /// offset of its end fits the reader's offsets.
     pub fn new(
         input: R,
         encoding: Encoding,
@@ -56,7 +68,14 @@ impl<'abbrev, R: Reader, A: Allocator> EntriesRaw<'abbrev, R, A> {
         offset: UnitOffset<R::Offset>,
     ) -> Self
         requires { R.Offset.number offset.0 + length (R.view input).bytes < R.Offset.limit }
-        ensures { result ≡ record { rest = R.view input; encoding = encoding; abbreviations = abbreviations.now; end = R.Offset.number offset.0 + length (R.view input).bytes; depth = pos 0 } }
+        ensures { result
+            ≡ record {
+              rest = R.view input;
+              encoding = encoding;
+              abbreviations = abbreviations.now;
+              end = R.Offset.number offset.0 + length (R.view input).bytes;
+              depth = pos 0;
+            } }
     {
         let end = offset.0.checked_add(input.len()).unwrap();
         EntriesRaw {
@@ -97,7 +116,8 @@ impl<'abbrev, R: Reader, A: Allocator> EntriesRaw<'abbrev, R, A> {
         UnitOffset(self.end_offset.0.checked_sub(self.input.len()).unwrap())
     }
 
-    /// The depth of what is read next: it is one more behind an entry with children, and one less behind a null.
+    /// The depth of what is read next: it is one more behind an entry with children, and one less
+    /// behind a null.
     #[inline]
     pub fn next_depth(&self) -> isize
         ensures { result ≡ self.now.depth }
@@ -112,10 +132,13 @@ impl<'abbrev, R: Reader, A: Allocator> EntriesRaw<'abbrev, R, A> {
         self.input.empty();
     }
 
-    // Goes to an offset at a depth, where the offset is not before what is read next, and not past the end.
+    // Goes to an offset at a depth, where the offset is not before what is read next, and not past
+    // the end.
     pub(crate) fn go_to(&mut self, offset: UnitOffset<R::Offset>, new_depth: isize)
         requires { unsigned_abs new_depth + length self.old.rest.bytes < 2 ^ 63 }
-        ensures { self.new ≡ stands_if self.old (within (next_offset_of self.old) self.old.end (Some (R.Offset.number offset.0))) new_depth }
+        ensures { self.new ≡ stands_if self.old
+            (within (next_offset_of self.old) self.old.end (Some (R.Offset.number offset.0)))
+            new_depth }
     {
         let Some(count) = offset.0.checked_sub(self.next_offset().0) else {
             return;
@@ -135,8 +158,10 @@ impl<'abbrev, R: Reader, A: Allocator> EntriesRaw<'abbrev, R, A> {
     /// Refusals: `UnexpectedEof`, `BadUnsignedLeb128`, `InvalidAbbreviationCode`.
     #[inline(always)]
     pub fn read_abbreviation(&mut self) -> Result<Option<&'abbrev Abbreviation<A>>>
-        ensures value { read (answer_of option_copied result) self.new.rest ≡ abbreviation_at (found self.old.abbreviations) self.old.rest }
-        ensures depth { IfOk result (λ r. self.new.depth ≡ depth_read (option_copied r) self.old.depth) }
+        ensures value { read (answer_of option_copied result) self.new.rest
+            ≡ abbreviation_at (found self.old.abbreviations) self.old.rest }
+        ensures depth { IfOk result
+            (λ r. self.new.depth ≡ depth_read (option_copied r) self.old.depth) }
         ensures same { self.new ≡ record self.old { rest = self.new.rest; depth = self.new.depth } }
         ensures kept { OnErr result (self.new ≡ self.old) }
     {
@@ -163,7 +188,8 @@ impl<'abbrev, R: Reader, A: Allocator> EntriesRaw<'abbrev, R, A> {
     #[inline(always)]
     fn go_behind_entry(&mut self, rest: R, has_children: bool)
         requires { length (R.view rest).bytes < length self.old.rest.bytes }
-        ensures { self.new ≡ stands_at self.old (R.view rest) (below_flag has_children self.old.depth) }
+        ensures { self.new ≡ stands_at self.old (R.view rest)
+            (below_flag has_children self.old.depth) }
     {
         self.input = rest;
         if has_children {
@@ -171,11 +197,12 @@ impl<'abbrev, R: Reader, A: Allocator> EntriesRaw<'abbrev, R, A> {
         }
     }
 
-    /// Reads an entry, in place of the one in `entry`: its code, and its attributes. Answers whether it is one, and not
-    /// a null.
+    /// Reads an entry, in place of the one in `entry`: its code, and its attributes. Answers
+    /// whether it is one, and not a null.
     ///
-    /// Refusals: those of `read_abbreviation` and `read_attributes`; `entry` is then a null with the offset and the
-    /// depth of what was refused. Memory is taken only where the declaration has attributes.
+    /// Refusals: those of `read_abbreviation` and `read_attributes`; `entry` is then a null with
+    /// the offset and the depth of what was refused. Memory is taken only where the declaration has
+    /// attributes.
     #[inline(always)]
     #[tactic(auto, unfolding(crate::specs::Entry::entry_at))]
     pub fn read_entry(&mut self, entry: &mut DebuggingInformationEntry<R, A>) -> Result<bool>
@@ -185,12 +212,16 @@ impl<'abbrev, R: Reader, A: Allocator> EntriesRaw<'abbrev, R, A> {
             ≡ entry_at R.Offset.limit self.old.encoding declared self.old.rest) }
         ensures without_memory { let e = entry_of R.view R.Offset.number entry.new in
             let declared = found self.old.abbreviations in
-            takes_memory (abbreviation_at declared self.old.rest) ≡ false → read (filled e result) self.new.rest
+            takes_memory (abbreviation_at declared self.old.rest) ≡ false
+            → read (filled e result) self.new.rest
             ≡ entry_at R.Offset.limit self.old.encoding declared self.old.rest }
-        ensures some { IfOk result (λ some. some ≡ not (is_null (entry_of R.view R.Offset.number entry.new))) }
+        ensures some { IfOk result
+            (λ some. some ≡ not (is_null (entry_of R.view R.Offset.number entry.new))) }
         ensures offset { R.Offset.number entry.new.offset.0 ≡ next_offset_of self.old }
         ensures entry_depth { entry.new.depth ≡ self.old.depth }
-        ensures depth { OnOk result (self.new.depth ≡ depth_after (entry_of R.view R.Offset.number entry.new) self.old.depth) }
+        ensures depth { OnOk result
+            (self.new.depth ≡ depth_after (entry_of R.view R.Offset.number entry.new)
+            self.old.depth) }
         ensures null { OnErr result (entry_of R.view R.Offset.number entry.new ≡ null_entry) }
         ensures same { self.new ≡ record self.old { rest = self.new.rest; depth = self.new.depth } }
         ensures kept { OnErr result (self.new ≡ self.old) }
@@ -219,9 +250,9 @@ impl<'abbrev, R: Reader, A: Allocator> EntriesRaw<'abbrev, R, A> {
         }
     }
 
-    // Reads the attributes of these specifications, which begin at `start`, into an empty list, and goes behind their entry;
-    // where they are refused, the list is left anywhere. They are read on a reader whose address no call gets, so that it
-    // stays in registers.
+    // Reads the attributes of these specifications, which begin at `start`, into an empty list, and
+    // goes behind their entry; where they are refused, the list is left anywhere. They are read on
+    // a reader whose address no call gets, so that it stays in registers.
     #[inline(never)]
     fn read_behind(
         &mut self,
@@ -232,7 +263,10 @@ impl<'abbrev, R: Reader, A: Allocator> EntriesRaw<'abbrev, R, A> {
     ) -> Result<()>
         requires shorter { length (R.view start.now).bytes < length self.old.rest.bytes }
         requires empty { attrs.old.items ≡ [] }
-        ensures value { UnlessMemory result (read (filled (map (map_attribute R.view R.Offset.number) attrs.new.items) result) self.new.rest ≡ attributes_at R.Offset.limit self.old.encoding specifications.now (R.view start.now)) }
+        ensures value { UnlessMemory result
+            (read (filled (map (map_attribute R.view R.Offset.number) attrs.new.items) result)
+            self.new.rest ≡ attributes_at R.Offset.limit self.old.encoding specifications.now
+            (R.view start.now)) }
         ensures none { specifications.now ≡ [] → IsOk result }
         ensures depth { OnOk result (self.new.depth ≡ below_flag has_children self.old.depth) }
         ensures same { self.new ≡ record self.old { rest = self.new.rest; depth = self.new.depth } }
@@ -246,11 +280,12 @@ impl<'abbrev, R: Reader, A: Allocator> EntriesRaw<'abbrev, R, A> {
 
     /// Reads the attribute of a specification.
     ///
-    /// Refusals: `UnexpectedEof`, `BadUnsignedLeb128`, `BadSignedLeb128`, `UnsupportedAddressSize`, `UnsupportedOffset`,
-    /// `UnsupportedOffsetSize`, `UnknownForm`, `InvalidImplicitConst`.
+    /// Refusals: `UnexpectedEof`, `BadUnsignedLeb128`, `BadSignedLeb128`, `UnsupportedAddressSize`,
+    /// `UnsupportedOffset`, `UnsupportedOffsetSize`, `UnknownForm`, `InvalidImplicitConst`.
     #[inline(never)]
     pub fn read_attribute(&mut self, specification: AttributeSpecification) -> Result<Attribute<R>>
-        ensures value { read (answer_of (map_attribute R.view R.Offset.number) result) self.new.rest ≡ attribute_at R.Offset.limit self.old.encoding specification self.old.rest }
+        ensures value { read (answer_of (map_attribute R.view R.Offset.number) result) self.new.rest
+            ≡ attribute_at R.Offset.limit self.old.encoding specification self.old.rest }
         ensures same { self.new ≡ record self.old { rest = self.new.rest } }
         ensures kept { OnErr result (self.new ≡ self.old) }
     {
@@ -263,7 +298,8 @@ impl<'abbrev, R: Reader, A: Allocator> EntriesRaw<'abbrev, R, A> {
         &mut self,
         specification: AttributeSpecification,
     ) -> Result<Attribute<R>>
-        ensures value { read (answer_of (map_attribute R.view R.Offset.number) result) self.new.rest ≡ attribute_at R.Offset.limit self.old.encoding specification self.old.rest }
+        ensures value { read (answer_of (map_attribute R.view R.Offset.number) result) self.new.rest
+            ≡ attribute_at R.Offset.limit self.old.encoding specification self.old.rest }
         ensures same { self.new ≡ record self.old { rest = self.new.rest } }
         ensures kept { OnErr result (self.new ≡ self.old) }
     {
@@ -275,13 +311,16 @@ impl<'abbrev, R: Reader, A: Allocator> EntriesRaw<'abbrev, R, A> {
 
     /// Passes the attributes of these specifications; those of known sizes are passed together.
     ///
-    /// Refusals, of the first that can't be passed: `UnexpectedEof`, whose place lies between the call's start and the
-    /// input's end, `BadUnsignedLeb128`, `UnsupportedOffset`, `UnknownForm`.
+    /// Refusals, of the first that can't be passed: `UnexpectedEof`, whose place lies between the
+    /// call's start and the input's end, `BadUnsignedLeb128`, `UnsupportedOffset`, `UnknownForm`.
     #[inline(always)]
     pub fn skip_attributes(&mut self, specifications: &[AttributeSpecification]) -> Result<()>
-        ensures value { without_place (read result self.new.rest) ≡ without_place (pass_all R.Offset.limit self.old.encoding specifications.now self.old.rest) }
+        ensures value { without_place (read result self.new.rest)
+            ≡ without_place
+            (pass_all R.Offset.limit self.old.encoding specifications.now self.old.rest) }
         ensures place { IfErr result (NamesPlaceOf self.old.rest) }
-        ensures as_read { PassesAs (read result self.new.rest) (attributes_at R.Offset.limit self.old.encoding specifications.now self.old.rest) }
+        ensures as_read { PassesAs (read result self.new.rest)
+            (attributes_at R.Offset.limit self.old.encoding specifications.now self.old.rest) }
         ensures same { self.new ≡ record self.old { rest = self.new.rest } }
         ensures kept { OnErr result (self.new ≡ self.old) }
     {
@@ -291,8 +330,8 @@ impl<'abbrev, R: Reader, A: Allocator> EntriesRaw<'abbrev, R, A> {
         Ok(())
     }
 
-    /// Reads the attributes of these specifications, in their order, in place of those in `attrs`; room for all is
-    /// made first.
+    /// Reads the attributes of these specifications, in their order, in place of those in `attrs`;
+    /// room for all is made first.
     ///
     /// Refusals: those of `read_attribute`, and `OutOfMemory`; `attrs` is then empty.
     pub fn read_attributes(
@@ -300,7 +339,10 @@ impl<'abbrev, R: Reader, A: Allocator> EntriesRaw<'abbrev, R, A> {
         specifications: &[AttributeSpecification],
         attrs: &mut Vec<Attribute<R>, A>,
     ) -> Result<()>
-        ensures value { UnlessMemory result (read (filled (map (map_attribute R.view R.Offset.number) attrs.new.items) result) self.new.rest ≡ attributes_at R.Offset.limit self.old.encoding specifications.now self.old.rest) }
+        ensures value { UnlessMemory result
+            (read (filled (map (map_attribute R.view R.Offset.number) attrs.new.items) result)
+            self.new.rest ≡ attributes_at R.Offset.limit self.old.encoding specifications.now
+            self.old.rest) }
         ensures none { specifications.now ≡ [] → IsOk result }
         ensures empty { OnErr result (attrs.new.items ≡ []) }
         ensures same { self.new ≡ record self.old { rest = self.new.rest } }
@@ -321,14 +363,16 @@ impl<'abbrev, R: Reader, A: Allocator> EntriesRaw<'abbrev, R, A> {
     }
 }
 
-// The declaration of the entry that is next, or none for a null; where it is refused, the input is left anywhere.
+// The declaration of the entry that is next, or none for a null; where it is refused, the input is
+// left anywhere.
 #[inline(always)]
 #[tactic(auto, unfolding(crate::specs::Entry::abbreviation_at))]
 fn parse_abbreviation<'abbrev, R: Reader, A: Allocator>(
     input: &mut R,
     abbreviations: &'abbrev Abbreviations<A>,
 ) -> Result<Option<&'abbrev Abbreviation<A>>>
-    ensures { read (answer_of option_copied result) (R.view input.new) ≡ abbreviation_at (found abbreviations.now) (R.view input.old) }
+    ensures { read (answer_of option_copied result) (R.view input.new)
+        ≡ abbreviation_at (found abbreviations.now) (R.view input.old) }
 {
     let code = input.read_uleb128()?;
     if code == 0 {
@@ -340,8 +384,8 @@ fn parse_abbreviation<'abbrev, R: Reader, A: Allocator>(
     Ok(Some(abbreviation))
 }
 
-// The attributes of these specifications, in an empty list; where they are refused, the input and the list are left
-// anywhere.
+// The attributes of these specifications, in an empty list; where they are refused, the input and
+// the list are left anywhere.
 #[inline(always)]
 fn parse_attributes<R: Reader, A: Allocator>(
     input: &mut R,
@@ -350,7 +394,10 @@ fn parse_attributes<R: Reader, A: Allocator>(
     attrs: &mut Vec<Attribute<R>, A>,
 ) -> Result<()>
     requires { attrs.old.items ≡ [] }
-    ensures value { UnlessMemory result (read (filled (map (map_attribute R.view R.Offset.number) attrs.new.items) result) (R.view input.new) ≡ attributes_at R.Offset.limit encoding specifications.now (R.view input.old)) }
+    ensures value { UnlessMemory result
+        (read (filled (map (map_attribute R.view R.Offset.number) attrs.new.items) result)
+        (R.view input.new) ≡ attributes_at R.Offset.limit encoding specifications.now
+        (R.view input.old)) }
     ensures none { specifications.now ≡ [] → IsOk result }
 {
     attrs.reserve(specifications.len())?;

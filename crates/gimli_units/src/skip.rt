@@ -2,7 +2,8 @@
 
 ghost use Rattle.std.specs.Prelude.{◌≡◌, IfErr};
 ghost use Rattle.gimli_base.specs.Reading.{read};
-ghost use Rattle.gimli_units.specs.Passing.{pass_direct, pass_at, pass_all, without_place, NamesPlaceOf};
+ghost use Rattle.gimli_units.specs.Passing.{pass_direct, pass_at, pass_all, without_place};
+ghost use Rattle.gimli_units.specs.Passing.{NamesPlaceOf};
 
 use crate::form::{direct_form, uleb128_offset};
 use gimli_base::{
@@ -22,7 +23,8 @@ use gimli_base::{
 // Passes a form that is not indirect; where it is refused, the input is left anywhere.
 #[tactic(auto, unfolding(crate::specs::Passing::pass_direct, gimli_base::specs::Reading::sized_offset_at))]
 fn skip_direct<R: Reader>(input: &mut R, encoding: Encoding, form: DwForm) -> Result<()>
-    ensures { read result (R.view input.new) ≡ pass_direct R.Offset.limit encoding form.0 (R.view input.old) }
+    ensures { read result (R.view input.new)
+        ≡ pass_direct R.Offset.limit encoding form.0 (R.view input.old) }
 {
     match form {
         DW_FORM_implicit_const | DW_FORM_flag_present => input.skip(R::Offset::from_u8(0)),
@@ -93,7 +95,8 @@ fn skip_direct<R: Reader>(input: &mut R, encoding: Encoding, form: DwForm) -> Re
 // Passes a value on a reader of its own; where it is refused, the input is left anywhere.
 #[inline(always)]
 fn skip_value<R: Reader>(input: &mut R, encoding: Encoding, form: DwForm) -> Result<()>
-    ensures { read result (R.view input.new) ≡ pass_at R.Offset.limit encoding form.0 (R.view input.old) }
+    ensures { read result (R.view input.new)
+        ≡ pass_at R.Offset.limit encoding form.0 (R.view input.old) }
 {
     let mut rest = input.copy();
     skip_rare(&mut rest, encoding, form)?;
@@ -105,21 +108,23 @@ fn skip_value<R: Reader>(input: &mut R, encoding: Encoding, form: DwForm) -> Res
 #[inline(never)]
 #[tactic(auto, unfolding(crate::specs::Passing::pass_at))]
 fn skip_rare<R: Reader>(input: &mut R, encoding: Encoding, form: DwForm) -> Result<()>
-    ensures { read result (R.view input.new) ≡ pass_at R.Offset.limit encoding form.0 (R.view input.old) }
+    ensures { read result (R.view input.new)
+        ≡ pass_at R.Offset.limit encoding form.0 (R.view input.old) }
 {
     let form = direct_form(input, form)?;
     skip_direct(input, encoding, form)
 }
 
-/// Passes the values of these specifications, those of known sizes together; where one is refused, the input is left
-/// anywhere.
+/// Passes the values of these specifications, those of known sizes together; where one is refused,
+/// the input is left anywhere.
 #[inline(always)]
 pub(crate) fn skip_all<R: Reader>(
     input: &mut R,
     encoding: Encoding,
     specifications: &[AttributeSpecification],
 ) -> Result<()>
-    ensures value { without_place (read result (R.view input.new)) ≡ without_place (pass_all R.Offset.limit encoding specifications.now (R.view input.old)) }
+    ensures value { without_place (read result (R.view input.new))
+        ≡ without_place (pass_all R.Offset.limit encoding specifications.now (R.view input.old)) }
     ensures place { IfErr result (NamesPlaceOf (R.view input.old)) }
 {
     let mut pending = R::Offset::from_u8(0);

@@ -1,6 +1,8 @@
 //! The entries of a unit as a tree.
 
-ghost use Rattle.std.specs.Prelude.{◌≡◌, ℕ, ◌+◌, ◌-◌, ◌<◌, ◌≤◌, ◌^◌, length, unsigned_abs, Ok, Err, Some, None, false, true, pos, IfOk, IfErr, IfSome, IsOk, OnErr, is_some, [], ◌∷◌};
+ghost use Rattle.std.specs.Prelude.{◌≡◌, ℕ, ◌+◌, ◌-◌, ◌<◌, ◌≤◌, ◌^◌, length, unsigned_abs, Ok, Err};
+ghost use Rattle.std.specs.Prelude.{Some, None, false, true, pos, IfOk, IfErr, IfSome, IsOk, OnErr};
+ghost use Rattle.std.specs.Prelude.{is_some, [], ◌∷◌};
 ghost use Rattle.std.specs.Option.{option_map};
 ghost use Rattle.gimli_base.specs.declared.error.Error.{Error as SpecError};
 ghost use Rattle.gimli_base.specs.declared.error.Error.TheVariants.{OutOfMemory};
@@ -8,9 +10,14 @@ ghost use Rattle.gimli_base.specs.Offset.{answer_of};
 ghost use Rattle.gimli_base.specs.Reading.{UnlessMemory};
 ghost use Rattle.gimli_units.specs.Entry.{entry_of, is_null};
 ghost use Rattle.gimli_units.specs.CursorPlace.{first_of_rows};
-ghost use Rattle.gimli_units.specs.CursorMoves.{CursorView, rows_of, rows_from, view_from, followed_to, one_if_left, IsHonestFor, IsTrueEntry, IsRefused, IsOver, AreFewReads};
+ghost use Rattle.gimli_units.specs.CursorMoves.{CursorView, rows_of, rows_from, view_from};
+ghost use Rattle.gimli_units.specs.CursorMoves.{followed_to, one_if_left, IsHonestFor, IsTrueEntry};
+ghost use Rattle.gimli_units.specs.CursorMoves.{IsRefused, IsOver, AreFewReads};
 ghost use Rattle.gimli_units.specs.TreePlace.{children_of, to_root, to_next, found_in};
-ghost use Rattle.gimli_units.specs.TreeMoves.{TreeView, node_at, list_of, on_node, in_lists, before_root, tree_from, told_root, told_next, IsTree, IsNoRoot, HasBegun, IsRefusedWithin, HasGoneOn, IsInside};
+ghost use Rattle.gimli_units.specs.TreeMoves.{TreeView, node_at, list_of, on_node, in_lists};
+ghost use Rattle.gimli_units.specs.TreeMoves.{before_root, tree_from, told_root, told_next, IsTree};
+ghost use Rattle.gimli_units.specs.TreeMoves.{IsNoRoot, HasBegun, IsRefusedWithin, HasGoneOn};
+ghost use Rattle.gimli_units.specs.TreeMoves.{IsInside};
 ghost use Rattle.gimli_units.specs.UnitHeld.{unit_view};
 
 use crate::{DebuggingInformationEntry, EntriesCursor, EntriesRaw, UnitHeader, UnitOffset};
@@ -18,11 +25,12 @@ use gimli_base::{Abbreviations, Error, Reader, ReaderOffset, Result};
 use std::alloc::Allocator;
 use std::marker::Model;
 
-/// The entries of a unit as a tree: an entry with children has those below it that come before the null that closes their
-/// list (DWARF 5, 2.3).
+/// The entries of a unit as a tree: an entry with children has those below it that come before the
+/// null that closes their list (DWARF 5, 2.3).
 ///
-/// Nodes and lists of children lend the one tree for writing, so that one path from the root is walked at a time. A walk
-/// that goes down by nested calls takes as much of the machine's stack as the entries are deep.
+/// Nodes and lists of children lend the one tree for writing, so that one path from the root is
+/// walked at a time. A walk that goes down by nested calls takes as much of the machine's stack as
+/// the entries are deep.
 #[derive(Drop)]
 #[derive_where(Debug)]
 pub struct EntriesTree<'abbrev, R: Reader, A: Allocator> {
@@ -43,15 +51,17 @@ impl<'abbrev, R: Reader, A: Allocator> Model for EntriesTree<'abbrev, R, A> {
 impl<R: Reader> UnitHeader<R> {
     ghost use Rattle.gimli_units.specs.Unit.{UnitView};
 
-    /// The entries from an offset on as a tree, or those from the first; sibling references are followed. Refusal:
-    /// `OffsetOutOfBounds`, also without an offset where the unit has no bytes of entries.
+    /// The entries from an offset on as a tree, or those from the first; sibling references are
+    /// followed. Refusal: `OffsetOutOfBounds`, also without an offset where the unit has no bytes
+    /// of entries.
     pub fn entries_tree<'abbrev, A: Allocator + Copy>(
         &self,
         alloc: A,
         abbreviations: &'abbrev Abbreviations<A>,
         offset: Option<UnitOffset<R::Offset>>,
     ) -> Result<EntriesTree<'abbrev, R, A>>
-        ensures { result ≡ tree_from (unit_view self.now) abbreviations.now (option_map (λ o. R.Offset.number o.0) offset) }
+        ensures { result ≡ tree_from (unit_view self.now) abbreviations.now
+            (option_map (λ o. R.Offset.number o.0) offset) }
     {
         let start = self.entries_raw(abbreviations, offset)?;
         Ok(EntriesTree::new(alloc, start))
@@ -71,8 +81,8 @@ impl<'abbrev, R: Reader, A: Allocator + Copy> EntriesTree<'abbrev, R, A> {
         EntriesTree { start, cursor }
     }
 
-    /// A tree that stands where this one stands. Refusal: `OutOfMemory`, only where the entry that was read last has
-    /// attributes.
+    /// A tree that stands where this one stands. Refusal: `OutOfMemory`, only where the entry that
+    /// was read last has attributes.
     pub fn try_clone(&self, alloc: A) -> Result<Self>
         ensures value { IfOk result (λ t. t ≡ self.now) }
         ensures refusal { IfErr result (λ e. e ≡ OutOfMemory) }
@@ -105,11 +115,13 @@ impl<'abbrev, R: Reader, A: Allocator> EntriesTree<'abbrev, R, A> {
         self.cursor.last()
     }
 
-    /// The depth of what is read next: that of the children of the entry that was read last, where it has any.
+    /// The depth of what is read next: that of the children of the entry that was read last, where
+    /// it has any.
     #[inline]
     pub fn next_depth(&self) -> isize
         ensures depth { result ≡ self.now.cursor.raw.depth }
-        ensures children { is_null self.now.cursor.entry ≡ false → list_of self.now.cursor.entry.has_children result ≡ children_of (node_at self.now) }
+        ensures children { is_null self.now.cursor.entry ≡ false
+            → list_of self.now.cursor.entry.has_children result ≡ children_of (node_at self.now) }
         ensures shallow { unsigned_abs result < 2 ^ 63 }
         ensures tree { IsTree self.now }
     {
@@ -131,8 +143,9 @@ impl<'abbrev, R: Reader, A: Allocator> EntriesTree<'abbrev, R, A> {
         Ok(())
     }
 
-    /// Goes to the next entry of a depth, as `EntriesTreeIter::next` does, without lending the tree; the depth is not the
-    /// least of its type. Answers false at a null of that depth, and at the end of the bytes.
+    /// Goes to the next entry of a depth, as `EntriesTreeIter::next` does, without lending the
+    /// tree; the depth is not the least of its type. Answers false at a null of that depth, and at
+    /// the end of the bytes.
     pub fn go_to_next(&mut self, depth: isize) -> Result<bool>
         requires { unsigned_abs depth < 2 ^ 63 }
         ensures gone_on { HasGoneOn R.Offset.limit depth self.old result self.new }
@@ -145,7 +158,8 @@ impl<'abbrev, R: Reader, A: Allocator> EntriesTree<'abbrev, R, A> {
     }
 }
 
-/// A node of a tree: the entry that was read last. Whoever holds it may take its children's list, or let it go.
+/// A node of a tree: the entry that was read last. Whoever holds it may take its children's list,
+/// or let it go.
 #[derive(Drop)]
 #[derive_where(Debug)]
 pub struct EntriesTreeNode<'abbrev, 'tree, R: Reader, A: Allocator> {
@@ -153,8 +167,8 @@ pub struct EntriesTreeNode<'abbrev, 'tree, R: Reader, A: Allocator> {
     tree: &'tree mut EntriesTree<'abbrev, R, A>,
 }
 
-/// The children of a node of a tree, one behind the other. Whatever was left unread below one does not change which comes
-/// next, where the sibling references that are followed are honest.
+/// The children of a node of a tree, one behind the other. Whatever was left unread below one does
+/// not change which comes next, where the sibling references that are followed are honest.
 #[derive(Drop)]
 #[derive_where(Debug)]
 pub struct EntriesTreeIter<'abbrev, 'tree, R: Reader, A: Allocator> {
@@ -162,20 +176,28 @@ pub struct EntriesTreeIter<'abbrev, 'tree, R: Reader, A: Allocator> {
     tree: &'tree mut EntriesTree<'abbrev, R, A>,
     // the depth of the children
     depth: isize,
-    // whether the list is open: it is closed behind its last child, and from the first where no children follow
+    // whether the list is open: it is closed behind its last child, and from the first where no
+    // children follow
     open: bool,
 }
 
 impl<'abbrev, R: Reader, A: Allocator> EntriesTree<'abbrev, R, A> {
-    /// Goes to the root, the first entry, at depth 0; whatever was walked before, the tree begins anew.
+    /// Goes to the root, the first entry, at depth 0; whatever was walked before, the tree begins
+    /// anew.
     ///
-    /// Refusals: those of `EntriesRaw::read_entry`, and `NoEntryAtGivenOffset` at a null. The tree is then ready for another
-    /// `root`.
+    /// Refusals: those of `EntriesRaw::read_entry`, and `NoEntryAtGivenOffset` at a null. The tree
+    /// is then ready for another `root`.
     pub fn root<'me>(&'me mut self) -> Result<EntriesTreeNode<'abbrev, 'me, R, A>>
-        ensures same_reference { IfOk result (λ node. node.tree.ghost_name ≡ self.entry.ghost_name) }
-        ensures answers { UnlessMemory result (told_root (answer_of (λ node. node.tree.now) result) ≡ (to_root self.old.start.end (rows_of R.Offset.limit self.old.start)).told) }
-        ensures place { IfOk result (λ node. on_node R.Offset.limit node.tree.now [] ≡ (to_root self.old.start.end (rows_of R.Offset.limit self.old.start)).place) }
-        ensures begun { IfOk result (λ node. HasBegun R.Offset.limit self.old (Ok tt) node.tree.now) }
+        ensures same_reference { IfOk result
+            (λ node. node.tree.ghost_name ≡ self.entry.ghost_name) }
+        ensures answers { UnlessMemory result
+            (told_root (answer_of (λ node. node.tree.now) result)
+            ≡ (to_root self.old.start.end (rows_of R.Offset.limit self.old.start)).told) }
+        ensures place { IfOk result
+            (λ node. on_node R.Offset.limit node.tree.now []
+            ≡ (to_root self.old.start.end (rows_of R.Offset.limit self.old.start)).place) }
+        ensures begun { IfOk result
+            (λ node. HasBegun R.Offset.limit self.old (Ok tt) node.tree.now) }
         ensures refused { IfErr result (λ e. IsNoRoot R.Offset.limit self.old.start e) }
         ensures reads { IfOk result (λ node. node.tree.now.cursor.reads ≡ 1) }
     {
@@ -188,7 +210,8 @@ impl<'abbrev, 'tree, R: Reader, A: Allocator> EntriesTreeNode<'abbrev, 'tree, R,
     /// The entry.
     #[inline]
     pub fn entry(&self) -> &DebuggingInformationEntry<R, A>
-        ensures entry { entry_of R.view R.Offset.number result.now ≡ self.now.tree.now.cursor.entry }
+        ensures entry { entry_of R.view R.Offset.number result.now
+            ≡ self.now.tree.now.cursor.entry }
         ensures offset { R.Offset.number result.now.offset.0 ≡ self.now.tree.now.cursor.offset }
         ensures depth { result.now.depth ≡ self.now.tree.now.cursor.depth }
     {
@@ -209,8 +232,10 @@ impl<'abbrev, 'tree, R: Reader, A: Allocator> EntriesTreeNode<'abbrev, 'tree, R,
         ensures same_reference { result.tree.ghost_name ≡ self.entry.tree.ghost_name }
         ensures same_tree { result.tree.now ≡ self.entry.tree.now }
         ensures open { result.open ≡ self.entry.tree.now.cursor.entry.has_children }
-        ensures children { is_null self.entry.tree.now.cursor.entry ≡ false → list_of result.open result.depth ≡ children_of (node_at self.entry.tree.now) }
-        ensures inside { is_null self.entry.tree.now.cursor.entry ≡ false → result.open ≡ true → IsInside result.depth result.tree.now }
+        ensures children { is_null self.entry.tree.now.cursor.entry ≡ false
+            → list_of result.open result.depth ≡ children_of (node_at self.entry.tree.now) }
+        ensures inside { is_null self.entry.tree.now.cursor.entry ≡ false → result.open ≡ true
+            → IsInside result.depth result.tree.now }
         ensures shallow { unsigned_abs result.depth < 2 ^ 63 }
         ensures tree { IsTree result.tree.now }
     {
@@ -235,19 +260,25 @@ impl<'abbrev, 'tree, R: Reader, A: Allocator> EntriesTreeIter<'abbrev, 'tree, R,
         tree.reads()
     }
 
-    /// Goes to the next child, as `next` does, without lending it: `entry` and `node` are then the child's. Answers false at
-    /// the null that closes the list, at the end of the bytes, and always when the list is closed.
+    /// Goes to the next child, as `next` does, without lending it: `entry` and `node` are then the
+    /// child's. Answers false at the null that closes the list, at the end of the bytes, and always
+    /// when the list is closed.
     ///
-    /// Refusals: those of `EntriesRaw::read_entry`. Every list of the tree is then at its end, until `root` is asked for.
+    /// Refusals: those of `EntriesRaw::read_entry`. Every list of the tree is then at its end,
+    /// until `root` is asked for.
     pub fn advance(&mut self) -> Result<bool>
         ensures same_reference { self.new.tree.ghost_name ≡ self.old.tree.ghost_name }
-        ensures gone_on { self.old.open ≡ true → unsigned_abs self.old.depth < 2 ^ 63 → HasGoneOn R.Offset.limit self.old.depth self.old.tree.now result self.new.tree.now }
-        ensures moved { (result ≡ Ok false → ⊥) → (self.old.open ≡ true) × HasGoneOn R.Offset.limit self.old.depth self.old.tree.now result self.new.tree.now }
+        ensures gone_on { self.old.open ≡ true → unsigned_abs self.old.depth < 2 ^ 63
+            → HasGoneOn R.Offset.limit self.old.depth self.old.tree.now result self.new.tree.now }
+        ensures moved { (result ≡ Ok false → ⊥)
+            → (self.old.open ≡ true)
+            × HasGoneOn R.Offset.limit self.old.depth self.old.tree.now result self.new.tree.now }
         ensures depth { self.new.depth ≡ self.old.depth }
         ensures opened { result ≡ Ok true → self.new.open ≡ true }
         ensures closes { result ≡ Ok false → self.new.open ≡ false }
         ensures stays { OnErr result (self.new.open ≡ true) }
-        ensures closed { self.old.open ≡ false → (result ≡ Ok false) × (self.new.tree.now ≡ self.old.tree.now) }
+        ensures closed { self.old.open ≡ false
+            → (result ≡ Ok false) × (self.new.tree.now ≡ self.old.tree.now) }
         ensures over { IsOver self.old.tree.now.cursor → result ≡ Ok false }
     {
         if !self.open {
@@ -267,7 +298,8 @@ impl<'abbrev, 'tree, R: Reader, A: Allocator> EntriesTreeIter<'abbrev, 'tree, R,
 
     /// The entry that was read last: behind an `advance` that answered true, the child.
     pub fn entry(&self) -> &DebuggingInformationEntry<R, A>
-        ensures entry { entry_of R.view R.Offset.number result.now ≡ self.now.tree.now.cursor.entry }
+        ensures entry { entry_of R.view R.Offset.number result.now
+            ≡ self.now.tree.now.cursor.entry }
         ensures offset { R.Offset.number result.now.offset.0 ≡ self.now.tree.now.cursor.offset }
         ensures depth { result.now.depth ≡ self.now.tree.now.cursor.depth }
     {
@@ -284,26 +316,75 @@ impl<'abbrev, 'tree, R: Reader, A: Allocator> EntriesTreeIter<'abbrev, 'tree, R,
         }
     }
 
-    /// The next child: the next entry of the list's depth, before the null that closes the list. Answers none there, at the
-    /// end of the bytes, and always when the list is closed. No entry is so deep as the least number of the depth's type.
+    /// The next child: the next entry of the list's depth, before the null that closes the list.
+    /// Answers none there, at the end of the bytes, and always when the list is closed. No entry is
+    /// so deep as the least number of the depth's type.
     ///
-    /// An entry whose `DW_AT_sibling` leads on in the unit is left for where it leads, with what is below it unread. So the
-    /// children are those of plain walking where these references are honest; where they are not, a child is still an entry
-    /// of the unit, of the list's depth.
+    /// An entry whose `DW_AT_sibling` leads on in the unit is left for where it leads, with what is
+    /// below it unread. So the children are those of plain walking where these references are
+    /// honest; where they are not, a child is still an entry of the unit, of the list's depth.
     ///
-    /// Refusals: those of `EntriesRaw::read_entry`. Every list of the tree is then at its end, until `root` is asked for.
+    /// Refusals: those of `EntriesRaw::read_entry`. Every list of the tree is then at its end,
+    /// until `root` is asked for.
     pub fn next<'me>(&'me mut self) -> Result<Option<EntriesTreeNode<'abbrev, 'me, R, A>>>
-        ensures answers { unsigned_abs self.old.depth < 2 ^ 63 → IsHonestFor R.Offset.limit self.old.depth self.old.tree.now.cursor → UnlessMemory result (told_next (answer_of (option_map (λ node. node.tree.now)) result) ≡ (to_next self.old.tree.now.start.end (in_lists R.Offset.limit self.old.tree.now (list_of self.old.open self.old.depth ∷ []))).told) }
-        ensures place { IsHonestFor R.Offset.limit self.old.depth self.old.tree.now.cursor → IfOk result (λ o. IfSome o (λ node. on_node R.Offset.limit node.tree.now (list_of self.old.open self.old.depth ∷ []) ≡ (to_next self.old.tree.now.start.end (in_lists R.Offset.limit self.old.tree.now (list_of self.old.open self.old.depth ∷ []))).place)) }
-        ensures true_child { IfOk result (λ o. IfSome o (λ node. IsTrueEntry R.Offset.limit self.old.tree.now.cursor node.tree.now.cursor × (is_null node.tree.now.cursor.entry ≡ false) × (node.tree.now.cursor.depth ≡ self.old.depth))) }
-        ensures refused { IfErr result (λ e. (last : CursorView) × IsRefused R.Offset.limit self.old.tree.now.cursor e last × IsRefusedWithin R.Offset.limit self.old.depth self.old.tree.now.cursor last) }
-        ensures taken { unsigned_abs self.old.depth < 2 ^ 63 → self.old.open ≡ true → self.old.tree.now.cursor.depth ≡ self.old.depth → (t : ℕ) → followed_to self.old.tree.now.cursor ≡ Some t → UnlessMemory result (told_next (answer_of (option_map (λ node. node.tree.now)) result) ≡ (found_in self.old.depth [] (first_of_rows self.old.tree.now.cursor.raw.end self.old.depth self.old.tree.now.cursor.offset (rows_from R.Offset.limit self.old.tree.now.cursor.raw t self.old.depth))).told) }
-        ensures past { IfOk result (λ o. IfSome o (λ node. is_null self.old.tree.now.cursor.entry ≡ false → self.old.tree.now.cursor.offset < node.tree.now.cursor.offset)) }
-        ensures one_read { self.old.tree.now.cursor.depth ≡ self.old.depth → (t : ℕ) → followed_to self.old.tree.now.cursor ≡ Some t → IfOk result (λ o. IfSome o (λ node. node.tree.now.cursor.reads ≡ self.old.tree.now.cursor.reads + one_if_left (view_from self.old.tree.now.cursor.raw t))) }
-        ensures few { IfOk result (λ o. IfSome o (λ node. AreFewReads self.old.tree.now.cursor node.tree.now.cursor)) }
-        ensures gone_on { IfOk result (λ o. IfSome o (λ node. HasGoneOn R.Offset.limit self.old.depth self.old.tree.now (Ok true) node.tree.now)) }
-        ensures inside { unsigned_abs self.old.depth < 2 ^ 63 → IfOk result (λ o. IfSome o (λ node. IsInside self.old.depth node.tree.now)) }
-        ensures as_advance { let gone_on = HasGoneOn R.Offset.limit self.old.depth self.old.tree.now in
+        ensures answers { unsigned_abs self.old.depth < 2 ^ 63
+            → IsHonestFor R.Offset.limit self.old.depth self.old.tree.now.cursor
+            → UnlessMemory result
+            (told_next (answer_of (option_map (λ node. node.tree.now)) result)
+            ≡ (to_next self.old.tree.now.start.end
+            (in_lists R.Offset.limit self.old.tree.now
+            (list_of self.old.open self.old.depth ∷ []))).told) }
+        ensures place { IsHonestFor R.Offset.limit self.old.depth self.old.tree.now.cursor
+            → IfOk result
+            (λ o.
+            IfSome o
+            (λ node. on_node R.Offset.limit node.tree.now
+            (list_of self.old.open self.old.depth ∷ [])
+            ≡ (to_next self.old.tree.now.start.end
+            (in_lists R.Offset.limit self.old.tree.now
+            (list_of self.old.open self.old.depth ∷ []))).place)) }
+        ensures true_child { IfOk result
+            (λ o.
+            IfSome o
+            (λ node. IsTrueEntry R.Offset.limit self.old.tree.now.cursor node.tree.now.cursor
+            × (is_null node.tree.now.cursor.entry ≡ false)
+            × (node.tree.now.cursor.depth ≡ self.old.depth))) }
+        ensures refused { IfErr result
+            (λ e. (last : CursorView) × IsRefused R.Offset.limit self.old.tree.now.cursor e last
+            × IsRefusedWithin R.Offset.limit self.old.depth self.old.tree.now.cursor last) }
+        ensures taken { unsigned_abs self.old.depth < 2 ^ 63 → self.old.open ≡ true
+            → self.old.tree.now.cursor.depth ≡ self.old.depth → (t : ℕ)
+            → followed_to self.old.tree.now.cursor ≡ Some t
+            → UnlessMemory result
+            (told_next (answer_of (option_map (λ node. node.tree.now)) result)
+            ≡ (found_in self.old.depth []
+            (first_of_rows self.old.tree.now.cursor.raw.end self.old.depth
+            self.old.tree.now.cursor.offset
+            (rows_from R.Offset.limit self.old.tree.now.cursor.raw t self.old.depth))).told) }
+        ensures past { IfOk result
+            (λ o.
+            IfSome o
+            (λ node. is_null self.old.tree.now.cursor.entry ≡ false
+            → self.old.tree.now.cursor.offset < node.tree.now.cursor.offset)) }
+        ensures one_read { self.old.tree.now.cursor.depth ≡ self.old.depth → (t : ℕ)
+            → followed_to self.old.tree.now.cursor ≡ Some t
+            → IfOk result
+            (λ o.
+            IfSome o
+            (λ node. node.tree.now.cursor.reads
+            ≡ self.old.tree.now.cursor.reads
+            + one_if_left (view_from self.old.tree.now.cursor.raw t))) }
+        ensures few { IfOk result
+            (λ o. IfSome o (λ node. AreFewReads self.old.tree.now.cursor node.tree.now.cursor)) }
+        ensures gone_on { IfOk result
+            (λ o.
+            IfSome o
+            (λ node. HasGoneOn R.Offset.limit self.old.depth self.old.tree.now (Ok true)
+            node.tree.now)) }
+        ensures inside { unsigned_abs self.old.depth < 2 ^ 63
+            → IfOk result (λ o. IfSome o (λ node. IsInside self.old.depth node.tree.now)) }
+        ensures as_advance { let gone_on =
+            HasGoneOn R.Offset.limit self.old.depth self.old.tree.now in
             self.old.open ≡ true → unsigned_abs self.old.depth < 2 ^ 63
             → (last : TreeView) × gone_on (answer_of is_some result) last }
         ensures closed { self.old.open ≡ false → result ≡ Ok None }

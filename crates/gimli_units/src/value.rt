@@ -119,7 +119,8 @@ impl<R: Reader> AttributeValue<R> {
 
     // Where it leads in its unit, if it is a reference there.
     pub(crate) fn reference(&self) -> Option<UnitOffset<R::Offset>>
-        ensures { option_map (λ o. R.Offset.number o.0) result ≡ reference (map_value R.view R.Offset.number self.now) }
+        ensures { option_map (λ o. R.Offset.number o.0) result
+            ≡ reference (map_value R.view R.Offset.number self.now) }
     {
         match self {
             AttributeValue::UnitRef(offset) => Some(*offset),
@@ -130,7 +131,8 @@ impl<R: Reader> AttributeValue<R> {
     /// The same value, its readers copied.
     #[inline]
     pub fn copy(&self) -> AttributeValue<R>
-        ensures { map_value R.view R.Offset.number result ≡ map_value R.view R.Offset.number self.now }
+        ensures { map_value R.view R.Offset.number result
+            ≡ map_value R.view R.Offset.number self.now }
     {
         match self {
             AttributeValue::Addr(value) => AttributeValue::Addr(*value),

@@ -1,8 +1,27 @@
 -- The text of a unit whose declarations are refused.
-use Rattle.std.proofs.Common.{◌≡◌, ℕ, pos, Bool, true, false, List, [], ◌∷◌, sym, ap, Option, Result, Ok, Err, refl, arith, length, ◌⊎◌, inl, inr}
+use Rattle.std.proofs.Common.{◌≡◌, ℕ, pos, Bool, true, false, List, [], ◌∷◌, sym, ap, Option}
+use Rattle.std.proofs.Common.{Result, Ok, Err, refl, arith, length, ◌⊎◌, inl, inr}
 use Rattle.std.specs.Io.KnownBytes.{Appends}
 use Rattle.gimli_base.specs.declared.error.Error.{Error}
-use Rattle.gimli_base.specs.declared.error.Error.TheVariants.{UnexpectedEof, BadUnsignedLeb128, BadSignedLeb128, UnknownReservedLength, UnknownVersion, UnknownUnitType, UnsupportedAddressSize, UnsupportedSegmentSize, UnsupportedOffset, UnsupportedOffsetSize, OffsetOutOfBounds, NoEntryAtGivenOffset, InvalidAbbreviationCode, UnknownForm, InvalidImplicitConst, UnknownRangeListsEntry, UnknownLocListsEntry, AddressOverflow, AbbreviationTagZero, InvalidAbbreviationChildren, AttributeNameZero, AttributeFormZero, DuplicateAbbreviationCode, OutOfMemory}
+use Rattle.gimli_base.specs.declared.error.Error.TheVariants.{UnexpectedEof, BadUnsignedLeb128}
+use Rattle.gimli_base.specs.declared.error.Error.TheVariants.{BadSignedLeb128}
+use Rattle.gimli_base.specs.declared.error.Error.TheVariants.{UnknownReservedLength, UnknownVersion}
+use Rattle.gimli_base.specs.declared.error.Error.TheVariants.{UnknownUnitType}
+use Rattle.gimli_base.specs.declared.error.Error.TheVariants.{UnsupportedAddressSize}
+use Rattle.gimli_base.specs.declared.error.Error.TheVariants.{UnsupportedSegmentSize}
+use Rattle.gimli_base.specs.declared.error.Error.TheVariants.{UnsupportedOffset}
+use Rattle.gimli_base.specs.declared.error.Error.TheVariants.{UnsupportedOffsetSize}
+use Rattle.gimli_base.specs.declared.error.Error.TheVariants.{OffsetOutOfBounds}
+use Rattle.gimli_base.specs.declared.error.Error.TheVariants.{NoEntryAtGivenOffset}
+use Rattle.gimli_base.specs.declared.error.Error.TheVariants.{InvalidAbbreviationCode, UnknownForm}
+use Rattle.gimli_base.specs.declared.error.Error.TheVariants.{InvalidImplicitConst}
+use Rattle.gimli_base.specs.declared.error.Error.TheVariants.{UnknownRangeListsEntry}
+use Rattle.gimli_base.specs.declared.error.Error.TheVariants.{UnknownLocListsEntry, AddressOverflow}
+use Rattle.gimli_base.specs.declared.error.Error.TheVariants.{AbbreviationTagZero}
+use Rattle.gimli_base.specs.declared.error.Error.TheVariants.{InvalidAbbreviationChildren}
+use Rattle.gimli_base.specs.declared.error.Error.TheVariants.{AttributeNameZero, AttributeFormZero}
+use Rattle.gimli_base.specs.declared.error.Error.TheVariants.{DuplicateAbbreviationCode}
+use Rattle.gimli_base.specs.declared.error.Error.TheVariants.{OutOfMemory}
 use Rattle.gimli_base.specs.Refusal.{number_of}
 use Rattle.gimli_base.specs.Abbreviations.{Map}
 use Rattle.gimli_units.specs.CursorPlace.{Place}
@@ -12,7 +31,8 @@ use Rattle.gimli_walk.specs.declared.mode.Mode.TheVariants.{Rows, Check, Cursor,
 use Rattle.gimli_walk.proofs.AnswerLines.{if_ok}
 use Rattle.std.specs.Prelude.{IfOk}
 use Rattle.gimli_walk.specs.Lines.{Text, error_line, memory_line}
-use Rattle.gimli_walk.specs.Text.{Wrote, WroteText, wrote, no_line, declared_text, mode_text, IsHonestMode, IsHonestDeclared, WroteTrueMode, WroteTrueDeclared}
+use Rattle.gimli_walk.specs.Text.{Wrote, WroteText, wrote, no_line, declared_text, mode_text}
+use Rattle.gimli_walk.specs.Text.{IsHonestMode, IsHonestDeclared, WroteTrueMode, WroteTrueDeclared}
 use Rattle.gimli_walk.specs.declared.cursor.CursorStep.{CursorStep}
 use Rattle.gimli_units.specs.UnitRows.{unit_rows_at}
 use Rattle.gimli_walk.specs.Cursors.{start_of}
@@ -48,46 +68,78 @@ memory_or_not DuplicateAbbreviationCode = inr (λ h. cc)
 memory_or_not OutOfMemory = inl refl
 
 -- the line of a refusal, be it that of memory
-pub undeclared : (old new : Option (List ℕ)) (text : UnitView → Map → Text) (u : UnitView) (m : Result Map Error) (e : Error)
-    → ((e ≡ OutOfMemory → ⊥) → Err e ≡ m) → Appends old new (error_line (number_of e)) → WroteText old new (declared_text text u m) 1
+pub undeclared : (old new : Option (List ℕ)) (text : UnitView → Map → Text) (u : UnitView)
+    (m : Result Map Error) (e : Error)
+    → ((e ≡ OutOfMemory → ⊥) → Err e ≡ m) → Appends old new (error_line (number_of e))
+    → WroteText old new (declared_text text u m) 1
 undeclared old new text u m e refused h = elim (memory_or_not e) [
   | inl memory ↦ memory_only (declared_text text u m).lines refl (rw memory at h)
   | inr other ↦ wrote (rw (← refused other) (Wrote-only old new (error_line (number_of e)) 1 h))
 ]
   where
-    memory_only : (lines : List (List ℕ)) → lines ≡ (declared_text text u m).lines → Appends old new memory_line → WroteText old new (declared_text text u m) 1
+    memory_only : (lines : List (List ℕ)) → lines ≡ (declared_text text u m).lines
+        → Appends old new memory_line → WroteText old new (declared_text text u m) 1
     memory_only [] is k = no_line (sym is) k refl
-    memory_only (line ∷ rest) is k = wrote (Wrote-memory old new (declared_text text u m) (let some = ap length is in omega (arith, some)) k)
+    memory_only (line ∷ rest) is k =
+        wrote
+        (Wrote-memory old new (declared_text text u m)
+        (let some = ap length is in omega (arith, some)) k)
 
 -- the text of a unit whose declarations were read
-pub walked_declared : {E : Type 0} → (limit : ℕ) (mode : Mode) (u : UnitView) (declared : Map) (m : Result Map Error) (old new : Option (List ℕ)) (r : Result ℕ E) → Ok declared ≡ m
-    → IsHonestDeclared limit mode u m → (IsHonestMode limit mode u declared → IfOk r (λ status. Wrote old new (mode_text limit mode u declared) status))
+pub walked_declared : {E : Type 0}
+    → (limit : ℕ) (mode : Mode) (u : UnitView) (declared : Map) (m : Result Map Error)
+    (old new : Option (List ℕ)) (r : Result ℕ E) → Ok declared ≡ m
+    → IsHonestDeclared limit mode u m
+    → (IsHonestMode limit mode u declared
+    → IfOk r (λ status. Wrote old new (mode_text limit mode u declared) status))
     → IfOk r (λ status. WroteText old new (declared_text (mode_text limit mode) u m) status)
 walked_declared limit mode u declared m old new r is h walked =
     let honest = rw (← is) at h in
     rw (← is) (if_ok r (λ status w. wrote w) (walked honest))
 
 -- what is said of all answers holds where there are none
-no_steps : (limit : ℕ) (u : UnitView) (declared : Map) (follows : Bool) (p : Place) (steps : List CursorStep) → AreStepped limit u declared follows p steps [] × AreTaken limit u declared steps []
+no_steps : (limit : ℕ) (u : UnitView) (declared : Map) (follows : Bool) (p : Place)
+    (steps : List CursorStep)
+    → AreStepped limit u declared follows p steps [] × AreTaken limit u declared steps []
 no_steps limit u declared follows p [] = (tt, tt)
 no_steps limit u declared follows p (s ∷ steps) = (tt, tt)
 
 -- no answer is told where the declarations are refused, be it for want of memory
-pub undeclared_true : (limit : ℕ) (mode : Mode) (u : UnitView) (m : Result Map Error) (e : Error) (old new : Option (List ℕ)) → ((e ≡ OutOfMemory → ⊥) → Err e ≡ m)
+pub undeclared_true : (limit : ℕ) (mode : Mode) (u : UnitView) (m : Result Map Error) (e : Error)
+    (old new : Option (List ℕ)) → ((e ≡ OutOfMemory → ⊥) → Err e ≡ m)
     → Appends old new (error_line (number_of e)) → WroteTrueDeclared limit mode u m old new 1
 undeclared_true limit mode u (Err x) e old new refused h = tt
 undeclared_true limit mode u (Ok declared) e old new refused h = elim (memory_or_not e) [
   | inl memory ↦ told mode (rw memory at h)
-  | inr other ↦ absurd (let k : ◌≡◌ {A = Result Map Error} (Err e) (Ok declared) = refused other in cc)
+  | inr other ↦
+      absurd (let k : ◌≡◌ {A = Result Map Error} (Err e) (Ok declared) = refused other in cc)
 ]
   where
     told : (x : Mode) → Appends old new memory_line → WroteTrueMode limit x u declared old new 1
     told Rows k = tt
     told Check k = tt
     told (Cursor steps) k =
-        let none = no_steps limit u declared true (start_of (unit_rows_at limit u declared (pos 0) u.entries)) steps.now in
-        record { all = []; stopped = true; count = inr refl; are_true = tt; are_stepped = none.0; are_taken = λ f. none.1; written = (k, refl) }
+        let none = no_steps limit u declared true
+        (start_of (unit_rows_at limit u declared (pos 0) u.entries)) steps.now in
+        record {
+          all = [];
+          stopped = true;
+          count = inr refl;
+          are_true = tt;
+          are_stepped = none.0;
+          are_taken = λ f. none.1;
+          written = (k, refl);
+        }
     told (Plain steps) k =
-        let none = no_steps limit u declared false (start_of (unit_rows_at limit u declared (pos 0) u.entries)) steps.now in
-        record { all = []; stopped = true; count = inr refl; are_true = tt; are_stepped = none.0; are_taken = λ f. none.1; written = (k, refl) }
+        let none = no_steps limit u declared false
+        (start_of (unit_rows_at limit u declared (pos 0) u.entries)) steps.now in
+        record {
+          all = [];
+          stopped = true;
+          count = inr refl;
+          are_true = tt;
+          are_stepped = none.0;
+          are_taken = λ f. none.1;
+          written = (k, refl);
+        }
     told (Tree steps) k = no_tree_line k refl

@@ -1,5 +1,7 @@
 -- The lines of a dump, unit by unit.
-use Rattle.std.proofs.Common.{◌≡◌, ℕ, ◌+◌, ◌<◌, ◌≤◌, max, Bool, true, false, pos, List, [], ◌∷◌, sym, ◌++◌, Option, None, Some, refl, ap, ◌∙◌, arith, length, length-append, Result, Ok, Err, subst}
+use Rattle.std.proofs.Common.{◌≡◌, ℕ, ◌+◌, ◌<◌, ◌≤◌, max, Bool, true, false, pos, List, [], ◌∷◌}
+use Rattle.std.proofs.Common.{sym, ◌++◌, Option, None, Some, refl, ap, ◌∙◌, arith, length}
+use Rattle.std.proofs.Common.{length-append, Result, Ok, Err, subst}
 use Rattle.std.proofs.lemmas.List.{append-nil, take-append-le}
 use Rattle.std.proofs.lemmas.List.Folds.{concat-append}
 use Rattle.std.proofs.Math.Seq.{take-append-add}
@@ -33,23 +35,33 @@ behind_status status (Ok next) = Ok (max status next)
 behind_status status (Err s) = Err s
 
 -- all of a text, and then another
-pub until_joined : (a b c : Option (List ℕ)) (t u : Text) (status : ℕ) (r : Result ℕ Stop) → WroteAll a b t status → WroteUntil b c u r → WroteUntil a c (joined t u) (behind_status status r)
+pub until_joined : (a b c : Option (List ℕ)) (t u : Text) (status : ℕ) (r : Result ℕ Stop)
+    → WroteAll a b t status → WroteUntil b c u r
+    → WroteUntil a c (joined t u) (behind_status status r)
 until_joined a b c t u status (Ok next) first second = record {
-  lines = rw concat-append (Appends-trans a b c (concat t.lines) (concat u.lines) first.lines second.lines);
-  same_status = ap (λ n. max n next) first.same_status ∙ ap (λ n. max t.status n) second.same_status;
+  lines = rw concat-append
+      (Appends-trans a b c (concat t.lines) (concat u.lines) first.lines second.lines);
+  same_status = ap (λ n. max n next) first.same_status
+      ∙ ap (λ n. max t.status n) second.same_status;
 }
 until_joined a b c t u status (Err Memory) first second =
-    let front : concat (take (length t.lines + second.count) (t.lines ++ u.lines)) ≡ concat t.lines ++ concat (take second.count u.lines) =
-    ap concat (take-append-add t.lines u.lines second.count) ∙ concat-append t.lines (take second.count u.lines) in
+    let front : concat (take (length t.lines + second.count) (t.lines ++ u.lines))
+    ≡ concat t.lines ++ concat (take second.count u.lines) =
+    ap concat (take-append-add t.lines u.lines second.count)
+    ∙ concat-append t.lines (take second.count u.lines) in
     record {
       count = length t.lines + second.count;
       fewer = let k = second.fewer in rw length-append (omega (arith, k));
-      lines = rw front (Appends-trans a b c (concat t.lines) (concat (take second.count u.lines)) first.lines second.lines);
+      lines =
+          rw front
+          (Appends-trans a b c (concat t.lines) (concat (take second.count u.lines)) first.lines
+          second.lines);
     }
 until_joined a b c t u status (Err Write) first second = tt
 
 -- a text that is stopped, and nothing of another
-pub until_cut : (a b : Option (List ℕ)) (t u : Text) (s : Stop) → WroteUntil a b t (Err s) → WroteUntil a b (joined t u) (Err s)
+pub until_cut : (a b : Option (List ℕ)) (t u : Text) (s : Stop) → WroteUntil a b t (Err s)
+    → WroteUntil a b (joined t u) (Err s)
 until_cut a b t u Memory front =
     let within : front.count ≤ length t.lines = let k = front.fewer in omega (arith, k) in
     record {
@@ -65,75 +77,105 @@ module _ (limit : ℕ) (abbreviations : View) where
   place_dump p = units_dump limit abbreviations (units_ahead limit DebugInfo p)
 
   -- no unit is left
-  pub dump_ended : (a : Option (List ℕ)) (p next : UnitsPlace) → units_ahead limit DebugInfo p ≡ answered (Ok None) (units_ahead limit DebugInfo next) → WroteUntil a a (place_dump p) (Ok 0)
+  pub dump_ended : (a : Option (List ℕ)) (p next : UnitsPlace)
+      → units_ahead limit DebugInfo p ≡ answered (Ok None) (units_ahead limit DebugInfo next)
+      → WroteUntil a a (place_dump p) (Ok 0)
   dump_ended a p next is = rw is (record { lines = Appends-none a; same_status = refl })
 
   -- a refusal ends the units
-  pub dump_refused : (a b : Option (List ℕ)) (p next : UnitsPlace) (e : Error) → units_ahead limit DebugInfo p ≡ answered (Err e) (units_ahead limit DebugInfo next)
+  pub dump_refused : (a b : Option (List ℕ)) (p next : UnitsPlace) (e : Error)
+      → units_ahead limit DebugInfo p ≡ answered (Err e) (units_ahead limit DebugInfo next)
       → Appends a b (error_line (number_of e)) → WroteUntil a b (place_dump p) (Ok 1)
   dump_refused a b p next e is h = rw is (until_only a b (error_line (number_of e)) 1 h)
 
   -- a unit, and then those behind it
-  pub dump_more : (a b c : Option (List ℕ)) (p next : UnitsPlace) (u : UnitView) (status : ℕ) (r : Result ℕ Stop) → units_ahead limit DebugInfo p ≡ answered (Ok (Some u)) (units_ahead limit DebugInfo next)
-      → WroteUntil a b (unit_dump limit abbreviations u) (Ok status) → WroteUntil b c (place_dump next) r → WroteUntil a c (place_dump p) (behind_status status r)
+  pub dump_more : (a b c : Option (List ℕ)) (p next : UnitsPlace) (u : UnitView) (status : ℕ)
+      (r : Result ℕ Stop) → units_ahead limit DebugInfo p
+      ≡ answered (Ok (Some u)) (units_ahead limit DebugInfo next)
+      → WroteUntil a b (unit_dump limit abbreviations u) (Ok status)
+      → WroteUntil b c (place_dump next) r → WroteUntil a c (place_dump p) (behind_status status r)
   dump_more a b c p next u status r is first second =
-      rw is (until_joined a b c (unit_dump limit abbreviations u) (place_dump next) status r first second)
+      rw is
+      (until_joined a b c (unit_dump limit abbreviations u) (place_dump next) status r first
+      second)
 
   -- a unit that is stopped
-  pub dump_cut : (a b : Option (List ℕ)) (p next : UnitsPlace) (u : UnitView) (s : Stop) → units_ahead limit DebugInfo p ≡ answered (Ok (Some u)) (units_ahead limit DebugInfo next)
-      → WroteUntil a b (unit_dump limit abbreviations u) (Err s) → WroteUntil a b (place_dump p) (Err s)
+  pub dump_cut : (a b : Option (List ℕ)) (p next : UnitsPlace) (u : UnitView) (s : Stop)
+      → units_ahead limit DebugInfo p ≡ answered (Ok (Some u)) (units_ahead limit DebugInfo next)
+      → WroteUntil a b (unit_dump limit abbreviations u) (Err s)
+      → WroteUntil a b (place_dump p) (Err s)
   dump_cut a b p next u s is first =
-      until_same a b _ (place_dump p) (Err s) (sym (ap (units_dump limit abbreviations) is)) (until_cut a b (unit_dump limit abbreviations u) (place_dump next) s first)
+      until_same a b _ (place_dump p) (Err s) (sym (ap (units_dump limit abbreviations) is))
+      (until_cut a b (unit_dump limit abbreviations u) (place_dump next) s first)
 
   -- the units from the section's beginning on are all
-  pub dump_whole : (a b : Option (List ℕ)) (p : UnitsPlace) (v : View) (r : Result ℕ Stop) → p ≡ record { rest = v; offset = 0 } → WroteUntil a b (place_dump p) r
+  pub dump_whole : (a b : Option (List ℕ)) (p : UnitsPlace) (v : View) (r : Result ℕ Stop)
+      → p ≡ record { rest = v; offset = 0 } → WroteUntil a b (place_dump p) r
       → WroteUntil a b (units_dump limit abbreviations (units_of limit DebugInfo v)) r
-  dump_whole a b p v r is wrote = until_same a b (place_dump p) _ r (ap (λ q. place_dump q) is) wrote
+  dump_whole a b p v r is wrote =
+      until_same a b (place_dump p) _ r (ap (λ q. place_dump q) is) wrote
 
 -- the statuses of lines behind others are joined in any order
-pub behind_behind : (n m : ℕ) (r : Result ℕ Stop) → behind_status n (behind_status m r) ≡ behind_status (max n m) r
+pub behind_behind : (n m : ℕ) (r : Result ℕ Stop)
+    → behind_status n (behind_status m r) ≡ behind_status (max n m) r
 behind_behind n m (Ok x) = let e : max n (max m x) ≡ max (max n m) x = omega arith in ap Ok e
 behind_behind n m (Err s) = refl
 
 -- the same outcome
-pub until_outcome : (a b : Option (List ℕ)) (t : Text) (r q : Result ℕ Stop) → r ≡ q → WroteUntil a b t r → WroteUntil a b t q
-until_outcome a b t r q is wrote = let P : Result ℕ Stop → Type 0 = λ x. WroteUntil a b t x in subst P is wrote
+pub until_outcome : (a b : Option (List ℕ)) (t : Text) (r q : Result ℕ Stop) → r ≡ q
+    → WroteUntil a b t r → WroteUntil a b t q
+until_outcome a b t r q is wrote = let P : Result ℕ Stop → Type 0 = λ x. WroteUntil a b t x in
+    subst P is wrote
 
 -- where a unit is read first, there is one
-pub unit_first : (limit : ℕ) (v : View) (u : UnitView) (next : UnitsPlace) → (Ok (Some u), next) ≡ next_unit limit DebugInfo (record { rest = v; offset = 0 }) → has_unit limit v ≡ true
+pub unit_first : (limit : ℕ) (v : View) (u : UnitView) (next : UnitsPlace)
+    → (Ok (Some u), next) ≡ next_unit limit DebugInfo (record { rest = v; offset = 0 })
+    → has_unit limit v ≡ true
 unfolding next_unit
 unit_first limit v u next is = cases (length v.bytes == 0) (unit_at limit DebugInfo 0 v) is
   where
     cases : (none : Bool) (r : Reads UnitView)
-        → ◌≡◌ {A = Result (Option UnitView) Error × UnitsPlace} (Ok (Some u), next) (if none then (Ok None, record { rest = v; offset = 0 }) else elim r [
+        → ◌≡◌ {A = Result (Option UnitView) Error × UnitsPlace} (Ok (Some u), next)
+        (if none then (Ok None, record { rest = v; offset = 0 }) else elim r [
           | Ok q ↦ (Ok (Some q.0), record { rest = q.1; offset = 0 + whole_length q.0 })
           | Err e ↦ (Err e, record { rest = ended v; offset = 0 })
         ])
         → is_read r ≡ true
-    cases true r h = absurd (let k = ap (λ (x : Result (Option UnitView) Error × UnitsPlace). x.0) h in cc)
+    cases true r h = absurd
+        (let k = ap (λ (x : Result (Option UnitView) Error × UnitsPlace). x.0) h in cc)
     cases false (Ok q) h = refl
-    cases false (Err e) h = absurd (let k = ap (λ (x : Result (Option UnitView) Error × UnitsPlace). x.0) h in cc)
+    cases false (Err e) h =
+        absurd (let k = ap (λ (x : Result (Option UnitView) Error × UnitsPlace). x.0) h in cc)
 
 module _ (limit : ℕ) (u : UnitView) where
   -- a unit whose declarations were read
-  pub unit_rows : (a b c : Option (List ℕ)) (line : List ℕ) (declared : Map) (m : Result Map Error) (r : Result ℕ Stop) → Appends a b line → Ok declared ≡ m
-      → WroteUntil b c (unit_text limit u declared) r → WroteUntil a c (led_by line (declared_text (unit_text limit) u m)) r
+  pub unit_rows : (a b c : Option (List ℕ)) (line : List ℕ) (declared : Map) (m : Result Map Error)
+      (r : Result ℕ Stop) → Appends a b line → Ok declared ≡ m
+      → WroteUntil b c (unit_text limit u declared) r
+      → WroteUntil a c (led_by line (declared_text (unit_text limit) u m)) r
   unit_rows a b c line declared m r h is rows =
       let text : Text = unit_text limit u declared in
       let all = until_more a b c line text.lines text.status r h rows in
       rw (← is) all
 
   -- a unit whose declarations want memory
-  pub unit_memory : (a b : Option (List ℕ)) (line : List ℕ) (m : Result Map Error) → Appends a b line → WroteFront a b (led_by line (declared_text (unit_text limit) u m))
+  pub unit_memory : (a b : Option (List ℕ)) (line : List ℕ) (m : Result Map Error)
+      → Appends a b line → WroteFront a b (led_by line (declared_text (unit_text limit) u m))
   unit_memory a b line m h = record { count = 1; fewer = some m; lines = rw append-nil h }
     where
-      some : (x : Result Map Error) → 1 < length (line ∷ (declared_text (unit_text limit) u x).lines)
-      some (Ok declared) = let k = some_lines_of (ahead_at (entry_at limit u.encoding declared) (whole_length u) (pos 0) u.entries) in omega (arith, k)
+      some : (x : Result Map Error)
+          → 1 < length (line ∷ (declared_text (unit_text limit) u x).lines)
+      some (Ok declared) =
+          let k = some_lines_of
+          (ahead_at (entry_at limit u.encoding declared) (whole_length u) (pos 0)
+          u.entries) in omega (arith, k)
       some (Err e) = omega arith
 
   -- a unit whose declarations are refused
-  pub unit_refused : (a b c : Option (List ℕ)) (line : List ℕ) (m : Result Map Error) (e : Error) → Appends a b line → Err e ≡ m → Appends b c (error_line (number_of e))
+  pub unit_refused : (a b c : Option (List ℕ)) (line : List ℕ) (m : Result Map Error) (e : Error)
+      → Appends a b line → Err e ≡ m → Appends b c (error_line (number_of e))
       → WroteUntil a c (led_by line (declared_text (unit_text limit) u m)) (Ok 1)
   unit_refused a b c line m e h is k =
-      let all = until_more a b c line (error_line (number_of e) ∷ []) 1 (Ok 1) h (until_only b c (error_line (number_of e)) 1 k) in
+      let all = until_more a b c line (error_line (number_of e) ∷ []) 1 (Ok 1) h
+      (until_only b c (error_line (number_of e)) 1 k) in
       rw (← is) all

@@ -1,5 +1,6 @@
 -- The lines of rows, as the reading of an entry moves along them.
-use Rattle.std.proofs.Common.{◌≡◌, ℕ, ◌<◌, List, Option, Result, Ok, Err, ap, arith, length, length-append}
+use Rattle.std.proofs.Common.{◌≡◌, ℕ, ◌<◌, List, Option, Result, Ok, Err, ap, arith, length}
+use Rattle.std.proofs.Common.{length-append}
 use Rattle.std.specs.Io.KnownBytes.{Appends}
 use Rattle.gimli_base.specs.declared.error.Error.{Error}
 use Rattle.gimli_base.specs.Refusal.{number_of}
@@ -19,7 +20,8 @@ use Rattle.gimli_walk.proofs.StoppedLines.{until_more, until_only, front_none}
 
 -- the text of the rows that are ahead of a reader of entries
 abbrev pub place_text : ℕ → RawPlace → Text
-place_text limit p = rows_text (ahead_at (entry_at limit p.encoding (found p.abbreviations)) p.end p.depth p.rest)
+place_text limit p = rows_text
+    (ahead_at (entry_at limit p.encoding (found p.abbreviations)) p.end p.depth p.rest)
 
 pub some_lines_of : (a : Ahead) → 0 < length (rows_text a).lines
 some_lines_of a = simp length-append (omega arith)
@@ -27,28 +29,43 @@ some_lines_of a = simp length-append (omega arith)
 module _ (limit : ℕ) (old new : Option (List ℕ)) (p : RawPlace) where
   -- memory was refused before any other line
   pub rows_memory : WroteUntil old old (place_text limit p) (Err Memory)
-  rows_memory = front_none old (place_text limit p) (some_lines_of (ahead_at (entry_at limit p.encoding (found p.abbreviations)) p.end p.depth p.rest))
+  rows_memory = front_none old (place_text limit p)
+      (some_lines_of
+      (ahead_at (entry_at limit p.encoding (found p.abbreviations)) p.end p.depth p.rest))
 
   -- no row is left
-  pub rows_ended : length p.rest.bytes ≡ 0 → Appends old new end_line → WroteUntil old new (place_text limit p) (Ok 0)
+  pub rows_ended : length p.rest.bytes ≡ 0 → Appends old new end_line
+      → WroteUntil old new (place_text limit p) (Ok 0)
   rows_ended none h =
-      let e = ap rows_text (ahead_ended (entry_at limit p.encoding (found p.abbreviations)) p.end p.depth p.rest none) in
+      let e =
+      ap rows_text
+      (ahead_ended (entry_at limit p.encoding (found p.abbreviations)) p.end p.depth p.rest
+      none) in
       rw e (until_only old new end_line 0 h)
 
   -- a refusal ends the rows
-  pub rows_refused : (e : Error) → (length p.rest.bytes ≡ 0 → ⊥) → Err e ≡ entry_at limit p.encoding (found p.abbreviations) p.rest
-      → Appends old new (error_line_at (number_of e) (next_offset_of p)) → WroteUntil old new (place_text limit p) (Ok 1)
+  pub rows_refused : (e : Error) → (length p.rest.bytes ≡ 0 → ⊥)
+      → Err e ≡ entry_at limit p.encoding (found p.abbreviations) p.rest
+      → Appends old new (error_line_at (number_of e) (next_offset_of p))
+      → WroteUntil old new (place_text limit p) (Ok 1)
   rows_refused e some refused h =
-      let is = ap rows_text (ahead_refused (entry_at limit p.encoding (found p.abbreviations)) p.end p.depth p.rest e some refused) in
+      let is = ap rows_text
+      (ahead_refused (entry_at limit p.encoding (found p.abbreviations)) p.end p.depth p.rest
+      e some refused) in
       rw is (until_only old new (error_line_at (number_of e) (next_offset_of p)) 1 h)
 
 -- a row's line, and then those of the rows behind it
-pub rows_more : (limit : ℕ) (old mid new : Option (List ℕ)) (p : RawPlace) (e : Entry) (w : View) (r : Result ℕ Stop)
-    → (length p.rest.bytes ≡ 0 → ⊥) → Ok (e, w) ≡ entry_at limit p.encoding (found p.abbreviations) p.rest
+pub rows_more : (limit : ℕ) (old mid new : Option (List ℕ)) (p : RawPlace) (e : Entry) (w : View)
+    (r : Result ℕ Stop)
+    → (length p.rest.bytes ≡ 0 → ⊥)
+    → Ok (e, w) ≡ entry_at limit p.encoding (found p.abbreviations) p.rest
     → Appends old mid (row_line (next_offset_of p) p.depth e.tag.0 e.has_children)
     → WroteUntil mid new (place_text limit (record p { rest = w; depth = depth_after e p.depth })) r
     → WroteUntil old new (place_text limit p) r
 rows_more limit old mid new p e w r some read h rest =
     let next = entry_at limit p.encoding (found p.abbreviations) in
-    let is = ap rows_text (ahead_more next p.end (λ v u x. entry_at-shorter limit p.encoding (found p.abbreviations) v u x) p.depth p.rest e w some read) in
+    let is = ap rows_text
+    (ahead_more next p.end
+    (λ v u x. entry_at-shorter limit p.encoding (found p.abbreviations) v u x) p.depth p.rest e
+    w some read) in
     rw is (until_more old mid new _ _ _ r h rest)

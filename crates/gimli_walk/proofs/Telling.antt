@@ -1,5 +1,6 @@
 -- What a run has told, answer by answer.
-use Rattle.std.proofs.Common.{◌≡◌, ℕ, ◌+◌, ◌<◌, ◌++◌, Bool, true, false, List, [], ◌∷◌, map, length, length-append, Result, Ok, Err, refl, ap, ◌∙◌, append_assoc, arith}
+use Rattle.std.proofs.Common.{◌≡◌, ℕ, ◌+◌, ◌<◌, ◌++◌, Bool, true, false, List, [], ◌∷◌, map, length}
+use Rattle.std.proofs.Common.{length-append, Result, Ok, Err, refl, ap, ◌∙◌, append_assoc, arith}
 use Rattle.std.proofs.lemmas.List.{append-nil, length-map}
 use Rattle.std.proofs.lemmas.List.Elements.{All-cons, All-nil}
 use Rattle.std.specs.List.{All}
@@ -21,50 +22,84 @@ module _ {T : Type 0} (Run : List T → Type 0) where
   so_far_none Told h = record { all = []; are_told = h; completes = λ rest run. run; count = refl }
 
   -- one more answer is told
-  pub so_far_more : (Left Next Told After : List T → Type 0) (i : ℕ) (a : T) → (so : ToldSoFar Run Left Told i) → ((rest : List T) → Next rest → Left (a ∷ rest)) → After (so.all ++ a ∷ [])
+  pub so_far_more : (Left Next Told After : List T → Type 0) (i : ℕ) (a : T)
+      → (so : ToldSoFar Run Left Told i) → ((rest : List T) → Next rest → Left (a ∷ rest))
+      → After (so.all ++ a ∷ [])
       → ToldSoFar Run Next After (i + 1)
   so_far_more Left Next Told After i a so next h = record {
     all = so.all ++ a ∷ [];
     are_told = h;
-    completes = λ rest run. rw (append_assoc so.all (a ∷ []) rest) (so.completes (a ∷ rest) (next rest run));
+    completes = λ rest run.
+        rw (append_assoc so.all (a ∷ []) rest) (so.completes (a ∷ rest) (next rest run));
     count = let n = so.count in omega (arith, n, length-append so.all (a ∷ []));
   }
 
   -- the run comes to its end
-  pub so_far_whole : (Left Told : List T → Type 0) (i steps : ℕ) → ToldSoFar Run Left Told i → Left [] → i ≡ steps → ToldSteps Run Told steps false
-  so_far_whole Left Told i steps so none is = record { all = so.all; are_told = so.are_told; runs = rw (append-nil so.all) at (so.completes [] none); count = so.count ∙ is }
+  pub so_far_whole : (Left Told : List T → Type 0) (i steps : ℕ) → ToldSoFar Run Left Told i
+      → Left [] → i ≡ steps → ToldSteps Run Told steps false
+  so_far_whole Left Told i steps so none is =
+      record {
+        all = so.all;
+        are_told = so.are_told;
+        runs = rw (append-nil so.all) at (so.completes [] none);
+        count = so.count ∙ is;
+      }
 
   -- the run is stopped
-  pub so_far_stopped : (Left Told After : List T → Type 0) (i steps : ℕ) → (so : ToldSoFar Run Left Told i) → Left [] → i < steps → After so.all → ToldSteps Run After steps true
-  so_far_stopped Left Told After i steps so none lt h = record { all = so.all; are_told = h; runs = rw (append-nil so.all) at (so.completes [] none); count = let n = so.count in omega (arith, n, lt) }
+  pub so_far_stopped : (Left Told After : List T → Type 0) (i steps : ℕ)
+      → (so : ToldSoFar Run Left Told i) → Left [] → i < steps → After so.all
+      → ToldSteps Run After steps true
+  so_far_stopped Left Told After i steps so none lt h =
+      record {
+        all = so.all;
+        are_told = h;
+        runs = rw (append-nil so.all) at (so.completes [] none);
+        count = let n = so.count in omega (arith, n, lt);
+      }
 
   -- the same by why it is stopped
-  pub so_far_refused : (Left Told After : List T → Type 0) (writes : Bool) (i steps : ℕ) (s : Stop) → (so : ToldSoFar Run Left Told i) → Left [] → i < steps
-      → (s ≡ Memory → After so.all) → (s ≡ Write → writes ≡ true) → HasToldSteps Run After writes steps (Err s)
-  so_far_refused Left Told After writes i steps Memory so none lt h fault = so_far_stopped Left Told After i steps so none lt (h refl)
+  pub so_far_refused : (Left Told After : List T → Type 0) (writes : Bool) (i steps : ℕ) (s : Stop)
+      → (so : ToldSoFar Run Left Told i) → Left [] → i < steps
+      → (s ≡ Memory → After so.all) → (s ≡ Write → writes ≡ true)
+      → HasToldSteps Run After writes steps (Err s)
+  so_far_refused Left Told After writes i steps Memory so none lt h fault =
+      so_far_stopped Left Told After i steps so none lt (h refl)
   so_far_refused Left Told After writes i steps Write so none lt h fault = fault refl
 
 module _ {X T : Type 0} (see : X → T) (Keeps : X → Type 0) where
   -- one answer is collected
-  pub collected_one : (xs new : List X) (x : X) (a : T) → new ≡ xs ++ x ∷ [] → see x ≡ a → Keeps x → HasCollected see Keeps xs (a ∷ []) new
-  collected_one xs new x a is seen_is keeps = record { added = x ∷ []; is = is; are = ap (λ y. y ∷ []) seen_is; keep = All-cons Keeps x [] keeps (All-nil Keeps) }
+  pub collected_one : (xs new : List X) (x : X) (a : T) → new ≡ xs ++ x ∷ [] → see x ≡ a → Keeps x
+      → HasCollected see Keeps xs (a ∷ []) new
+  collected_one xs new x a is seen_is keeps =
+      record {
+        added = x ∷ [];
+        is = is;
+        are = ap (λ y. y ∷ []) seen_is;
+        keep = All-cons Keeps x [] keeps (All-nil Keeps);
+      }
 
   -- what was collected from no answer on
-  pub collected_all : (Run : List T → Type 0) (steps : ℕ) (none items : List X) (stopped : Bool) (r : Result (Unit {0}) Stop)
-      → none ≡ [] → stopped ≡ is_err r → HasToldSteps Run (λ all. HasCollected see Keeps none all items) false steps r
+  pub collected_all : (Run : List T → Type 0) (steps : ℕ) (none items : List X) (stopped : Bool)
+      (r : Result (Unit {0}) Stop)
+      → none ≡ [] → stopped ≡ is_err r
+      → HasToldSteps Run (λ all. HasCollected see Keeps none all items) false steps r
       → Run (map see items) × All Keeps items × IsStopped stopped (length items) steps
   collected_all Run steps none items stopped r empty is h = cases r is h
     where
-      parts : (stop : Bool) → stopped ≡ stop → ToldSteps Run (λ all. HasCollected see Keeps none all items) steps stop
+      parts : (stop : Bool) → stopped ≡ stop
+          → ToldSteps Run (λ all. HasCollected see Keeps none all items) steps stop
           → Run (map see items) × All Keeps items × IsStopped stopped (length items) steps
       parts stop same told =
           let some = told.are_told in
           let one : items ≡ some.added = some.is ∙ ap (λ l. l ++ some.added) empty in
           let seen_all : map see items ≡ told.all = ap (map see) one ∙ some.are in
-          let as_many : length items ≡ length told.all = (let k = length-map items see in let l = ap length seen_all in omega (arith, k, l)) in
+          let as_many : length items
+          ≡ length told.all =
+          (let k = length-map items see in let l = ap length seen_all in omega (arith, k, l)) in
           (rw seen_all told.runs, rw one some.keep, rw (same, as_many) told.count)
 
-      cases : (q : Result (Unit {0}) Stop) → stopped ≡ is_err q → HasToldSteps Run (λ all. HasCollected see Keeps none all items) false steps q
+      cases : (q : Result (Unit {0}) Stop) → stopped ≡ is_err q
+          → HasToldSteps Run (λ all. HasCollected see Keeps none all items) false steps q
           → Run (map see items) × All Keeps items × IsStopped stopped (length items) steps
       cases (Ok u) same told = parts false same told
       cases (Err Memory) same told = parts true same told

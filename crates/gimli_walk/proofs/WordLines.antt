@@ -1,5 +1,6 @@
 -- What a flush keeps of a walk's text, and the status of a walk whose write may fail.
-use Rattle.std.proofs.Common.{◌≡◌, ◌⊎◌, inl, inr, refl, Bool, true, false, ℕ, List, Option, None, Some, ◌∙◌, Result, Ok, Err, subst, sym}
+use Rattle.std.proofs.Common.{◌≡◌, ◌⊎◌, inl, inr, refl, Bool, true, false, ℕ, List, Option, None}
+use Rattle.std.proofs.Common.{Some, ◌∙◌, Result, Ok, Err, subst, sym}
 use Rattle.std.specs.Prelude.{IfOk}
 use Rattle.std.specs.Result.{result_unwrap_or}
 use Rattle.std.specs.Fn.{Mut, CalledAt}
@@ -17,8 +18,10 @@ use Rattle.gimli_base.specs.Abbreviations.{Map, map_at}
 use Rattle.gimli_units.specs.Unit.{UnitView}
 use Rattle.gimli_headers.specs.Header.{unit_at}
 use Rattle.gimli_walk.specs.Lines.{Text}
-use Rattle.gimli_walk.specs.Text.{Wrote, WroteAll, all_lines, some_lines, WroteText, wrote, no_line, IsHonestDeclared, IsHonestFirst, IsHonestWalk}
-use Rattle.gimli_walk.specs.Words.{OfTwoFiles, OfFile, SaysWalk, cursor_mode, tree_mode, no_first, no_second, said, failed, said_of_one, failed_of_one}
+use Rattle.gimli_walk.specs.Text.{Wrote, WroteAll, all_lines, some_lines, WroteText, wrote, no_line}
+use Rattle.gimli_walk.specs.Text.{IsHonestDeclared, IsHonestFirst, IsHonestWalk}
+use Rattle.gimli_walk.specs.Words.{OfTwoFiles, OfFile, SaysWalk, cursor_mode, tree_mode, no_first}
+use Rattle.gimli_walk.specs.Words.{no_second, said, failed, said_of_one, failed_of_one}
 
 Appends-kept : (a b c : Option (List ℕ)) (xs : List ℕ) → Appends a b xs → Keeps b c → Appends a c xs
 Appends-kept None b c xs h k = tt
@@ -26,16 +29,20 @@ Appends-kept (Some p) None c xs h k = absurd h
 Appends-kept (Some p) (Some q) None xs h k = absurd k
 Appends-kept (Some p) (Some q) (Some r) xs h k = k ∙ h
 
-pub Wrote-kept : (a b c : Option (List ℕ)) (text : Text) (status : ℕ) → Wrote a b text status → Keeps b c → Wrote a c text status
+pub Wrote-kept : (a b c : Option (List ℕ)) (text : Text) (status : ℕ) → Wrote a b text status
+    → Keeps b c → Wrote a c text status
 Wrote-kept a b c text status (all_lines w is) k = all_lines (Appends-kept a b c _ w k) is
-Wrote-kept a b c text status (some_lines n below w is) k = some_lines n below (Appends-kept a b c _ w k) is
+Wrote-kept a b c text status (some_lines n below w is) k =
+    some_lines n below (Appends-kept a b c _ w k) is
 
-WroteText-kept : (a b c : Option (List ℕ)) (text : Text) (status : ℕ) → WroteText a b text status → Keeps b c → WroteText a c text status
+WroteText-kept : (a b c : Option (List ℕ)) (text : Text) (status : ℕ) → WroteText a b text status
+    → Keeps b c → WroteText a c text status
 WroteText-kept a b c text status (wrote w) k = wrote (Wrote-kept a b c text status w k)
 WroteText-kept a b c text status (no_line none w is) k = no_line none (Appends-kept a b c _ w k) is
 
 -- the rows ask nothing of references
-pub rows_honest : (limit : ℕ) (info abbreviations : View) → IsHonestWalk limit Rows info abbreviations
+pub rows_honest : (limit : ℕ) (info abbreviations : View)
+    → IsHonestWalk limit Rows info abbreviations
 rows_honest limit info abbreviations = first (unit_at limit DebugInfo 0 info)
   where
     declared : (u : UnitView) (m : Result Map Error) → IsHonestDeclared limit Rows u m
@@ -47,7 +54,8 @@ rows_honest limit info abbreviations = first (unit_at limit DebugInfo 0 info)
     first (Err e) = tt
 
 -- neither does a check
-pub check_honest : (limit : ℕ) (info abbreviations : View) → IsHonestWalk limit Check info abbreviations
+pub check_honest : (limit : ℕ) (info abbreviations : View)
+    → IsHonestWalk limit Check info abbreviations
 check_honest limit info abbreviations = first (unit_at limit DebugInfo 0 info)
   where
     declared : (u : UnitView) (m : Result Map Error) → IsHonestDeclared limit Check u m
@@ -59,47 +67,77 @@ check_honest limit info abbreviations = first (unit_at limit DebugInfo 0 info)
     first (Err e) = tt
 
 -- a premise may be asked for behind the status
-pub if_ok_asks : {E H : Type 0} → (P : ℕ → Type 0) (r : Result ℕ E) → (H → IfOk r P) → IfOk r (λ s. H → P s)
+pub if_ok_asks : {E H : Type 0} → (P : ℕ → Type 0) (r : Result ℕ E) → (H → IfOk r P)
+    → IfOk r (λ s. H → P s)
 if_ok_asks P (Ok s) says = says
 if_ok_asks P (Err e) says = tt
 
 -- what a walk says is said behind a flush
-pub SaysWalk-kept : (mode : Mode) (old b c : Option (List ℕ)) (info table : List ℕ) (status : ℕ) → SaysWalk mode old b info table status → Keeps b c → SaysWalk mode old c info table status
-SaysWalk-kept mode old b c info table status says k = λ honest. WroteText-kept old b c _ status (says honest) k
+pub SaysWalk-kept : (mode : Mode) (old b c : Option (List ℕ)) (info table : List ℕ) (status : ℕ)
+    → SaysWalk mode old b info table status → Keeps b c → SaysWalk mode old c info table status
+SaysWalk-kept mode old b c info table status says k =
+    λ honest. WroteText-kept old b c _ status (says honest) k
 
-pub WroteAll-kept : (a b c : Option (List ℕ)) (text : Text) (status : ℕ) → WroteAll a b text status → Keeps b c → WroteAll a c text status
-WroteAll-kept a b c text status w k = record { lines = Appends-kept a b c _ w.lines k; same_status = w.same_status }
+pub WroteAll-kept : (a b c : Option (List ℕ)) (text : Text) (status : ℕ) → WroteAll a b text status
+    → Keeps b c → WroteAll a c text status
+WroteAll-kept a b c text status w k =
+    record { lines = Appends-kept a b c _ w.lines k; same_status = w.same_status }
 
-module _ {F V E : Type 0} (g : Mut F (Bor (List ℕ) × Unit {0}) (Option V)) (bytes : V → List ℕ) (read : F) (old between new : Option (List ℕ)) where
+module _ {F V E : Type 0} (g : Mut F (Bor (List ℕ) × Unit {0}) (Option V)) (bytes : V → List ℕ)
+    (read : F) (old between new : Option (List ℕ)) where
   -- both files were read, what is said of them was written, and then flushed
-  pub of_both : (mid last : F) (info table : List ℕ) (x y : V) (S : Option (List ℕ) → List ℕ → List ℕ → ℕ → Type 0)
-      → ((b c : Option (List ℕ)) (i t : List ℕ) (s : ℕ) → S b i t s → Keeps b c → S c i t s) → (r : Result ℕ E) (first status : ℕ)
-      → CalledAt g read info (Some x) mid → CalledAt g mid table (Some y) last → IfOk r (λ s. S between (bytes x) (bytes y) s)
-      → first ≡ result_unwrap_or r 3 → (status ≡ 3) ⊎ ((status ≡ first) × Keeps between new) → OfTwoFiles g bytes read info table old new (S new) status
-  of_both mid last info table x y S keep (Ok s) first status one two says is (inl three) = failed x y mid last one two three
+  pub of_both : (mid last : F) (info table : List ℕ) (x y : V)
+      (S : Option (List ℕ) → List ℕ → List ℕ → ℕ → Type 0)
+      → ((b c : Option (List ℕ)) (i t : List ℕ) (s : ℕ) → S b i t s → Keeps b c → S c i t s)
+      → (r : Result ℕ E) (first status : ℕ)
+      → CalledAt g read info (Some x) mid → CalledAt g mid table (Some y) last
+      → IfOk r (λ s. S between (bytes x) (bytes y) s)
+      → first ≡ result_unwrap_or r 3 → (status ≡ 3) ⊎ ((status ≡ first) × Keeps between new)
+      → OfTwoFiles g bytes read info table old new (S new) status
+  of_both mid last info table x y S keep (Ok s) first status one two says is (inl three) =
+      failed x y mid last one two three
   of_both mid last info table x y S keep (Ok s) first status one two says is (inr same) =
-      said x y mid last one two (subst (λ n. S new (bytes x) (bytes y) n) (sym (same.0 ∙ is)) (keep between new (bytes x) (bytes y) s says same.1))
-  of_both mid last info table x y S keep (Err e) first status one two says is (inl three) = failed x y mid last one two three
-  of_both mid last info table x y S keep (Err e) first status one two says is (inr same) = failed x y mid last one two (same.0 ∙ is)
+      said x y mid last one two
+      (subst (λ n. S new (bytes x) (bytes y) n) (sym (same.0 ∙ is))
+      (keep between new (bytes x) (bytes y) s says same.1))
+  of_both mid last info table x y S keep (Err e) first status one two says is (inl three) =
+      failed x y mid last one two three
+  of_both mid last info table x y S keep (Err e) first status one two says is (inr same) =
+      failed x y mid last one two (same.0 ∙ is)
 
   -- one file was
   pub of_one : (last : F) (name : List ℕ) (x : V) (S : Option (List ℕ) → List ℕ → ℕ → Type 0)
-      → ((b c : Option (List ℕ)) (i : List ℕ) (s : ℕ) → S b i s → Keeps b c → S c i s) → (r : Result ℕ E) (first status : ℕ)
+      → ((b c : Option (List ℕ)) (i : List ℕ) (s : ℕ) → S b i s → Keeps b c → S c i s)
+      → (r : Result ℕ E) (first status : ℕ)
       → CalledAt g read name (Some x) last → IfOk r (λ s. S between (bytes x) s)
-      → first ≡ result_unwrap_or r 3 → (status ≡ 3) ⊎ ((status ≡ first) × Keeps between new) → OfFile g bytes read name old new (S new) status
-  of_one last name x S keep (Ok s) first status one says is (inl three) = failed_of_one x last one three
+      → first ≡ result_unwrap_or r 3 → (status ≡ 3) ⊎ ((status ≡ first) × Keeps between new)
+      → OfFile g bytes read name old new (S new) status
+  of_one last name x S keep (Ok s) first status one says is (inl three) =
+      failed_of_one x last one three
   of_one last name x S keep (Ok s) first status one says is (inr same) =
-      said_of_one x last one (subst (λ n. S new (bytes x) n) (sym (same.0 ∙ is)) (keep between new (bytes x) s says same.1))
-  of_one last name x S keep (Err e) first status one says is (inl three) = failed_of_one x last one three
-  of_one last name x S keep (Err e) first status one says is (inr same) = failed_of_one x last one (same.0 ∙ is)
+      said_of_one x last one
+      (subst (λ n. S new (bytes x) n) (sym (same.0 ∙ is))
+      (keep between new (bytes x) s says same.1))
+  of_one last name x S keep (Err e) first status one says is (inl three) =
+      failed_of_one x last one three
+  of_one last name x S keep (Err e) first status one says is (inr same) =
+      failed_of_one x last one (same.0 ∙ is)
 
 -- what is said may say less
-pub OfTwoFiles-less : {F V : Type 0} (g : Mut F (Bor (List ℕ) × Unit {0}) (Option V)) (bytes : V → List ℕ) (read : F) (info table : List ℕ) (old new : Option (List ℕ)) (S T : List ℕ → List ℕ → ℕ → Type 0) (status : ℕ)
-    → ((i t : List ℕ) (s : ℕ) → S i t s → T i t s) → OfTwoFiles g bytes read info table old new S status → OfTwoFiles g bytes read info table old new T status
-OfTwoFiles-less g bytes read info table old new S T status less (no_first last one k is) = no_first last one k is
-OfTwoFiles-less g bytes read info table old new S T status less (no_second x mid last one two k is) = no_second x mid last one two k is
-OfTwoFiles-less g bytes read info table old new S T status less (said x y mid last one two says) = said x y mid last one two (less (bytes x) (bytes y) status says)
-OfTwoFiles-less g bytes read info table old new S T status less (failed x y mid last one two is) = failed x y mid last one two is
+pub OfTwoFiles-less : {F V : Type 0} (g : Mut F (Bor (List ℕ) × Unit {0}) (Option V))
+    (bytes : V → List ℕ) (read : F) (info table : List ℕ) (old new : Option (List ℕ))
+    (S T : List ℕ → List ℕ → ℕ → Type 0) (status : ℕ)
+    → ((i t : List ℕ) (s : ℕ) → S i t s → T i t s)
+    → OfTwoFiles g bytes read info table old new S status
+    → OfTwoFiles g bytes read info table old new T status
+OfTwoFiles-less g bytes read info table old new S T status less (no_first last one k is) =
+    no_first last one k is
+OfTwoFiles-less g bytes read info table old new S T status less
+    (no_second x mid last one two k is) = no_second x mid last one two k is
+OfTwoFiles-less g bytes read info table old new S T status less (said x y mid last one two says) =
+    said x y mid last one two (less (bytes x) (bytes y) status says)
+OfTwoFiles-less g bytes read info table old new S T status less (failed x y mid last one two is) =
+    failed x y mid last one two is
 
 pub Keeps-same : (x : Option (List ℕ)) → Keeps x x
 Keeps-same None = tt
@@ -107,17 +145,25 @@ Keeps-same (Some xs) = refl
 
 module _ (old new : Option (List ℕ)) (info table : List ℕ) (status : ℕ) where
   -- what a walk says depends on its steps, and not on where they lie
-  pub says_cursor : (mode : Mode) (b : Bor (List CursorStep)) (follows : Bool) (steps : List CursorStep) → mode ≡ Cursor b → b.now ≡ steps → follows ≡ true
-      → SaysWalk mode old new info table status → SaysWalk (cursor_mode follows steps) old new info table status
+  pub says_cursor : (mode : Mode) (b : Bor (List CursorStep)) (follows : Bool)
+      (steps : List CursorStep) → mode ≡ Cursor b → b.now ≡ steps → follows ≡ true
+      → SaysWalk mode old new info table status
+      → SaysWalk (cursor_mode follows steps) old new info table status
   says_cursor mode b follows steps m n f says =
       subst (λ x. SaysWalk (cursor_mode x steps) old new info table status) (sym f)
-      (subst (λ x. SaysWalk (cursor_mode true x) old new info table status) n (subst (λ x. SaysWalk x old new info table status) m says))
+      (subst (λ x. SaysWalk (cursor_mode true x) old new info table status) n
+      (subst (λ x. SaysWalk x old new info table status) m says))
 
-  pub says_plain : (mode : Mode) (b : Bor (List CursorStep)) (follows : Bool) (steps : List CursorStep) → mode ≡ Plain b → b.now ≡ steps → follows ≡ false
-      → SaysWalk mode old new info table status → SaysWalk (cursor_mode follows steps) old new info table status
+  pub says_plain : (mode : Mode) (b : Bor (List CursorStep)) (follows : Bool)
+      (steps : List CursorStep) → mode ≡ Plain b → b.now ≡ steps → follows ≡ false
+      → SaysWalk mode old new info table status
+      → SaysWalk (cursor_mode follows steps) old new info table status
   says_plain mode b follows steps m n f says =
       subst (λ x. SaysWalk (cursor_mode x steps) old new info table status) (sym f)
-      (subst (λ x. SaysWalk (cursor_mode false x) old new info table status) n (subst (λ x. SaysWalk x old new info table status) m says))
+      (subst (λ x. SaysWalk (cursor_mode false x) old new info table status) n
+      (subst (λ x. SaysWalk x old new info table status) m says))
 
-  pub says_tree : (b : Bor (List TreeStep)) (steps : List TreeStep) → b.now ≡ steps → SaysWalk (Tree b) old new info table status → SaysWalk (tree_mode steps) old new info table status
+  pub says_tree : (b : Bor (List TreeStep)) (steps : List TreeStep) → b.now ≡ steps
+      → SaysWalk (Tree b) old new info table status
+      → SaysWalk (tree_mode steps) old new info table status
   says_tree b steps n says = subst (λ x. SaysWalk (tree_mode x) old new info table status) n says

@@ -13,4 +13,5 @@ verdict_text (Some offset) = only (false_line offset) 0
 
 -- the text of the check of a unit
 abbrev pub check_text : ℕ → UnitView → Map → Text
-check_text limit u declared = verdict_text (first_false (whole_length u) (unit_rows limit u declared))
+check_text limit u declared =
+    verdict_text (first_false (whole_length u) (unit_rows limit u declared))

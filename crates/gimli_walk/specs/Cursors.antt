@@ -1,5 +1,7 @@
 -- The answers of a list of steps of a cursor, and their text (DWARF 5, 2.3).
-use Rattle.std.specs.Prelude.{◌≡◌, ℕ, ◌<◌, ℤ, pos, Bool, true, false, ◌||◌, if◌then◌else◌, ◌++◌, List, [], ◌∷◌, map, codes, Option, Some, None, IfSome, Result, Ok, Err, ◌⊎◌}
+use Rattle.std.specs.Prelude.{◌≡◌, ℕ, ◌<◌, ℤ, pos, Bool, true, false, ◌||◌, if◌then◌else◌, ◌++◌}
+use Rattle.std.specs.Prelude.{List, [], ◌∷◌, map, codes, Option, Some, None, IfSome, Result, Ok}
+use Rattle.std.specs.Prelude.{Err, ◌⊎◌}
 use Rattle.std.specs.Fmt.{decimal}
 use Rattle.std.specs.List.{list_any}
 use Rattle.std.specs.Result.{is_err}
@@ -13,13 +15,15 @@ use Rattle.gimli_units.specs.Entry.{Entry, entry_of}
 use Rattle.gimli_units.specs.Rows.{Ahead}
 use Rattle.gimli_units.specs.Unit.{UnitView, whole_length}
 use Rattle.gimli_units.specs.UnitRows.{unit_rows_at, start_view}
-use Rattle.gimli_units.specs.CursorPlace.{Place, Moved, next_row, next_in_depth_first_order, next_of_depth, next_offset, next_depth}
+use Rattle.gimli_units.specs.CursorPlace.{Place, Moved, next_row, next_in_depth_first_order}
+use Rattle.gimli_units.specs.CursorPlace.{next_of_depth, next_offset, next_depth}
 use Rattle.gimli_walk.specs.declared.cursor.CursorAnswer.{CursorAnswer}
 use Rattle.gimli_walk.specs.declared.cursor.CursorStep.{CursorStep}
 use Rattle.gimli_walk.specs.declared.cursor.CursorStep.TheVariants.{NextEntry, NextDfs, NextSibling}
 use Rattle.gimli_walk.specs.Lines.{Text, row_line}
 
--- what a step answers, and where the cursor then stands; the pair is that of the current entry, where there is one
+-- what a step answers, and where the cursor then stands; the pair is that of the current entry,
+-- where there is one
 pub record Answer : Type 0 where
   pub outcome : Result Bool Error
   pub current : Option Entry
@@ -58,7 +62,8 @@ told m = record {
   next_depth = next_depth m.place.ahead;
 }
 
--- the answers of these steps, in their order, from a place; `end` is the offset of the end of the bytes
+-- the answers of these steps, in their order, from a place; `end` is the offset of the end of the
+-- bytes
 abbrev pub answers : ℕ → List CursorStep → Place → List Answer
 answers end [] p = []
 answers end (s ∷ rest) p = told (step_of end s p) ∷ answers end rest (step_of end s p).place
@@ -69,7 +74,8 @@ start_of a = record { ahead = a; current = None; offset = 0; depth = pos 0 }
 
 -- the answers of a run over these steps from a view on
 abbrev pub answers_at : ℕ → UnitView → Map → List CursorStep → View → List Answer
-answers_at limit u declared steps v = answers (whole_length u) steps (start_of (unit_rows_at limit u declared (pos 0) v))
+answers_at limit u declared steps v =
+    answers (whole_length u) steps (start_of (unit_rows_at limit u declared (pos 0) v))
 
 -- this holds of the bytes from a start on, which is not refused
 abbrev pub HoldsFrom : Result View Error → (View → Type 0) → Type 0
@@ -77,8 +83,10 @@ HoldsFrom (Ok v) P = P v
 HoldsFrom (Err e) P = ⊥
 
 -- the answers of a run from a start, which may be refused
-abbrev pub run_answers : ℕ → UnitView → Map → Option ℕ → List CursorStep → Result (List Answer) Error
-run_answers limit u declared start steps = answer_of (answers_at limit u declared steps) (start_view u start)
+abbrev pub run_answers : ℕ → UnitView → Map → Option ℕ → List CursorStep
+    → Result (List Answer) Error
+run_answers limit u declared start steps =
+    answer_of (answers_at limit u declared steps) (start_view u start)
 
 abbrev pub is_sibling : CursorStep → Bool
 is_sibling NextEntry = false
@@ -114,9 +122,11 @@ abbrev pub flag_of : Option Entry → Bool
 flag_of None = false
 flag_of (Some e) = e.has_children
 
--- the outcome, and the pair with the tag and the children flag of the current entry, both 0 where there is none
+-- the outcome, and the pair with the tag and the children flag of the current entry, both 0 where
+-- there is none
 abbrev pub answer_line : Answer → List ℕ
-answer_line a = outcome_text a.outcome ++ row_line a.offset a.depth (tag_of a.current) (flag_of a.current)
+answer_line a = outcome_text a.outcome
+    ++ row_line a.offset a.depth (tag_of a.current) (flag_of a.current)
 
 -- 1 where one of these answers is a refusal
 abbrev pub status_of : List Answer → ℕ

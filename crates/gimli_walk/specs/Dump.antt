@@ -1,4 +1,5 @@
--- The text of all units of `.debug_info` and of their rows, as a function of the bytes of two sections (DWARF 5, 7.5).
+-- The text of all units of `.debug_info` and of their rows, as a function of the bytes of two
+-- sections (DWARF 5, 7.5).
 use Rattle.std.specs.Prelude.{◌^◌, ℕ, max, List, [], ◌∷◌, ◌++◌, Option, Some, None}
 use Rattle.gimli_base.specs.declared.common.SectionId.TheVariants.{DebugInfo}
 use Rattle.gimli_base.specs.declared.error.Error.{Error}
@@ -6,7 +7,10 @@ use Rattle.gimli_base.specs.Refusal.{number_of}
 use Rattle.gimli_base.specs.View.{View}
 use Rattle.gimli_base.specs.Abbreviations.{map_at}
 use Rattle.gimli_units.specs.declared.unit_type.UnitType.{UnitType}
-use Rattle.gimli_units.specs.declared.unit_type.UnitType.TheVariants.{Compilation, TypeUnit, Partial, Skeleton, SplitCompilation, SplitType, Vendor}
+use Rattle.gimli_units.specs.declared.unit_type.UnitType.TheVariants.{Compilation, TypeUnit}
+use Rattle.gimli_units.specs.declared.unit_type.UnitType.TheVariants.{Partial, Skeleton}
+use Rattle.gimli_units.specs.declared.unit_type.UnitType.TheVariants.{SplitCompilation, SplitType}
+use Rattle.gimli_units.specs.declared.unit_type.UnitType.TheVariants.{Vendor}
 use Rattle.gimli_units.specs.Unit.{UnitView}
 use Rattle.gimli_headers.specs.Units.{Units, units_of}
 use Rattle.gimli_walk.specs.Lines.{Text, only, unit_line, error_line}
@@ -44,11 +48,13 @@ joined t u = record { lines = t.lines ++ u.lines; status = max t.status u.status
 -- the text of units, and then of how they end
 abbrev pub all_dumps : ℕ → View → List UnitView → Option Error → Text
 all_dumps limit abbreviations [] refusal = ending refusal
-all_dumps limit abbreviations (u ∷ us) refusal = joined (unit_dump limit abbreviations u) (all_dumps limit abbreviations us refusal)
+all_dumps limit abbreviations (u ∷ us) refusal =
+    joined (unit_dump limit abbreviations u) (all_dumps limit abbreviations us refusal)
 
 abbrev pub units_dump : ℕ → View → Units → Text
 units_dump limit abbreviations us = all_dumps limit abbreviations us.units us.refusal
 
 -- the text of the units in the bytes of `.debug_info`, in little endian and with offsets of 64 bits
 abbrev pub dump_of : List ℕ → List ℕ → Text
-dump_of info abbreviations = units_dump (2 ^ 64) (little abbreviations) (units_of (2 ^ 64) DebugInfo (little info))
+dump_of info abbreviations =
+    units_dump (2 ^ 64) (little abbreviations) (units_of (2 ^ 64) DebugInfo (little info))

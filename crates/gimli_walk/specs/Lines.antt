@@ -22,7 +22,10 @@ bit false = 0
 -- offset, depth, tag, and whether children follow
 unfoldable pub row_line : ℕ → ℤ → ℕ → Bool → List ℕ
 row_line offset depth tag has_children =
-    hexadecimal offset ++ (32 ∷ (signed_decimal depth ++ (32 ∷ (hexadecimal tag ++ (32 ∷ (decimal (bit has_children) ++ 10 ∷ []))))))
+    hexadecimal offset
+    ++ (32
+    ∷ (signed_decimal depth
+    ++ (32 ∷ (hexadecimal tag ++ (32 ∷ (decimal (bit has_children) ++ 10 ∷ []))))))
 
 abbrev pub end_line : List ℕ
 end_line = codes "end\n"
@@ -36,12 +39,15 @@ error_line number = codes "error " ++ (decimal number ++ (10 ∷ []))
 
 -- a refusal at an offset of the unit
 unfoldable pub error_line_at : ℕ → ℕ → List ℕ
-error_line_at number offset = codes "error " ++ (decimal number ++ (32 ∷ (hexadecimal offset ++ (10 ∷ []))))
+error_line_at number offset =
+    codes "error " ++ (decimal number ++ (32 ∷ (hexadecimal offset ++ (10 ∷ []))))
 
 -- a unit: its offset, its version, and the number of its type
 unfoldable pub unit_line : ℕ → ℕ → ℕ → List ℕ
 unit_line offset version type_number =
-    codes "unit " ++ (hexadecimal offset ++ (32 ∷ (decimal version ++ (32 ∷ (hexadecimal type_number ++ (10 ∷ []))))))
+    codes "unit "
+    ++ (hexadecimal offset
+    ++ (32 ∷ (decimal version ++ (32 ∷ (hexadecimal type_number ++ (10 ∷ []))))))
 
 abbrev pub honest_line : List ℕ
 honest_line = codes "honest\n"
@@ -58,7 +64,9 @@ memory_line = error_line (number_of OutOfMemory)
 abbrev pub only : List ℕ → ℕ → Text
 only line status = record { lines = line ∷ []; status = status }
 
--- what a run of these answers writes, whether it was stopped or not: their lines, with their status, or those and the line that says so
+-- what a run of these answers writes, whether it was stopped or not: their lines, with their
+-- status, or those and the line that says so
 abbrev pub WroteRun : Option (List ℕ) → Option (List ℕ) → Text → Bool → ℕ → Type 0
-WroteRun old new text true status = Appends old new (concat text.lines ++ memory_line) × (status ≡ 1)
+WroteRun old new text true status =
+    Appends old new (concat text.lines ++ memory_line) × (status ≡ 1)
 WroteRun old new text false status = Appends old new (concat text.lines) × (status ≡ text.status)

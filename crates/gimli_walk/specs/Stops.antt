@@ -13,7 +13,8 @@ pub record WroteFront (old new : Option (List ℕ)) (text : Text) : Type 0 where
   pub fewer : count < length text.lines
   pub lines : Appends old new (concat (take count text.lines))
 
--- all lines, or, where memory was refused, some from the front; nothing is said where a write failed
+-- all lines, or, where memory was refused, some from the front; nothing is said where a write
+-- failed
 abbrev pub WroteUntil : Option (List ℕ) → Option (List ℕ) → Text → Result ℕ Stop → Type 0
 WroteUntil old new text (Ok status) = WroteAll old new text status
 WroteUntil old new text (Err Memory) = WroteFront old new text

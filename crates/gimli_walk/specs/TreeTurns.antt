@@ -1,10 +1,13 @@
 -- What a step does to a tree, whatever the references, and the answers that come of it.
-use Rattle.std.specs.Prelude.{◌≡◌, ℕ, ◌+◌, ◌<◌, ◌≤◌, ℤ, Bool, true, false, List, [], ◌∷◌, ◌++◌, length, drop, Option, Result, Ok, Err}
+use Rattle.std.specs.Prelude.{◌≡◌, ℕ, ◌+◌, ◌<◌, ◌≤◌, ℤ, Bool, true, false, List, [], ◌∷◌, ◌++◌}
+use Rattle.std.specs.Prelude.{length, drop, Option, Result, Ok, Err}
 use Rattle.gimli_base.specs.declared.error.Error.{Error}
 use Rattle.gimli_base.specs.declared.error.Error.TheVariants.{OutOfMemory}
-use Rattle.gimli_units.specs.TreePlace.{Lists, Told, a_node, list_end, has_entered, has_left, no_node, children_of}
+use Rattle.gimli_units.specs.TreePlace.{Lists, Told, a_node, list_end, has_entered, has_left}
+use Rattle.gimli_units.specs.TreePlace.{no_node, children_of}
 use Rattle.gimli_units.specs.TreeMoves.{TreeView, node_at, HasBegun}
-use Rattle.gimli_units.specs.TreeWalker.{Standing, at_none, told_begun, after_begun, WasAsked, told_asked, after_asked}
+use Rattle.gimli_units.specs.TreeWalker.{Standing, at_none, told_begun, after_begun, WasAsked}
+use Rattle.gimli_units.specs.TreeWalker.{told_asked, after_asked}
 use Rattle.gimli_walk.specs.declared.tree.TreeStep.{TreeStep}
 use Rattle.gimli_walk.specs.declared.tree.TreeStep.TheVariants.{Root, Next, Enter, Leave}
 
@@ -17,7 +20,8 @@ pub record HasRooted (limit : ℕ) (old : TreeView) (told : Told) (new : Standin
   pub stands : new ≡ after_begun outcome new.tree
 
 -- a list was asked for its next node
-pub record HasAsked (limit : ℕ) (list : Option ℤ) (outer : Lists) (old : TreeView) (told : Told) (new : Standing) : Type 0 where
+pub record HasAsked (limit : ℕ) (list : Option ℤ) (outer : Lists) (old : TreeView) (told : Told)
+    (new : Standing) : Type 0 where
   pub outcome : Result Bool Error
   pub asked : WasAsked limit list old outcome new.tree
   pub fine : outcome ≡ Err OutOfMemory → ⊥
@@ -35,7 +39,8 @@ HasTurned limit Next old told new = elim old.lists [
   | list ∷ outer ↦ HasAsked limit list outer old.tree told new
 ]
 HasTurned limit Enter old told new = elim old.is_on [
-  | true ↦ (told ≡ has_entered) × (new ≡ at_none old.tree (children_of (node_at old.tree) ∷ old.lists))
+  | true ↦ (told ≡ has_entered)
+      × (new ≡ at_none old.tree (children_of (node_at old.tree) ∷ old.lists))
   | false ↦ HasNothing old told new
 ]
 HasTurned limit Leave old told new = elim old.lists [
@@ -45,7 +50,8 @@ HasTurned limit Leave old told new = elim old.lists [
 
 -- a step was made, and its answer was added
 abbrev pub HasToldTurn : ℕ → TreeStep → Standing → List Told → Standing → List Told → Type 0
-HasToldTurn limit step old before new after = (a : Told) × HasTurned limit step old a new × (after ≡ before ++ a ∷ [])
+HasToldTurn limit step old before new after =
+    (a : Told) × HasTurned limit step old a new × (after ≡ before ++ a ∷ [])
 
 -- where a walker stands on a node, that is the answer
 abbrev pub told_standing : Standing → Told
@@ -55,15 +61,20 @@ told_standing s = elim s.is_on [ true ↦ a_node (node_at s.tree) | false ↦ li
 abbrev pub HasTreeRun : ℕ → Standing → List TreeStep → List Told → Type 0
 HasTreeRun limit s steps [] = Unit {0}
 HasTreeRun limit s [] (a ∷ rest) = ⊥
-HasTreeRun limit s (step ∷ steps) (a ∷ rest) = (new : Standing) × HasTurned limit step s a new × HasTreeRun limit new steps rest
+HasTreeRun limit s (step ∷ steps) (a ∷ rest) =
+    (new : Standing) × HasTurned limit step s a new × HasTreeRun limit new steps rest
 
--- A part of a run, from step `from` on: the answers that it adds are the next ones; and where it ends, at the step that it answers, what is
--- answered from there on completes them. It is refused where memory is.
-pub record HasWalked (limit : ℕ) (start : Standing) (steps : List TreeStep) (from : ℕ) (old : List Told) (outcome : Result ℕ Error) (stop : Standing) (new : List Told) : Type 0 where
+-- A part of a run, from step `from` on: the answers that it adds are the next ones; and where it
+-- ends, at the step that it answers, what is answered from there on completes them. It is refused
+-- where memory is.
+pub record HasWalked (limit : ℕ) (start : Standing) (steps : List TreeStep) (from : ℕ)
+    (old : List Told) (outcome : Result ℕ Error) (stop : Standing) (new : List Told) : Type 0 where
   pub added : List Told
   pub is : new ≡ old ++ added
   pub front : HasTreeRun limit start (drop from steps) added
   pub fewer : length added + from ≤ length steps
   pub refused : (e : Error) → outcome ≡ Err e → length added + from < length steps
   pub count : (end : ℕ) → outcome ≡ Ok end → end ≡ length added + from
-  pub completes : (end : ℕ) → outcome ≡ Ok end → (rest : List Told) → HasTreeRun limit stop (drop end steps) rest → HasTreeRun limit start (drop from steps) (added ++ rest)
+  pub completes : (end : ℕ) → outcome ≡ Ok end → (rest : List Told)
+      → HasTreeRun limit stop (drop end steps) rest
+      → HasTreeRun limit start (drop from steps) (added ++ rest)

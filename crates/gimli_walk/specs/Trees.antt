@@ -1,5 +1,6 @@
 -- The answers of a list of steps of a tree, and their text (DWARF 5, 2.3).
-use Rattle.std.specs.Prelude.{ℕ, ℤ, pos, Bool, true, false, if◌then◌else◌, ◌++◌, List, [], ◌∷◌, map, codes, unwrap_or, Option, None, Result, Ok, Err}
+use Rattle.std.specs.Prelude.{ℕ, ℤ, pos, Bool, true, false, if◌then◌else◌, ◌++◌, List, [], ◌∷◌, map}
+use Rattle.std.specs.Prelude.{codes, unwrap_or, Option, None, Result, Ok, Err}
 use Rattle.std.specs.List.{list_any}
 use Rattle.gimli_base.specs.declared.error.Error.{Error}
 use Rattle.gimli_base.specs.Offset.{answer_of}
@@ -9,9 +10,12 @@ use Rattle.gimli_base.specs.Abbreviations.{Map}
 use Rattle.gimli_units.specs.Entry.{entry_of}
 use Rattle.gimli_units.specs.Rows.{Ahead}
 use Rattle.gimli_units.specs.Unit.{UnitView, whole_length, header_size, range_from}
-use Rattle.gimli_units.specs.TreePlace.{TreePlace, Told, a_node, list_end, has_entered, has_left, no_node, a_fault, TreeMoved, to_root, to_next, to_enter, to_leave}
+use Rattle.gimli_units.specs.TreePlace.{TreePlace, Told, a_node, list_end, has_entered, has_left}
+use Rattle.gimli_units.specs.TreePlace.{no_node, a_fault, TreeMoved, to_root, to_next, to_enter}
+use Rattle.gimli_units.specs.TreePlace.{to_leave}
 use Rattle.gimli_walk.specs.declared.tree.TreeAnswer.{TreeAnswer}
-use Rattle.gimli_walk.specs.declared.tree.TreeAnswer.TheVariants.{Node as NodeAnswer, End, Entered, Left, NoNode, Fault}
+use Rattle.gimli_walk.specs.declared.tree.TreeAnswer.TheVariants.{Node as NodeAnswer, End, Entered}
+use Rattle.gimli_walk.specs.declared.tree.TreeAnswer.TheVariants.{Left, NoNode, Fault}
 use Rattle.gimli_walk.specs.declared.tree.TreeStep.{TreeStep}
 use Rattle.gimli_walk.specs.declared.tree.TreeStep.TheVariants.{Root, Next, Enter, Leave}
 use Rattle.gimli_units.specs.UnitRows.{unit_rows_at}
@@ -19,7 +23,8 @@ use Rattle.gimli_walk.specs.Lines.{Text, row_line, end_line, error_line, only}
 
 -- an answer that code holds, by what its readers and offsets stand for
 abbrev pub told_by : {R A O : Type 0} → (R → View) → (O → ℕ) → TreeAnswer R A O → Told
-told_by f g (NodeAnswer e) = a_node (record { entry = entry_of f g e; offset = g e.offset.0; depth = e.depth })
+told_by f g (NodeAnswer e) =
+    a_node (record { entry = entry_of f g e; offset = g e.offset.0; depth = e.depth })
 told_by f g End = list_end
 told_by f g Entered = has_entered
 told_by f g Left = has_left
@@ -39,7 +44,8 @@ tree_step end rows Leave p = to_leave p
 -- the answers to these steps, in their order, from a place
 abbrev pub tree_answers : ℕ → Ahead → List TreeStep → TreePlace → List Told
 tree_answers end rows [] p = []
-tree_answers end rows (s ∷ rest) p = (tree_step end rows s p).told ∷ tree_answers end rows rest (tree_step end rows s p).place
+tree_answers end rows (s ∷ rest) p =
+    (tree_step end rows s p).told ∷ tree_answers end rows rest (tree_step end rows s p).place
 
 -- before the first step there is no node and no list
 abbrev pub before_steps : Ahead → TreePlace
@@ -48,15 +54,18 @@ before_steps rows = record { ahead = rows; node = None; lists = [] }
 -- the answers of a run over these steps, in a tree whose entries are those from a view on
 abbrev pub tree_answers_at : ℕ → UnitView → Map → List TreeStep → View → List Told
 tree_answers_at limit u declared steps v =
-    let rows : Ahead = unit_rows_at limit u declared (pos 0) v in tree_answers (whole_length u) rows steps (before_steps rows)
+    let rows : Ahead = unit_rows_at limit u declared (pos 0) v in
+    tree_answers (whole_length u) rows steps (before_steps rows)
 
 -- the bytes of a tree's entries: from an offset on, or from the first; refused where there is none
 abbrev pub tree_view : UnitView → Option ℕ → Result View Error
 tree_view u start = range_from u (unwrap_or start (header_size u))
 
 -- the answers of a run from a start, which may be refused
-abbrev pub run_tree_answers : ℕ → UnitView → Map → Option ℕ → List TreeStep → Result (List Told) Error
-run_tree_answers limit u declared start steps = answer_of (tree_answers_at limit u declared steps) (tree_view u start)
+abbrev pub run_tree_answers : ℕ → UnitView → Map → Option ℕ → List TreeStep
+    → Result (List Told) Error
+run_tree_answers limit u declared start steps =
+    answer_of (tree_answers_at limit u declared steps) (tree_view u start)
 
 -- the line of a node
 unfoldable pub node_line : ℕ → ℤ → ℕ → Bool → List ℕ
@@ -81,7 +90,8 @@ is_fault told = false
 
 -- a line an answer; the status is 1 where one is a refusal
 abbrev pub tolds_text : List Told → Text
-tolds_text all = record { lines = map told_line all; status = if list_any is_fault all then 1 else 0 }
+tolds_text all =
+    record { lines = map told_line all; status = if list_any is_fault all then 1 else 0 }
 
 -- the text of a run, which may be refused
 abbrev pub run_text_of : Result (List Told) Error → Text

@@ -1,5 +1,6 @@
 -- The unit to which an address belongs (DWARF 5, 6.1.2).
-use Rattle.std.specs.Prelude.{ℕ, ◌^◌, nat_le, nat_lt, ◌&&◌, ◌++◌, codes, Bool, false, if◌then◌else◌, List, [], ◌∷◌, Option, Some, None, Result, Ok, Err}
+use Rattle.std.specs.Prelude.{ℕ, ◌^◌, nat_le, nat_lt, ◌&&◌, ◌++◌, codes, Bool, false, if◌then◌else◌}
+use Rattle.std.specs.Prelude.{List, [], ◌∷◌, Option, Some, None, Result, Ok, Err}
 use Rattle.std.specs.List.{list_any}
 use Rattle.gimli_base.specs.declared.error.Error.{Error}
 use Rattle.gimli_base.specs.Refusal.{number_of}
@@ -19,10 +20,12 @@ holds address (Err x) = false
 abbrev pub set_holds : ℕ → ArangeSet → Bool
 set_holds address s = list_any (holds address) (aranges_of s.encoding.address_size s.tuples)
 
--- the unit of the first of these sets that has one; a refused header counts where no set before it has
+-- the unit of the first of these sets that has one; a refused header counts where no set before it
+-- has
 abbrev pub unit_among : ℕ → List (Result ArangeSet Error) → Result (Option ℕ) Error
 unit_among address [] = Ok None
-unit_among address (Ok s ∷ rest) = if set_holds address s then Ok (Some s.info_offset) else unit_among address rest
+unit_among address (Ok s ∷ rest) =
+    if set_holds address s then Ok (Some s.info_offset) else unit_among address rest
 unit_among address (Err e ∷ rest) = Err e
 
 -- the unit of the first set of a section
@@ -42,6 +45,7 @@ found_text (Ok (Some offset)) = only (found_line offset) 0
 found_text (Ok None) = only none_line 0
 found_text (Err e) = only (error_line (number_of e)) 1
 
--- the text of the search for an address in the bytes of `.debug_aranges`, in little endian and with offsets of 64 bits
+-- the text of the search for an address in the bytes of `.debug_aranges`, in little endian and with
+-- offsets of 64 bits
 abbrev pub find_of : ℕ → List ℕ → Text
 find_of address aranges = found_text (unit_holding (2 ^ 64) address (little aranges))

@@ -1,5 +1,6 @@
 -- What the words of the command line ask for, and what comes of it.
-use Rattle.std.specs.Prelude.{◌≡◌, ◌^◌, ◌≤◌, ◌==◌, ◌&&◌, not, if◌then◌else◌, ℕ, Bool, true, false, List, [], length, slice_index_or, codes, Option, Some, None}
+use Rattle.std.specs.Prelude.{◌≡◌, ◌^◌, ◌≤◌, ◌==◌, ◌&&◌, not, if◌then◌else◌, ℕ, Bool, true, false}
+use Rattle.std.specs.Prelude.{List, [], length, slice_index_or, codes, Option, Some, None}
 use Rattle.std.specs.List.{AllPass, filter_map}
 use Rattle.std.specs.Option.{is_some}
 use Rattle.std.specs.Str.Parse.{digits_value}
@@ -97,32 +98,56 @@ cursor_mode false steps = Plain (record { ref_ptr = (0, 0); now = steps })
 abbrev pub tree_mode : List TreeStep → Mode
 tree_mode steps = Tree (record { ref_ptr = (0, 0); now = steps })
 
--- What comes of a command over two files that `read` gives: what it says of their bytes, or status 3 where one of them can't be
--- read, and then nothing is written, or where a write failed.
-pub data OfTwoFiles {F V : Type 0} (g : Mut F (Bor (List ℕ) × Unit {0}) (Option V)) (bytes : V → List ℕ) (read : F) (first second : List ℕ) (old new : Option (List ℕ)) (Says : List ℕ → List ℕ → ℕ → Type 0) (status : ℕ) : Type 0 where
-  no_first : (last : F) → CalledAt g read first None last → Keeps old new → status ≡ 3 → OfTwoFiles g bytes read first second old new Says status
-  no_second : (x : V) (mid last : F) → CalledAt g read first (Some x) mid → CalledAt g mid second None last → Keeps old new → status ≡ 3 → OfTwoFiles g bytes read first second old new Says status
-  said : (x y : V) (mid last : F) → CalledAt g read first (Some x) mid → CalledAt g mid second (Some y) last → Says (bytes x) (bytes y) status → OfTwoFiles g bytes read first second old new Says status
-  failed : (x y : V) (mid last : F) → CalledAt g read first (Some x) mid → CalledAt g mid second (Some y) last → status ≡ 3 → OfTwoFiles g bytes read first second old new Says status
+-- What comes of a command over two files that `read` gives: what it says of their bytes, or status
+-- 3 where one of them can't be read, and then nothing is written, or where a write failed.
+pub data OfTwoFiles {F V : Type 0} (g : Mut F (Bor (List ℕ) × Unit {0}) (Option V))
+    (bytes : V → List ℕ) (read : F) (first second : List ℕ) (old new : Option (List ℕ))
+    (Says : List ℕ → List ℕ → ℕ → Type 0) (status : ℕ) : Type 0 where
+  no_first : (last : F) → CalledAt g read first None last → Keeps old new → status ≡ 3
+      → OfTwoFiles g bytes read first second old new Says status
+  no_second : (x : V) (mid last : F) → CalledAt g read first (Some x) mid
+      → CalledAt g mid second None last → Keeps old new → status ≡ 3
+      → OfTwoFiles g bytes read first second old new Says status
+  said : (x y : V) (mid last : F) → CalledAt g read first (Some x) mid
+      → CalledAt g mid second (Some y) last → Says (bytes x) (bytes y) status
+      → OfTwoFiles g bytes read first second old new Says status
+  failed : (x y : V) (mid last : F) → CalledAt g read first (Some x) mid
+      → CalledAt g mid second (Some y) last → status ≡ 3
+      → OfTwoFiles g bytes read first second old new Says status
 
 -- What comes of a command over one file.
-pub data OfFile {F V : Type 0} (g : Mut F (Bor (List ℕ) × Unit {0}) (Option V)) (bytes : V → List ℕ) (read : F) (name : List ℕ) (old new : Option (List ℕ)) (Says : List ℕ → ℕ → Type 0) (status : ℕ) : Type 0 where
-  no_file : (last : F) → CalledAt g read name None last → Keeps old new → status ≡ 3 → OfFile g bytes read name old new Says status
-  said_of_one : (x : V) (last : F) → CalledAt g read name (Some x) last → Says (bytes x) status → OfFile g bytes read name old new Says status
-  failed_of_one : (x : V) (last : F) → CalledAt g read name (Some x) last → status ≡ 3 → OfFile g bytes read name old new Says status
+pub data OfFile {F V : Type 0} (g : Mut F (Bor (List ℕ) × Unit {0}) (Option V)) (bytes : V → List ℕ)
+    (read : F) (name : List ℕ) (old new : Option (List ℕ)) (Says : List ℕ → ℕ → Type 0)
+    (status : ℕ) : Type 0 where
+  no_file : (last : F) → CalledAt g read name None last → Keeps old new → status ≡ 3
+      → OfFile g bytes read name old new Says status
+  said_of_one : (x : V) (last : F) → CalledAt g read name (Some x) last → Says (bytes x) status
+      → OfFile g bytes read name old new Says status
+  failed_of_one : (x : V) (last : F) → CalledAt g read name (Some x) last → status ≡ 3
+      → OfFile g bytes read name old new Says status
 
 -- what a walk over two sections writes, where its mode follows only references that are honest
 abbrev pub SaysWalk : Mode → Option (List ℕ) → Option (List ℕ) → List ℕ → List ℕ → ℕ → Type 0
-SaysWalk mode old new info table status = IsHonestWalk (2 ^ 64) mode (little info) (little table) → WroteText old new (text_of mode info table) status
+SaysWalk mode old new info table status =
+    IsHonestWalk (2 ^ 64) mode (little info) (little table)
+    → WroteText old new (text_of mode info table) status
 
--- What comes of a walk by the steps that letters name: status 2 where a letter names none, and status 3 where memory for them is
--- refused; nothing is written then.
-pub data BySteps {S : Type 0} (names : ℕ → Option S) (letters : List ℕ) (old new : Option (List ℕ)) (Walks : List S → ℕ → Type 0) (status : ℕ) : Type 0 where
-  no_steps : (AreSteps names letters → ⊥) → Keeps old new → status ≡ 2 → BySteps names letters old new Walks status
-  no_memory : AreSteps names letters → Keeps old new → status ≡ 3 → BySteps names letters old new Walks status
-  by_steps : AreSteps names letters → Walks (filter_map names letters) status → BySteps names letters old new Walks status
+-- What comes of a walk by the steps that letters name: status 2 where a letter names none, and
+-- status 3 where memory for them is refused; nothing is written then.
+pub data BySteps {S : Type 0} (names : ℕ → Option S) (letters : List ℕ) (old new : Option (List ℕ))
+    (Walks : List S → ℕ → Type 0) (status : ℕ) : Type 0 where
+  no_steps : (AreSteps names letters → ⊥) → Keeps old new → status ≡ 2
+      → BySteps names letters old new Walks status
+  no_memory : AreSteps names letters → Keeps old new → status ≡ 3
+      → BySteps names letters old new Walks status
+  by_steps : AreSteps names letters → Walks (filter_map names letters) status
+      → BySteps names letters old new Walks status
 
--- What comes of a search for the address that letters write: status 2 where they write none, and nothing is written then.
-pub data AtAddress (letters : List ℕ) (old new : Option (List ℕ)) (Says : ℕ → ℕ → Type 0) (status : ℕ) : Type 0 where
-  no_address : (IsAddress letters → ⊥) → Keeps old new → status ≡ 2 → AtAddress letters old new Says status
-  at_address : IsAddress letters → Says (digits_value 16 letters) status → AtAddress letters old new Says status
+-- What comes of a search for the address that letters write: status 2 where they write none, and
+-- nothing is written then.
+pub data AtAddress (letters : List ℕ) (old new : Option (List ℕ)) (Says : ℕ → ℕ → Type 0)
+    (status : ℕ) : Type 0 where
+  no_address : (IsAddress letters → ⊥) → Keeps old new → status ≡ 2
+      → AtAddress letters old new Says status
+  at_address : IsAddress letters → Says (digits_value 16 letters) status
+      → AtAddress letters old new Says status

@@ -24,7 +24,8 @@ use std::io::Write;
 // Writes what a step answered, before the row that it ended on.
 #[tactic(auto, unfolding(crate::specs::Cursors::outcome_text))]
 fn write_outcome<W: Write>(out: &mut W, outcome: &AnswerResult<bool>) -> Result<(), WriteFault>
-    ensures { OnOk result (Appends (W.contents out.old) (W.contents out.new) (outcome_text outcome.now)) }
+    ensures { OnOk result
+        (Appends (W.contents out.old) (W.contents out.new) (outcome_text outcome.now)) }
 {
     match outcome {
         Ok(true) => out.write_all(b"yes ").map_err(|_| WriteFault),
@@ -42,7 +43,9 @@ fn write_answer<R: Reader, A: Allocator, W: Write>(
     outcome: &AnswerResult<bool>,
     cursor: &EntriesCursor<'_, R, A>,
 ) -> Result<(), WriteFault>
-    ensures { OnOk result (Appends (W.contents out.old) (W.contents out.new) (answer_line (answer_at outcome.now cursor.now))) }
+    ensures { OnOk result
+        (Appends (W.contents out.old) (W.contents out.new)
+        (answer_line (answer_at outcome.now cursor.now))) }
 {
     write_outcome(out, outcome)?;
     let offset = cursor.offset().0.into_u64();
@@ -62,7 +65,8 @@ pub(crate) struct AnswerLines<'a, W> {
 
 impl<R: Reader, A: Allocator, W: Write> Sink<R, A> for AnswerLines<'_, W> {
     ghost has_told = { λ s told t. (t.out.ghost_name ≡ s.out.ghost_name)
-        × HasLined answer_line (λ a. is_err a.outcome) (W.contents s.out.now) s.refused told (W.contents t.out.now) t.refused };
+        × HasLined answer_line (λ a. is_err a.outcome) (W.contents s.out.now) s.refused told
+        (W.contents t.out.now) t.refused };
 
     ghost writes = { true };
 
@@ -105,8 +109,8 @@ fn write_told<R: Reader, A: Allocator + Copy, W: Write>(
     }
 }
 
-/// Writes the lines of a cursor's answers to these steps, from the first entry of a unit on, and answers the status of
-/// their text.
+/// Writes the lines of a cursor's answers to these steps, from the first entry of a unit on, and
+/// answers the status of their text.
 pub(crate) fn write_steps<R: Reader, A: Allocator + Copy, W: Write>(
     alloc: A,
     unit: &UnitHeader<R>,
@@ -119,7 +123,8 @@ pub(crate) fn write_steps<R: Reader, A: Allocator + Copy, W: Write>(
         let declared = found abbreviations.now in
         let old = W.contents out.old in
         let new = W.contents out.new in
-        IfOk result (λ status. WroteSteps R.Offset.limit u declared follows steps.now old new status) }
+        IfOk result
+        (λ status. WroteSteps R.Offset.limit u declared follows steps.now old new status) }
 {
     let mut cursor = first_cursor(alloc, unit, abbreviations, follows);
     match write_told(&mut cursor, steps, out) {

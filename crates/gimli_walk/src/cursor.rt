@@ -1,6 +1,7 @@
 //! Runs of a cursor over a list of steps.
 
-ghost use Rattle.std.specs.Prelude.{◌≡◌, ℕ, ◌<◌, true, false, map, length, IfOk, IfSome, Ok, Err, Some, Option};
+ghost use Rattle.std.specs.Prelude.{◌≡◌, ℕ, ◌<◌, true, false, map, length, IfOk, IfSome, Ok, Err};
+ghost use Rattle.std.specs.Prelude.{Some, Option};
 ghost use Rattle.std.specs.List.{All};
 ghost use Rattle.std.specs.Option.{option_map};
 ghost use Rattle.gimli_base.specs.declared.error.Error.{Error as SpecError};
@@ -10,7 +11,9 @@ ghost use Rattle.gimli_base.specs.Offset.{answer_of};
 ghost use Rattle.gimli_base.specs.Table.{found};
 ghost use Rattle.gimli_units.specs.Entry.{entry_of, is_null};
 ghost use Rattle.gimli_units.specs.CursorPlace.{some_of, first_of_rows};
-ghost use Rattle.gimli_units.specs.CursorMoves.{Goes, IsHonestFor, followed_to, rows_from, IsSameUnit, IsTrueEntry, IsRefused, IsNotFound, IsFurther};
+ghost use Rattle.gimli_units.specs.CursorMoves.{Goes, IsHonestFor, followed_to, rows_from};
+ghost use Rattle.gimli_units.specs.CursorMoves.{IsSameUnit, IsTrueEntry, IsRefused, IsNotFound};
+ghost use Rattle.gimli_units.specs.CursorMoves.{IsFurther};
 ghost use Rattle.gimli_units.specs.CursorRead.{Stands};
 ghost use Rattle.gimli_units.specs.CursorStart.{cursor_of, cursor_start};
 ghost use Rattle.gimli_units.specs.UnitRows.{start_view};
@@ -64,14 +67,25 @@ fn take<R: Reader, A: Allocator>(
     cursor: &mut EntriesCursor<'_, R, A>,
     step: CursorStep,
 ) -> Result<bool>
-    ensures moves { (is_sibling step ≡ true → cursor.old.follows ≡ true → IsHonestFor R.Offset.limit cursor.old.depth cursor.old) → UnlessMemory result (Goes R.Offset.limit (step_of cursor.old.raw.end step) cursor.old result cursor.new) }
+    ensures moves { (is_sibling step ≡ true → cursor.old.follows ≡ true
+        → IsHonestFor R.Offset.limit cursor.old.depth cursor.old)
+        → UnlessMemory result
+        (Goes R.Offset.limit (step_of cursor.old.raw.end step) cursor.old result cursor.new) }
     ensures true_entry { result ≡ Ok true → IsTrueEntry R.Offset.limit cursor.old cursor.new }
-    ensures idle { is_sibling step ≡ true → is_null cursor.old.entry ≡ true → (result ≡ Ok false) × (cursor.new ≡ cursor.old) }
-    ensures beside { is_sibling step ≡ true → result ≡ Ok true → (cursor.new.depth ≡ cursor.old.depth) × (is_null cursor.new.entry ≡ false) }
-    ensures not_found { is_sibling step ≡ true → result ≡ Ok false → is_null cursor.old.entry ≡ false → IsNotFound R.Offset.limit cursor.old.depth cursor.old.offset cursor.old cursor.new }
+    ensures idle { is_sibling step ≡ true → is_null cursor.old.entry ≡ true
+        → (result ≡ Ok false) × (cursor.new ≡ cursor.old) }
+    ensures beside { is_sibling step ≡ true → result ≡ Ok true
+        → (cursor.new.depth ≡ cursor.old.depth) × (is_null cursor.new.entry ≡ false) }
+    ensures not_found { is_sibling step ≡ true → result ≡ Ok false
+        → is_null cursor.old.entry ≡ false
+        → IsNotFound R.Offset.limit cursor.old.depth cursor.old.offset cursor.old cursor.new }
     ensures none { (result ≡ Ok true → ⊥) → is_null cursor.new.entry ≡ true }
-    ensures refused { (e : SpecError) → result ≡ Err e → IsRefused R.Offset.limit cursor.old e cursor.new }
-    ensures taken { is_sibling step ≡ true → (t : ℕ) → followed_to cursor.old ≡ Some t → Stands R.Offset.limit result cursor.new (first_of_rows cursor.old.raw.end cursor.old.depth cursor.old.offset (rows_from R.Offset.limit cursor.old.raw t cursor.old.depth)) }
+    ensures refused { (e : SpecError) → result ≡ Err e
+        → IsRefused R.Offset.limit cursor.old e cursor.new }
+    ensures taken { is_sibling step ≡ true → (t : ℕ) → followed_to cursor.old ≡ Some t
+        → Stands R.Offset.limit result cursor.new
+        (first_of_rows cursor.old.raw.end cursor.old.depth cursor.old.offset
+        (rows_from R.Offset.limit cursor.old.raw t cursor.old.depth)) }
     ensures further { IsFurther cursor.old cursor.new }
     ensures unit { IsSameUnit cursor.old cursor.new }
 {
@@ -103,8 +117,12 @@ fn current_of<R: Reader, A: Allocator + Copy>(
     alloc: A,
     cursor: &EntriesCursor<'_, R, A>,
 ) -> Result<Option<DebuggingInformationEntry<R, A>>>
-    ensures entry { IfOk result (λ o. option_map (entry_of R.view R.Offset.number) o ≡ some_of cursor.now.entry) }
-    ensures pair { IfOk result (λ o. IfSome o (λ e. (R.Offset.number e.offset.0 ≡ cursor.now.offset) × (e.depth ≡ cursor.now.depth))) }
+    ensures entry { IfOk result
+        (λ o. option_map (entry_of R.view R.Offset.number) o ≡ some_of cursor.now.entry) }
+    ensures pair { IfOk result
+        (λ o.
+        IfSome o
+        (λ e. (R.Offset.number e.offset.0 ≡ cursor.now.offset) × (e.depth ≡ cursor.now.depth))) }
 {
     match cursor.current() {
         Some(entry) => {
@@ -143,7 +161,9 @@ struct Collected<R: Reader, A: Allocator> {
 }
 
 impl<R: Reader, A: Allocator + Copy> Sink<R, A> for Collected<R, A> {
-    ghost has_told = { λ s told t. HasCollected (seen R.view R.Offset.number) (IsPaired R.Offset.number) s.answers.items told t.answers.items };
+    ghost has_told = { λ s told t.
+        HasCollected (seen R.view R.Offset.number) (IsPaired R.Offset.number) s.answers.items told
+        t.answers.items };
 
     ghost writes = { false };
 
@@ -181,7 +201,8 @@ fn collect_steps<R: Reader, A: Allocator + Copy>(
     cursor: &mut EntriesCursor<'_, R, A>,
     steps: &[CursorStep],
 ) -> Run<CursorAnswer<R, A>, A>
-    ensures run { HasRun R.Offset.limit cursor.old steps.now (map (seen R.view R.Offset.number) result.answers.items) }
+    ensures run { HasRun R.Offset.limit cursor.old steps.now
+        (map (seen R.view R.Offset.number) result.answers.items) }
     ensures paired { All (IsPaired R.Offset.number) result.answers.items }
     ensures stopped { result.stopped ≡ true → length result.answers.items < length steps.now }
     ensures whole { result.stopped ≡ false → length result.answers.items ≡ length steps.now }
@@ -221,7 +242,8 @@ fn start_cursor<'abbrev, R: Reader, A: Allocator + Copy>(
     start: Option<UnitOffset<R::Offset>>,
     follows: bool,
 ) -> Result<EntriesCursor<'abbrev, R, A>>
-    ensures { result ≡ cursor_start (unit_view unit.now) abbreviations.now follows (option_map (λ o. R.Offset.number o.0) start) }
+    ensures { result ≡ cursor_start (unit_view unit.now) abbreviations.now follows
+        (option_map (λ o. R.Offset.number o.0) start) }
 {
     match start {
         None => Ok(first_cursor(alloc, unit, abbreviations, follows)),
@@ -235,14 +257,16 @@ fn start_cursor<'abbrev, R: Reader, A: Allocator + Copy>(
     }
 }
 
-/// The answers of a cursor from a start, or from the first entry, to these steps; the cursor follows sibling references.
+/// The answers of a cursor from a start, or from the first entry, to these steps; the cursor
+/// follows sibling references.
 ///
-/// Where the rows from the start are honest, or no step looks for a sibling, they are the definition's answers. Whatever the
-/// references, each is true: its entry is what the unit has at its offset, and what is read next stands behind it. And each is
-/// that of its step from the place behind the answer before, but for a sibling that is sought by references that are not
-/// honest, which stands ahead all the same. A `NextSibling` straight behind an entry follows its reference where it can be
-/// followed. Refusal: `OffsetOutOfBounds` of the start. Where memory is refused the run is stopped, and holds the answers
-/// before.
+/// Where the rows from the start are honest, or no step looks for a sibling, they are the
+/// definition's answers. Whatever the references, each is true: its entry is what the unit has at
+/// its offset, and what is read next stands behind it. And each is that of its step from the place
+/// behind the answer before, but for a sibling that is sought by references that are not honest,
+/// which stands ahead all the same. A `NextSibling` straight behind an entry follows its reference
+/// where it can be followed. Refusal: `OffsetOutOfBounds` of the start. Where memory is refused the
+/// run is stopped, and holds the answers before.
 pub fn run_cursor<R: Reader, A: Allocator + Copy>(
     alloc: A,
     unit: &UnitHeader<R>,
@@ -260,10 +284,11 @@ pub fn run_cursor<R: Reader, A: Allocator + Copy>(
     Ok(collect_steps(alloc, &mut cursor, steps))
 }
 
-/// The answers of a cursor that follows no reference, from a start, or from the first entry, to these steps. They are the
-/// definition's, whatever the references.
+/// The answers of a cursor that follows no reference, from a start, or from the first entry, to
+/// these steps. They are the definition's, whatever the references.
 ///
-/// Refusal: `OffsetOutOfBounds` of the start. Where memory is refused the run is stopped, and holds the answers before.
+/// Refusal: `OffsetOutOfBounds` of the start. Where memory is refused the run is stopped, and holds
+/// the answers before.
 pub fn run_cursor_plain<R: Reader, A: Allocator + Copy>(
     alloc: A,
     unit: &UnitHeader<R>,

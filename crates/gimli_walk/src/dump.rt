@@ -8,7 +8,8 @@ ghost use Rattle.gimli_headers.specs.Units.{units_of};
 ghost use Rattle.gimli_walk.specs.declared.lines.Stop.TheVariants.{Memory};
 ghost use Rattle.gimli_walk.specs.Text.{Wrote, WroteAll, has_unit, little};
 ghost use Rattle.gimli_walk.specs.Stops.{WroteUntil};
-ghost use Rattle.gimli_walk.specs.Dump.{type_number as number_of_type, unit_dump, units_dump, dump_of};
+ghost use Rattle.gimli_walk.specs.Dump.{type_number as number_of_type, unit_dump, units_dump};
+ghost use Rattle.gimli_walk.specs.Dump.{dump_of};
 
 use crate::lines::{Stop, WriteFault, write_error, write_unit_line};
 use crate::rows::{end_lines, write_rows};
@@ -18,11 +19,12 @@ use gimli_units::{UnitHeader, UnitType};
 use std::alloc::Allocator;
 use std::io::Write;
 
-/// Writes each unit of `.debug_info`, and its rows, and answers the exit status: 1 where a refusal was met, else 0. The
-/// sections are little endian.
+/// Writes each unit of `.debug_info`, and its rows, and answers the exit status: 1 where a refusal
+/// was met, else 0. The sections are little endian.
 ///
-/// Where memory is refused, whole lines from the front are written and then `error 24`, and the status is 1; without a unit
-/// no memory is asked for. Nothing is said of what is written where a write fails.
+/// Where memory is refused, whole lines from the front are written and then `error 24`, and the
+/// status is 1; without a unit no memory is asked for. Nothing is said of what is written where a
+/// write fails.
 pub fn dump_text<A: Allocator + Copy, W: Write>(
     alloc: A,
     info: &[u8],
@@ -50,7 +52,8 @@ fn dump_units<R: Reader, A: Allocator + Copy, W: Write>(
 ) -> Result<u8, Stop>
     ensures text { let info = ⟦<DebugInfo<R> as Section<R>>⟧.content debug_info.now in
         let declarations = ⟦<DebugAbbrev<R> as Section<R>>⟧.content debug_abbrev.now in
-        let text = units_dump R.Offset.limit declarations (units_of R.Offset.limit InfoSection info) in
+        let text = units_dump R.Offset.limit declarations
+        (units_of R.Offset.limit InfoSection info) in
         WroteUntil (W.contents out.old) (W.contents out.new) text result }
     ensures without_memory { let info = ⟦<DebugInfo<R> as Section<R>>⟧.content debug_info.now in
         has_unit R.Offset.limit info ≡ false → result ≡ Err Memory → ⊥ }

@@ -4,7 +4,8 @@ ghost use Rattle.std.specs.Prelude.{◌≡◌, OnOk, IfOk};
 ghost use Rattle.std.specs.Io.KnownBytes.{Appends};
 ghost use Rattle.std.specs.Option.{option_map};
 ghost use Rattle.gimli_base.specs.Offset.{answer_of};
-ghost use Rattle.gimli_walk.specs.UnitOfAddress.{set_holds, unit_holding, found_line, none_line, find_of};
+ghost use Rattle.gimli_walk.specs.UnitOfAddress.{set_holds, unit_holding, found_line, none_line};
+ghost use Rattle.gimli_walk.specs.UnitOfAddress.{find_of};
 ghost use Rattle.gimli_walk.specs.Text.{WroteAll};
 
 use crate::lines::{WriteFault, write_error};
@@ -14,8 +15,9 @@ use gimli_units::DebugInfoOffset;
 use std::io::Write;
 use std::result::Result as StdResult;
 
-/// Where the unit begins in `.debug_info` to which an address belongs: that of the first set, in order, with a range that
-/// holds the address. Tuples whose end does not fit are passed over. No memory is asked for.
+/// Where the unit begins in `.debug_info` to which an address belongs: that of the first set, in
+/// order, with a range that holds the address. Tuples whose end does not fit are passed over. No
+/// memory is asked for.
 ///
 /// Refusals: those of the header of a set, where no set before it holds the address.
 pub fn unit_of_address<R: Reader>(
@@ -74,8 +76,9 @@ fn write_none<W: Write>(out: &mut W) -> StdResult<(), WriteFault>
     out.write_all(b"none\n").map_err(|_| WriteFault)
 }
 
-/// Writes where the unit begins to which an address belongs, and answers the exit status: 1 where a refusal was met, else 0.
-/// The section is little endian. No memory is asked for. Nothing is said of what is written where a write fails.
+/// Writes where the unit begins to which an address belongs, and answers the exit status: 1 where a
+/// refusal was met, else 0. The section is little endian. No memory is asked for. Nothing is said
+/// of what is written where a write fails.
 pub fn find_text<W: Write>(address: u64, aranges: &[u8], out: &mut W) -> StdResult<u8, WriteFault>
     ensures { let text = find_of address aranges.now in
         IfOk result (λ status. WroteAll (W.contents out.old) (W.contents out.new) text status) }

@@ -3,7 +3,8 @@
 ghost use Rattle.std.specs.Prelude.{◌≡◌, ◌↔◌, ℕ, Option, None, IfOk, IfSome, IsTrue};
 ghost use Rattle.std.specs.List.{filter_map, AllPass};
 ghost use Rattle.std.specs.Str.Parse.{digits_value};
-ghost use Rattle.gimli_walk.specs.Words.{cursor_step, tree_step, AreSteps, is_lower_digit, IsAddress};
+ghost use Rattle.gimli_walk.specs.Words.{cursor_step, tree_step, AreSteps, is_lower_digit};
+ghost use Rattle.gimli_walk.specs.Words.{IsAddress};
 
 use crate::{CursorStep, TreeStep};
 use std::alloc::{AllocError, Allocator};

@@ -4,7 +4,8 @@ ghost use Rattle.std.specs.Prelude.{◌≡◌, OnOk};
 ghost use Rattle.std.specs.Io.KnownBytes.{Appends};
 ghost use Rattle.gimli_base.specs.Refusal.{number_of};
 ghost use Rattle.gimli_walk.specs.declared.lines.Stop.TheVariants.{Write as WriteStop};
-ghost use Rattle.gimli_walk.specs.Lines.{row_line, end_line, no_unit_line, error_line, error_line_at, unit_line, honest_line, false_line};
+ghost use Rattle.gimli_walk.specs.Lines.{row_line, end_line, no_unit_line, error_line};
+ghost use Rattle.gimli_walk.specs.Lines.{error_line_at, unit_line, honest_line, false_line};
 
 use gimli_base::Error;
 use std::io::Write;
@@ -30,7 +31,8 @@ impl From<WriteFault> for Stop {
     }
 }
 
-/// Writes the line of a row: its offset and tag in hexadecimal, its depth, and whether children follow.
+/// Writes the line of a row: its offset and tag in hexadecimal, its depth, and whether children
+/// follow.
 #[tactic(auto, unfolding(crate::specs::Lines::row_line))]
 pub(crate) fn write_row<W: Write>(
     out: &mut W,
@@ -39,7 +41,9 @@ pub(crate) fn write_row<W: Write>(
     tag: u16,
     has_children: bool,
 ) -> Result<(), WriteFault>
-    ensures { OnOk result (Appends (W.contents out.old) (W.contents out.new) (row_line offset depth tag has_children)) }
+    ensures { OnOk result
+        (Appends (W.contents out.old) (W.contents out.new)
+        (row_line offset depth tag has_children)) }
 {
     let flag = u8::from(has_children);
     write!(out, "{offset:x} {depth} {tag:x} {flag}\n").map_err(|_| WriteFault)
@@ -62,7 +66,8 @@ pub(crate) fn write_no_unit<W: Write>(out: &mut W) -> Result<(), WriteFault>
 /// Writes the line of a refusal.
 #[tactic(auto, unfolding(crate::specs::Lines::error_line))]
 pub(crate) fn write_error<W: Write>(out: &mut W, error: Error) -> Result<(), WriteFault>
-    ensures { OnOk result (Appends (W.contents out.old) (W.contents out.new) (error_line (number_of error))) }
+    ensures { OnOk result
+        (Appends (W.contents out.old) (W.contents out.new) (error_line (number_of error))) }
 {
     let number = error.number();
     write!(out, "error {number}\n").map_err(|_| WriteFault)
@@ -75,13 +80,16 @@ pub(crate) fn write_error_at<W: Write>(
     error: Error,
     offset: u64,
 ) -> Result<(), WriteFault>
-    ensures { OnOk result (Appends (W.contents out.old) (W.contents out.new) (error_line_at (number_of error) offset)) }
+    ensures { OnOk result
+        (Appends (W.contents out.old) (W.contents out.new)
+        (error_line_at (number_of error) offset)) }
 {
     let number = error.number();
     write!(out, "error {number} {offset:x}\n").map_err(|_| WriteFault)
 }
 
-/// Writes the line of a unit: its offset and the number of its type in hexadecimal, and between them its version.
+/// Writes the line of a unit: its offset and the number of its type in hexadecimal, and between
+/// them its version.
 #[tactic(auto, unfolding(crate::specs::Lines::unit_line))]
 pub(crate) fn write_unit_line<W: Write>(
     out: &mut W,
@@ -89,7 +97,8 @@ pub(crate) fn write_unit_line<W: Write>(
     version: u16,
     type_number: u8,
 ) -> Result<(), WriteFault>
-    ensures { OnOk result (Appends (W.contents out.old) (W.contents out.new) (unit_line offset version type_number)) }
+    ensures { OnOk result
+        (Appends (W.contents out.old) (W.contents out.new) (unit_line offset version type_number)) }
 {
     write!(out, "unit {offset:x} {version} {type_number:x}\n").map_err(|_| WriteFault)
 }

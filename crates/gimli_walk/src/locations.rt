@@ -14,12 +14,14 @@ use gimli_base::{
 use gimli_lists::{HasLists, LocListIter, LocationListEntry, LocationLists};
 use std::alloc::Allocator;
 
-/// The answers of the location list at an offset of the section in which a unit with this encoding has its lists: the
-/// locations in order, and each refusal where it comes. `dwo` says that the sections are those of a split file.
+/// The answers of the location list at an offset of the section in which a unit with this encoding
+/// has its lists: the locations in order, and each refusal where it comes. `dwo` says that the
+/// sections are those of a split file.
 ///
-/// Offsets count from `base` on, until an entry gives another base address. Addresses that are named by their index are
-/// those of the table that begins at `addr_base` in `addr`. The encoding's size of addresses has to be 1, 2, 4 or 8.
-/// Refusal: `UnexpectedEof`, where the offset lies behind the section's end.
+/// Offsets count from `base` on, until an entry gives another base address. Addresses that are
+/// named by their index are those of the table that begins at `addr_base` in `addr`. The encoding's
+/// size of addresses has to be 1, 2, 4 or 8. Refusal: `UnexpectedEof`, where the offset lies behind
+/// the section's end.
 #[tactic(auto, unfolding(gimli_lists::specs::Places::list_answers))]
 pub fn run_locations<R: Reader, A: Allocator + Copy>(
     alloc: A,

@@ -7,7 +7,8 @@ use crate::{CursorStep, TreeStep};
 pub enum Mode<'a> {
     /// A line for each row, nulls too.
     Rows,
-    /// One line: whether the sibling references are honest, and else the first entry whose reference is not.
+    /// One line: whether the sibling references are honest, and else the first entry whose
+    /// reference is not.
     Check,
     /// A line for each step of a cursor that follows sibling references.
     Cursor(&'a [CursorStep]),

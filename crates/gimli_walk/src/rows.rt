@@ -22,7 +22,8 @@ fn write_rows_left<R: Reader, A: Allocator + Copy, W: Write>(
     entries: &mut EntriesRaw<'_, R, A>,
     out: &mut W,
 ) -> Result<u8, Stop>
-    ensures { let read = entry_at R.Offset.limit entries.old.encoding (found entries.old.abbreviations) in
+    ensures { let read = entry_at R.Offset.limit entries.old.encoding
+        (found entries.old.abbreviations) in
         let text = rows_text (ahead_at read entries.old.end entries.old.depth entries.old.rest) in
         WroteUntil (W.contents out.old) (W.contents out.new) text result }
 {
@@ -70,7 +71,8 @@ pub(crate) fn write_rows<R: Reader, A: Allocator + Copy, W: Write>(
     }
 }
 
-/// Writes the line that tells that memory was refused, behind lines that were stopped for it, and answers their status.
+/// Writes the line that tells that memory was refused, behind lines that were stopped for it, and
+/// answers their status.
 pub(crate) fn end_lines<W: Write>(written: Result<u8, Stop>, out: &mut W) -> Result<u8, WriteFault>
     ensures lines { (start : _) (text : Text) → WroteUntil start (W.contents out.old) text written →
         IfOk result (λ status. Wrote start (W.contents out.new) text status) }

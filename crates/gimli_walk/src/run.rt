@@ -2,7 +2,8 @@
 
 ghost use Rattle.std.specs.Prelude.{◌≡◌, true, false, [], ◌∷◌, ◌++◌};
 ghost use Rattle.std.specs.Iterator.{IsFinite, Yields, Drains};
-ghost use Rattle.gimli_base.specs.declared.common.SectionId.TheVariants.{DebugInfo as InfoSection, DebugTypes as TypesSection};
+ghost use Rattle.gimli_base.specs.declared.common.SectionId.TheVariants.{DebugInfo as InfoSection};
+ghost use Rattle.gimli_base.specs.declared.common.SectionId.TheVariants.{DebugTypes as TypesSection};
 ghost use Rattle.gimli_base.specs.Offset.{answer_of};
 ghost use Rattle.gimli_headers.specs.Units.{units_of, answers};
 ghost use Rattle.gimli_walk.specs.Runs.{IsRunOf, told_run};
@@ -46,7 +47,8 @@ pub(crate) fn run_all<T: Drop, I: Iterator<Item = T>, A: Allocator>(alloc: A, it
     }
 }
 
-/// The units of `.debug_info` in order, and then the refusal that ends them, if it isn't the section's end.
+/// The units of `.debug_info` in order, and then the refusal that ends them, if it isn't the
+/// section's end.
 pub fn run_units<R: Reader, A: Allocator + Copy>(
     alloc: A,
     debug_info: &DebugInfo<R>,
@@ -58,7 +60,8 @@ pub fn run_units<R: Reader, A: Allocator + Copy>(
     run_all(alloc, debug_info.units())
 }
 
-/// The units of `.debug_types` in order, and then the refusal that ends them, if it isn't the section's end.
+/// The units of `.debug_types` in order, and then the refusal that ends them, if it isn't the
+/// section's end.
 pub fn run_type_units<R: Reader, A: Allocator + Copy>(
     alloc: A,
     debug_types: &DebugTypes<R>,

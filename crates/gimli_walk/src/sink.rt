@@ -18,17 +18,20 @@ pub(crate) trait Sink<R: Reader, A: Allocator> {
     // whether it writes
     ghost writes: { Bool };
 
-    /// Takes what a step answered, behind which the cursor stands where it does. Where memory is refused nothing is taken.
+    /// Takes what a step answered, behind which the cursor stands where it does. Where memory is
+    /// refused nothing is taken.
     fn tell(
         &mut self,
         outcome: AnswerResult<bool>,
         cursor: &EntriesCursor<'_, R, A>,
     ) -> Result<(), Stop>
-        ensures told { OnOk result (has_told self.old (answer_at outcome cursor.now ∷ []) self.new) }
+        ensures told { OnOk result
+            (has_told self.old (answer_at outcome cursor.now ∷ []) self.new) }
         ensures kept { result ≡ Err Memory → has_told self.old [] self.new }
         ensures fault { result ≡ Err WriteStop → writes ≡ true };
 
     ghost none: { (s : Self) → has_told s [] s };
 
-    ghost more: { (s t u : Self) (xs ys : List Answer) → has_told s xs t → has_told t ys u → has_told s (xs ++ ys) u };
+    ghost more: { (s t u : Self) (xs ys : List Answer) → has_told s xs t → has_told t ys u
+        → has_told s (xs ++ ys) u };
 }

@@ -3,7 +3,10 @@
 ghost use Rattle.std.specs.Prelude.{◌≡◌, ◌^◌, IfOk, false};
 ghost use Rattle.gimli_base.specs.Table.{found};
 ghost use Rattle.gimli_base.specs.Abbreviations.{map_at};
-ghost use Rattle.gimli_walk.specs.Text.{Wrote, WroteAll, WroteText, has_unit, little, declared_text, mode_text, sections_text, text_of, IsHonestMode, IsHonestDeclared, IsHonestWalk, WroteTrueMode, WroteTrueDeclared, WroteTrueWalk};
+ghost use Rattle.gimli_walk.specs.Text.{Wrote, WroteAll, WroteText, has_unit, little};
+ghost use Rattle.gimli_walk.specs.Text.{declared_text, mode_text, sections_text, text_of};
+ghost use Rattle.gimli_walk.specs.Text.{IsHonestMode, IsHonestDeclared, IsHonestWalk};
+ghost use Rattle.gimli_walk.specs.Text.{WroteTrueMode, WroteTrueDeclared, WroteTrueWalk};
 ghost use Rattle.gimli_units.specs.UnitHeld.{unit_view};
 
 use crate::answers::write_steps;
@@ -18,11 +21,12 @@ use gimli_units::UnitHeader;
 use std::alloc::Allocator;
 use std::io::Write;
 
-/// Writes what a walk over the first unit of `.debug_info` answers, and answers the exit status: 1 where there is no
-/// unit or a refusal was met, else 0. The sections are little endian.
+/// Writes what a walk over the first unit of `.debug_info` answers, and answers the exit status: 1
+/// where there is no unit or a refusal was met, else 0. The sections are little endian.
 ///
-/// Where memory is refused, whole lines from the front are written and then `error 24`, and the status is 1; before the
-/// header of the unit is read no memory is asked for. Nothing is said of what is written where a write fails.
+/// Where memory is refused, whole lines from the front are written and then `error 24`, and the
+/// status is 1; before the header of the unit is read no memory is asked for. Nothing is said of
+/// what is written where a write fails.
 pub fn walk_text<A: Allocator + Copy, W: Write>(
     alloc: A,
     mode: Mode<'_>,
@@ -57,17 +61,20 @@ fn walk_sections<R: Reader, A: Allocator + Copy, W: Write>(
 ) -> Result<u8, WriteFault>
     ensures without_memory { let info = ⟦<DebugInfo<R> as Section<R>>⟧.content debug_info.now in
         let declarations = ⟦<DebugAbbrev<R> as Section<R>>⟧.content debug_abbrev.now in
-        let text = sections_text R.Offset.limit (mode_text R.Offset.limit mode.entry) info declarations in
+        let text = sections_text R.Offset.limit (mode_text R.Offset.limit mode.entry) info
+        declarations in
         has_unit R.Offset.limit info ≡ false →
         IfOk result (λ status. WroteAll (W.contents out.old) (W.contents out.new) text status) }
     ensures true_lines { let info = ⟦<DebugInfo<R> as Section<R>>⟧.content debug_info.now in
         let declarations = ⟦<DebugAbbrev<R> as Section<R>>⟧.content debug_abbrev.now in
         let old = W.contents out.old in
         let new = W.contents out.new in
-        IfOk result (λ status. WroteTrueWalk R.Offset.limit mode.entry info declarations old new status) }
+        IfOk result
+        (λ status. WroteTrueWalk R.Offset.limit mode.entry info declarations old new status) }
     ensures text { let info = ⟦<DebugInfo<R> as Section<R>>⟧.content debug_info.now in
         let declarations = ⟦<DebugAbbrev<R> as Section<R>>⟧.content debug_abbrev.now in
-        let text = sections_text R.Offset.limit (mode_text R.Offset.limit mode.entry) info declarations in
+        let text = sections_text R.Offset.limit (mode_text R.Offset.limit mode.entry) info
+        declarations in
         IsHonestWalk R.Offset.limit mode.entry info declarations →
         IfOk result (λ status. WroteText (W.contents out.old) (W.contents out.new) text status) }
 {
@@ -93,12 +100,15 @@ fn walk_unit<R: Reader, A: Allocator + Copy, W: Write>(
     out: &mut W,
 ) -> Result<u8, WriteFault>
     ensures true_lines { let u = unit_view unit.now in
-        let declared = map_at u.abbreviations (⟦<DebugAbbrev<R> as Section<R>>⟧.content debug_abbrev.now) in
+        let declared = map_at u.abbreviations
+        (⟦<DebugAbbrev<R> as Section<R>>⟧.content debug_abbrev.now) in
         let old = W.contents out.old in
         let new = W.contents out.new in
-        IfOk result (λ status. WroteTrueDeclared R.Offset.limit mode.entry u declared old new status) }
+        IfOk result
+        (λ status. WroteTrueDeclared R.Offset.limit mode.entry u declared old new status) }
     ensures text { let u = unit_view unit.now in
-        let declared = map_at u.abbreviations (⟦<DebugAbbrev<R> as Section<R>>⟧.content debug_abbrev.now) in
+        let declared = map_at u.abbreviations
+        (⟦<DebugAbbrev<R> as Section<R>>⟧.content debug_abbrev.now) in
         let text = declared_text (mode_text R.Offset.limit mode.entry) u declared in
         IsHonestDeclared R.Offset.limit mode.entry u declared →
         IfOk result (λ status. WroteText (W.contents out.old) (W.contents out.new) text status) }

@@ -1,6 +1,8 @@
 //! Runs of a tree over a list of steps.
 
-ghost use Rattle.std.specs.Prelude.{◌≡◌, Option, ◌+◌, ◌<◌, ◌≤◌, ◌^◌, unsigned_abs, true, false, length, drop, [], ◌∷◌, ◌++◌, IfOk, OnErr, MatchOption, Ok, Err, Some, None};
+ghost use Rattle.std.specs.Prelude.{◌≡◌, Option, ◌+◌, ◌<◌, ◌≤◌, ◌^◌, unsigned_abs, true, false};
+ghost use Rattle.std.specs.Prelude.{length, drop, [], ◌∷◌, ◌++◌, IfOk, OnErr, MatchOption, Ok, Err};
+ghost use Rattle.std.specs.Prelude.{Some, None};
 ghost use Rattle.std.specs.Option.{option_map};
 ghost use Rattle.gimli_base.specs.declared.error.Error.TheVariants.{OutOfMemory};
 ghost use Rattle.gimli_base.specs.Offset.{answer_of};
@@ -53,7 +55,8 @@ pub enum TreeAnswer<R, A: Allocator, Offset = <R as Reader>::Offset> {
 
 // The step at a place of the list, if there is one.
 fn step_at(steps: &[TreeStep], at: usize) -> Option<TreeStep>
-    ensures { MatchOption result ((length steps.now ≤ at) × (drop at steps.now ≡ [])) (λ s. (at < length steps.now) × (drop at steps.now ≡ s ∷ drop (at + 1) steps.now)) }
+    ensures { MatchOption result ((length steps.now ≤ at) × (drop at steps.now ≡ []))
+        (λ s. (at < length steps.now) × (drop at steps.now ≡ s ∷ drop (at + 1) steps.now)) }
 {
     if at < steps.len() {
         Some(steps[at])
@@ -67,7 +70,10 @@ fn tell<R: Reader, A: Allocator>(
     answers: &mut Vec<TreeAnswer<R, A>, A>,
     answer: TreeAnswer<R, A>,
 ) -> Result<()>
-    ensures told { IfOk result (λ _. tolds_by R.view R.Offset.number answers.new.items ≡ tolds_by R.view R.Offset.number answers.old.items ++ told_by R.view R.Offset.number answer ∷ []) }
+    ensures told { IfOk result
+        (λ _. tolds_by R.view R.Offset.number answers.new.items
+        ≡ tolds_by R.view R.Offset.number answers.old.items ++ told_by R.view R.Offset.number answer
+        ∷ []) }
     ensures kept { OnErr result (answers.new.items ≡ answers.old.items) }
 {
     answers.push(answer)?;
@@ -80,7 +86,15 @@ fn tell_node<R: Reader, A: Allocator + Copy>(
     entry: &DebuggingInformationEntry<R, A>,
     answers: &mut Vec<TreeAnswer<R, A>, A>,
 ) -> Result<()>
-    ensures told { IfOk result (λ _. tolds_by R.view R.Offset.number answers.new.items ≡ tolds_by R.view R.Offset.number answers.old.items ++ a_node (record { entry = entry_of R.view R.Offset.number entry.now; offset = R.Offset.number entry.now.offset.0; depth = entry.now.depth }) ∷ []) }
+    ensures told { IfOk result
+        (λ _. tolds_by R.view R.Offset.number answers.new.items
+        ≡ tolds_by R.view R.Offset.number answers.old.items
+        ++ a_node
+        (record {
+          entry = entry_of R.view R.Offset.number entry.now;
+          offset = R.Offset.number entry.now.offset.0;
+          depth = entry.now.depth;
+        }) ∷ []) }
     ensures kept { OnErr result (answers.new.items ≡ answers.old.items) }
 {
     let copy = entry.try_clone(alloc)?;
@@ -99,7 +113,9 @@ fn tell_fault<R: Reader, A: Allocator>(
     answers: &mut Vec<TreeAnswer<R, A>, A>,
     error: Error,
 ) -> Result<()>
-    ensures told { IfOk result (λ _. tolds_by R.view R.Offset.number answers.new.items ≡ tolds_by R.view R.Offset.number answers.old.items ++ a_fault error ∷ []) }
+    ensures told { IfOk result
+        (λ _. tolds_by R.view R.Offset.number answers.new.items
+        ≡ tolds_by R.view R.Offset.number answers.old.items ++ a_fault error ∷ []) }
     ensures fine { IfOk result (λ _. error ≡ OutOfMemory → ⊥) }
     ensures kept { OnErr result (answers.new.items ≡ answers.old.items) }
 {
@@ -109,7 +125,8 @@ fn tell_fault<R: Reader, A: Allocator>(
     tell(answers, TreeAnswer::Fault(error))
 }
 
-// Adds the node that a walker stands on, or the end of a list where it stands on none. Refusal: `OutOfMemory`.
+// Adds the node that a walker stands on, or the end of a list where it stands on none. Refusal:
+// `OutOfMemory`.
 fn tell_found<R: Reader, A: Allocator + Copy>(
     alloc: A,
     walker: &EntriesTreeWalker<'_, R, A>,
@@ -236,14 +253,17 @@ fn run_steps<R: Reader, A: Allocator + Copy>(
     Ok(at)
 }
 
-/// The answers of a tree from a start, or from the first entry, to these steps; sibling references are followed.
+/// The answers of a tree from a start, or from the first entry, to these steps; sibling references
+/// are followed.
 ///
-/// Where the rows from the start are honest they are the definition's answers. Whatever the references, each is one that its
-/// step can give, and true: a node's entry is what the unit has at its offset, each root is the tree's, and from a root to the
-/// next the offsets of nodes grow. And each step leads from where the one before stood to where the definition says, but for a
-/// node that is sought by references that are not honest, which stands ahead all the same. Lists are kept
-/// in a stack of their own, so that a walk takes none of the machine's. Refusal: `OffsetOutOfBounds` of the start. Where
-/// memory is refused the run is stopped, and holds the answers before.
+/// Where the rows from the start are honest they are the definition's answers. Whatever the
+/// references, each is one that its step can give, and true: a node's entry is what the unit has at
+/// its offset, each root is the tree's, and from a root to the next the offsets of nodes grow. And
+/// each step leads from where the one before stood to where the definition says, but for a node
+/// that is sought by references that are not honest, which stands ahead all the same. Lists are
+/// kept in a stack of their own, so that a walk takes none of the machine's. Refusal:
+/// `OffsetOutOfBounds` of the start. Where memory is refused the run is stopped, and holds the
+/// answers before.
 pub fn run_tree<R: Reader, A: Allocator + Copy>(
     alloc: A,
     unit: &UnitHeader<R>,

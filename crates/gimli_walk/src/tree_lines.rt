@@ -4,7 +4,8 @@ ghost use Rattle.std.specs.Prelude.{◌≡◌, map, Bool, OnOk, IfOk};
 ghost use Rattle.std.specs.List.{concat, list_any};
 ghost use Rattle.std.specs.Io.KnownBytes.{Appends};
 ghost use Rattle.gimli_walk.specs.Lines.{WroteRun};
-ghost use Rattle.gimli_walk.specs.Trees.{told_by, tolds_by, node_line, told_line, tolds_text, is_fault_answer};
+ghost use Rattle.gimli_walk.specs.Trees.{told_by, tolds_by, node_line, told_line, tolds_text};
+ghost use Rattle.gimli_walk.specs.Trees.{is_fault_answer};
 
 use crate::lines::{WriteFault, write_end, write_error, write_row};
 use crate::{Run, TreeAnswer};
@@ -19,7 +20,10 @@ fn write_node<R: Reader, A: Allocator, W: Write>(
     out: &mut W,
     entry: &DebuggingInformationEntry<R, A>,
 ) -> Result<(), WriteFault>
-    ensures { OnOk result (Appends (W.contents out.old) (W.contents out.new) (node_line (R.Offset.number entry.now.offset.0) entry.now.depth entry.now.tag.0 entry.now.has_children)) }
+    ensures { OnOk result
+        (Appends (W.contents out.old) (W.contents out.new)
+        (node_line (R.Offset.number entry.now.offset.0) entry.now.depth entry.now.tag.0
+        entry.now.has_children)) }
 {
     out.write_all(b"node ").map_err(|_| WriteFault)?;
     let offset = entry.offset().0.into_u64();
@@ -45,7 +49,9 @@ fn write_told<R: Reader, A: Allocator, W: Write>(
     out: &mut W,
     answer: &TreeAnswer<R, A>,
 ) -> Result<(), WriteFault>
-    ensures { OnOk result (Appends (W.contents out.old) (W.contents out.new) (told_line (told_by R.view R.Offset.number answer.now))) }
+    ensures { OnOk result
+        (Appends (W.contents out.old) (W.contents out.new)
+        (told_line (told_by R.view R.Offset.number answer.now))) }
 {
     match answer {
         TreeAnswer::Node(entry) => write_node(out, entry),
@@ -62,7 +68,9 @@ fn write_tolds<R: Reader, A: Allocator, W: Write>(
     out: &mut W,
     answers: &[TreeAnswer<R, A>],
 ) -> Result<(), WriteFault>
-    ensures { OnOk result (Appends (W.contents out.old) (W.contents out.new) (concat (map told_line (tolds_by R.view R.Offset.number answers.now)))) }
+    ensures { OnOk result
+        (Appends (W.contents out.old) (W.contents out.new)
+        (concat (map told_line (tolds_by R.view R.Offset.number answers.now)))) }
 {
     'answers: for answer in answers {
         write_told(out, answer)?;
@@ -82,12 +90,16 @@ fn any_fault<R: Reader, A: Allocator>(answers: &[TreeAnswer<R, A>]) -> bool
     false
 }
 
-// Writes the lines of a run, and answers the exit status: 1 where an answer is a refusal, or memory was refused.
+// Writes the lines of a run, and answers the exit status: 1 where an answer is a refusal, or memory
+// was refused.
 pub(crate) fn write_tree_run<R: Reader, A: Allocator, W: Write>(
     out: &mut W,
     run: &Run<TreeAnswer<R, A>, A>,
 ) -> Result<u8, WriteFault>
-    ensures { IfOk result (λ status. WroteRun (W.contents out.old) (W.contents out.new) (tolds_text (tolds_by R.view R.Offset.number run.now.answers.items)) run.now.stopped status) }
+    ensures { IfOk result
+        (λ status. WroteRun (W.contents out.old) (W.contents out.new)
+        (tolds_text (tolds_by R.view R.Offset.number run.now.answers.items)) run.now.stopped
+        status) }
 {
     write_tolds(out, &run.answers)?;
     if run.stopped {

@@ -6,8 +6,10 @@ ghost use Rattle.gimli_walk.specs.declared.mode.Mode.TheVariants.{Rows, Check};
 ghost use Rattle.gimli_walk.specs.Text.{Wrote, WroteAll, WroteText, text_of};
 ghost use Rattle.gimli_walk.specs.Dump.{dump_of};
 ghost use Rattle.gimli_walk.specs.UnitOfAddress.{find_of};
-ghost use Rattle.gimli_walk.specs.Words.{word, AsksRows, AsksCheck, AsksDump, AsksFind, AsksCursor, AsksPlain, AsksTree, SaysNothing};
-ghost use Rattle.gimli_walk.specs.Words.{cursor_step, tree_step, cursor_mode, tree_mode, OfTwoFiles, OfFile, SaysWalk, BySteps, AtAddress};
+ghost use Rattle.gimli_walk.specs.Words.{word, AsksRows, AsksCheck, AsksDump, AsksFind, AsksCursor};
+ghost use Rattle.gimli_walk.specs.Words.{AsksPlain, AsksTree, SaysNothing};
+ghost use Rattle.gimli_walk.specs.Words.{cursor_step, tree_step, cursor_mode, tree_mode};
+ghost use Rattle.gimli_walk.specs.Words.{OfTwoFiles, OfFile, SaysWalk, BySteps, AtAddress};
 
 use crate::letters::{Lettered, address_in, are_steps, steps_in};
 use crate::{CursorStep, Mode, TreeStep, dump_text, find_text, walk_text};
@@ -18,12 +20,14 @@ const USAGE: &str = "usage: gimli_walk rows|cursor|tree INFO ABBREV [STEPS]\n";
 
 /// Does what the words behind the program's name say, and answers the exit status.
 ///
-/// `rows`, `check` and `dump` stand before the names of two files, those of `.debug_info` and `.debug_abbrev`; `cursor`,
-/// `plain` and `tree` before these and the letters of steps; `find` before the name of a file, that of `.debug_aranges`, and
-/// an address in hexadecimal. `read` gives the bytes of a file, or none where it can't be read.
+/// `rows`, `check` and `dump` stand before the names of two files, those of `.debug_info` and
+/// `.debug_abbrev`; `cursor`, `plain` and `tree` before these and the letters of steps; `find`
+/// before the name of a file, that of `.debug_aranges`, and an address in hexadecimal. `read` gives
+/// the bytes of a file, or none where it can't be read.
 ///
-/// Status 2 is that of words, letters or an address that say nothing, 3 that of a file that can't be read, of a write that
-/// failed, or of memory refused for the steps; any other is that of the text.
+/// Status 2 is that of words, letters or an address that say nothing, 3 that of a file that can't
+/// be read, of a write that failed, or of memory refused for the steps; any other is that of the
+/// text.
 pub fn run_words<A: Allocator + Copy, F: FnMut(&str) -> Option<Vec<u8>>, W: Write, E: Write>(
     alloc: A,
     words: &[&str],

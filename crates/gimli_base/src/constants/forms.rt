@@ -101,5 +101,6 @@ pub const DW_FORM_GNU_ref_alt: DwForm = DwForm(0x1f20);
 
 pub const DW_FORM_GNU_strp_alt: DwForm = DwForm(0x1f21);
 
-/// The form of this project's own: the number of an address as LEB128, and then an offset from it in 4 bytes.
+/// The form of this project's own: the number of an address as LEB128, and then an offset from it
+/// in 4 bytes.
 pub const DW_FORM_own_addrx_offset: DwForm = DwForm(0x3f01);

@@ -1,10 +1,14 @@
 //! The ranges of a set, and how its tuples are read (DWARF 5, 6.1.2).
 
-ghost use Rattle.std.specs.Prelude.{◌≡◌, ◌<◌, ◌++◌, length, IsTrue, MatchResult, OnSome, Ok, None, []};
+ghost use Rattle.std.specs.Prelude.{◌≡◌, ◌<◌, ◌++◌, length, IsTrue, MatchResult, OnSome, Ok, None};
+ghost use Rattle.std.specs.Prelude.{[]};
 ghost use Rattle.std.specs.Iterator.{at_most};
 ghost use Rattle.std.specs.Option.{option_to_list, option_transpose};
 ghost use Rattle.gimli_base.specs.Reading.{is_size};
-ghost use Rattle.gimli_lists.specs.Aranges.{ArangesPlace, next_tuple, raw_entry, converted, answer_to, first_of_tuples, next_raw_entry, next_arange, raw_entries, aranges_of, aranges_ahead, IsNextArange};
+ghost use Rattle.gimli_lists.specs.Aranges.{ArangesPlace, next_tuple, raw_entry, converted};
+ghost use Rattle.gimli_lists.specs.Aranges.{answer_to, first_of_tuples, next_raw_entry};
+ghost use Rattle.gimli_lists.specs.Aranges.{next_arange, raw_entries, aranges_of, aranges_ahead};
+ghost use Rattle.gimli_lists.specs.Aranges.{IsNextArange};
 
 use crate::Range;
 use crate::rnglists::raw::RawRange;
@@ -49,37 +53,45 @@ impl<R: Reader> ArangeEntryIter<R> {
         }
     }
 
-    /// The next range, or none where no tuple is left. Tuples of two zeros, and those whose address stands for none, are
-    /// passed; a range of length 0 is not.
+    /// The next range, or none where no tuple is left. Tuples of two zeros, and those whose address
+    /// stands for none, are passed; a range of length 0 is not.
     ///
-    /// Refusal: `AddressOverflow`, where the end does not fit the size of an address; the call after it goes on behind that
-    /// tuple.
+    /// Refusal: `AddressOverflow`, where the end does not fit the size of an address; the call
+    /// after it goes on behind that tuple.
     #[inline(always)]
     pub fn next(&mut self) -> Result<Option<ArangeEntry>>
         ensures value { result ≡ option_transpose (next_arange self.old).0 }
         ensures left { self.new ≡ (next_arange self.old).1 }
-        ensures ahead { aranges_of self.old.encoding.address_size self.old.rest ≡ option_to_list (next_arange self.old).0 ++ aranges_of self.new.encoding.address_size self.new.rest }
+        ensures ahead { aranges_of self.old.encoding.address_size self.old.rest
+            ≡ option_to_list (next_arange self.old).0
+            ++ aranges_of self.new.encoding.address_size self.new.rest }
         ensures ended { result ≡ Ok None → aranges_ahead self.old ≡ [] }
-        ensures takes { MatchResult result (λ entry. OnSome entry (length self.new.rest.bytes < length self.old.rest.bytes)) (λ _. length self.new.rest.bytes < length self.old.rest.bytes) }
+        ensures takes { MatchResult result
+            (λ entry. OnSome entry (length self.new.rest.bytes < length self.old.rest.bytes))
+            (λ _. length self.new.rest.bytes < length self.old.rest.bytes) }
     {
         next_range(&mut self.input, self.encoding.address_size)
     }
 
-    /// The next tuple that is not two zeros, or none where none is left. Its end is 0, and its address may be one that
-    /// stands for none.
+    /// The next tuple that is not two zeros, or none where none is left. Its end is 0, and its
+    /// address may be one that stands for none.
     pub fn next_raw(&mut self) -> Result<Option<ArangeEntry>>
         ensures value { result ≡ Ok (next_raw_entry self.old).0 }
         ensures left { self.new ≡ (next_raw_entry self.old).1 }
-        ensures ahead { raw_entries self.old.encoding.address_size self.old.rest ≡ option_to_list (next_raw_entry self.old).0 ++ raw_entries self.new.encoding.address_size self.new.rest }
+        ensures ahead { raw_entries self.old.encoding.address_size self.old.rest
+            ≡ option_to_list (next_raw_entry self.old).0
+            ++ raw_entries self.new.encoding.address_size self.new.rest }
         ensures ended { let size = self.old.encoding.address_size in
             result ≡ Ok None → raw_entries size self.old.rest ≡ [] }
-        ensures takes { MatchResult result (λ entry. OnSome entry (length self.new.rest.bytes < length self.old.rest.bytes)) (λ _. length self.new.rest.bytes < length self.old.rest.bytes) }
+        ensures takes { MatchResult result
+            (λ entry. OnSome entry (length self.new.rest.bytes < length self.old.rest.bytes))
+            (λ _. length self.new.rest.bytes < length self.old.rest.bytes) }
     {
         next_entry(&mut self.input, self.encoding.address_size)
     }
 
-    /// The range of a tuple that `next_raw` gave: its end is its beginning and its length. None where the address stands for
-    /// none: it is all ones, or one less, in the size of an address.
+    /// The range of a tuple that `next_raw` gave: its end is its beginning and its length. None
+    /// where the address stands for none: it is all ones, or one less, in the size of an address.
     ///
     /// Refusal: `AddressOverflow`, where the end does not fit the size of an address.
     pub fn convert_raw(&self, entry: ArangeEntry) -> Result<Option<ArangeEntry>>
@@ -143,7 +155,8 @@ impl ArangeEntry {
     }
 }
 
-// The next tuple of a set, or none where fewer bytes are left than a tuple has; they are passed then.
+// The next tuple of a set, or none where fewer bytes are left than a tuple has; they are passed
+// then.
 #[inline(always)]
 fn next_tuple<R: Reader>(input: &mut R, address_size: u8) -> Result<Option<(u64, u64)>>
     requires { IsTrue (is_size address_size) }
@@ -178,8 +191,11 @@ fn raw_entry(address: u64, length: u64) -> Option<ArangeEntry>
 fn next_entry<R: Reader>(input: &mut R, address_size: u8) -> Result<Option<ArangeEntry>>
     requires { IsTrue (is_size address_size) }
     ensures value { result ≡ Ok (first_of_tuples raw_entry address_size (R.view input.old)).0 }
-    ensures left { R.view input.new ≡ (first_of_tuples raw_entry address_size (R.view input.old)).1 }
-    ensures takes { MatchResult result (λ entry. OnSome entry (length (R.view input.new).bytes < length (R.view input.old).bytes)) (λ _. length (R.view input.new).bytes < length (R.view input.old).bytes) }
+    ensures left { R.view input.new
+        ≡ (first_of_tuples raw_entry address_size (R.view input.old)).1 }
+    ensures takes { MatchResult result
+        (λ entry. OnSome entry (length (R.view input.new).bytes < length (R.view input.old).bytes))
+        (λ _. length (R.view input.new).bytes < length (R.view input.old).bytes) }
 {
     while let Some((address, length)) = next_tuple(input, address_size)? {
         if let Some(entry) = raw_entry(address, length) {
@@ -209,9 +225,14 @@ fn convert(entry: ArangeEntry, address_size: u8) -> Result<Option<ArangeEntry>>
 #[inline(always)]
 fn next_range<R: Reader>(input: &mut R, address_size: u8) -> Result<Option<ArangeEntry>>
     requires { IsTrue (is_size address_size) }
-    ensures value { result ≡ option_transpose (first_of_tuples (answer_to address_size) address_size (R.view input.old)).0 }
-    ensures left { R.view input.new ≡ (first_of_tuples (answer_to address_size) address_size (R.view input.old)).1 }
-    ensures takes { MatchResult result (λ entry. OnSome entry (length (R.view input.new).bytes < length (R.view input.old).bytes)) (λ _. length (R.view input.new).bytes < length (R.view input.old).bytes) }
+    ensures value { result
+        ≡ option_transpose
+        (first_of_tuples (answer_to address_size) address_size (R.view input.old)).0 }
+    ensures left { R.view input.new
+        ≡ (first_of_tuples (answer_to address_size) address_size (R.view input.old)).1 }
+    ensures takes { MatchResult result
+        (λ entry. OnSome entry (length (R.view input.new).bytes < length (R.view input.old).bytes))
+        (λ _. length (R.view input.new).bytes < length (R.view input.old).bytes) }
 {
     while let Some(raw_entry) = next_entry(input, address_size)? {
         if let Some(entry) = convert(raw_entry, address_size)? {

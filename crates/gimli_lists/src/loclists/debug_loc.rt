@@ -14,7 +14,8 @@ pub struct DebugLoc<R> {
 impl<'a, E: Endianity> DebugLoc<EndianSlice<'a, E>> {
     /// The section of these bytes.
     pub fn new(bytes: &'a [u8], endian: E) -> Self
-        ensures { ⟦<DebugLoc<EndianSlice<'a, E>> as Section<EndianSlice<'a, E>>>⟧.content result ≡ record { big = E.big endian; place = 0; bytes = bytes.now } }
+        ensures { ⟦<DebugLoc<EndianSlice<'a, E>> as Section<EndianSlice<'a, E>>>⟧.content result
+            ≡ record { big = E.big endian; place = 0; bytes = bytes.now } }
     {
         DebugLoc {
             section: EndianSlice::new(bytes, endian),
@@ -47,7 +48,8 @@ impl<R: Reader> Section<R> for DebugLoc<R> {
 impl<R: Reader> DebugLoc<R> {
     /// A section of the same bytes.
     pub fn copy(&self) -> Self
-        ensures { ⟦<DebugLoc<R> as Section<R>>⟧.content result ≡ ⟦<DebugLoc<R> as Section<R>>⟧.content self.now }
+        ensures { ⟦<DebugLoc<R> as Section<R>>⟧.content result
+            ≡ ⟦<DebugLoc<R> as Section<R>>⟧.content self.now }
     {
         DebugLoc {
             section: self.section.copy(),

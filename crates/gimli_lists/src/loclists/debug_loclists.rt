@@ -14,7 +14,8 @@ pub struct DebugLocLists<R> {
 impl<'a, E: Endianity> DebugLocLists<EndianSlice<'a, E>> {
     /// The section of these bytes.
     pub fn new(bytes: &'a [u8], endian: E) -> Self
-        ensures { ⟦<DebugLocLists<EndianSlice<'a, E>> as Section<EndianSlice<'a, E>>>⟧.content result ≡ record { big = E.big endian; place = 0; bytes = bytes.now } }
+        ensures { ⟦<DebugLocLists<EndianSlice<'a, E>> as Section<EndianSlice<'a, E>>>⟧.content
+            result ≡ record { big = E.big endian; place = 0; bytes = bytes.now } }
     {
         DebugLocLists {
             section: EndianSlice::new(bytes, endian),
@@ -47,7 +48,8 @@ impl<R: Reader> Section<R> for DebugLocLists<R> {
 impl<R: Reader> DebugLocLists<R> {
     /// A section of the same bytes.
     pub fn copy(&self) -> Self
-        ensures { ⟦<DebugLocLists<R> as Section<R>>⟧.content result ≡ ⟦<DebugLocLists<R> as Section<R>>⟧.content self.now }
+        ensures { ⟦<DebugLocLists<R> as Section<R>>⟧.content result
+            ≡ ⟦<DebugLocLists<R> as Section<R>>⟧.content self.now }
     {
         DebugLocLists {
             section: self.section.copy(),

@@ -1,6 +1,7 @@
 //! The locations of a list, which know their base address.
 
-ghost use Rattle.std.specs.Prelude.{◌≡◌, ◌<◌, length, IsTrue, MatchResult, IfOk, IfSome, IfNone, OnSome};
+ghost use Rattle.std.specs.Prelude.{◌≡◌, ◌<◌, length, IsTrue, MatchResult, IfOk, IfSome, IfNone};
+ghost use Rattle.std.specs.Prelude.{OnSome};
 ghost use Rattle.std.specs.Option.{option_map};
 ghost use Rattle.std.specs.Iterator.{at_most};
 ghost use Rattle.gimli_base.specs.Address.{min_tombstone};
@@ -10,7 +11,8 @@ ghost use Rattle.gimli_base.specs.View.{View};
 ghost use Rattle.gimli_lists.specs.LocationEntry.{location_entry_of, location_grammar};
 ghost use Rattle.gimli_lists.specs.LocationReads.{location_grammar-takes};
 ghost use Rattle.gimli_lists.specs.Locations.{location_of, locations_ahead};
-ghost use Rattle.gimli_lists.specs.Places.{next_raw, raw_list_ahead, ListPlace, converted, InList, IsBehind, IsSpent, read_from, IsNext};
+ghost use Rattle.gimli_lists.specs.Places.{next_raw, raw_list_ahead, ListPlace, converted, InList};
+ghost use Rattle.gimli_lists.specs.Places.{IsBehind, IsSpent, read_from, IsNext};
 ghost use Rattle.gimli_lists.specs.RawList.{IsFirstOf};
 ghost use Rattle.gimli_lists.specs.RangeEntry.{entry_of};
 ghost use Rattle.gimli_lists.specs.Resolved.{answered, transposed};
@@ -37,7 +39,13 @@ pub struct LocListIter<R: Reader> {
 impl<R: Reader> Model for LocListIter<R> {
     ghost Value = { ListPlace };
 
-    ghost view = { λ i. record { raw = i.raw; base = i.base_address; addresses = R.view i.debug_addr.section; table = R.Offset.number i.debug_addr_base.0 } };
+    ghost view = { λ i.
+        record {
+          raw = i.raw;
+          base = i.base_address;
+          addresses = R.view i.debug_addr.section;
+          table = R.Offset.number i.debug_addr_base.0;
+        } };
 
     ghost invariant = { λ i. IsTrue (is_size i.raw.encoding.address_size) };
 }
@@ -51,7 +59,14 @@ impl<R: Reader> LocListIter<R> {
         debug_addr_base: DebugAddrBase<R::Offset>,
     ) -> LocListIter<R>
         requires { IsTrue (is_size raw.encoding.address_size) }
-        ensures { result ≡ record { raw = raw; base = base_address; addresses = ⟦<DebugAddr<R> as Section<R>>⟧.content debug_addr; table = R.Offset.number debug_addr_base.0 } }
+        ensures { result
+            ≡ record {
+              raw = raw;
+              base = base_address;
+              addresses = ⟦<DebugAddr<R> as Section<R>>⟧.content debug_addr;
+              table =
+                  R.Offset.number debug_addr_base.0;
+            } }
     {
         LocListIter {
             raw,
@@ -61,15 +76,24 @@ impl<R: Reader> LocListIter<R> {
         }
     }
 
-    /// The next entry as it is written, or none behind the last. The answer is for `convert_raw`, which has to see each
-    /// entry in turn.
+    /// The next entry as it is written, or none behind the last. The answer is for `convert_raw`,
+    /// which has to see each entry in turn.
     ///
     /// Refusals: those of `RawLocListIter::next`; nothing is left then.
     pub fn next_raw(&mut self) -> Result<Option<RawLocListEntry<R>>>
-        ensures value { (answer_of (option_map (location_entry_of R.view R.Offset.number)) result, self.new.raw) ≡ next_raw (location_grammar R.Offset.limit) self.old.raw }
-        ensures ahead { IsFirstOf (answer_of (option_map (location_entry_of R.view R.Offset.number)) result) (raw_list_ahead (location_grammar R.Offset.limit) self.old.raw) (raw_list_ahead (location_grammar R.Offset.limit) self.new.raw) }
+        ensures value { (
+          answer_of (option_map (location_entry_of R.view R.Offset.number)) result,
+          self.new.raw,
+        ) ≡ next_raw (location_grammar R.Offset.limit) self.old.raw }
+        ensures ahead { IsFirstOf
+            (answer_of (option_map (location_entry_of R.view R.Offset.number)) result)
+            (raw_list_ahead (location_grammar R.Offset.limit) self.old.raw)
+            (raw_list_ahead (location_grammar R.Offset.limit) self.new.raw) }
         ensures same { self.new ≡ record self.old { raw = self.new.raw } }
-        ensures takes { MatchResult result (λ entry. OnSome entry (length self.new.raw.rest.bytes < length self.old.raw.rest.bytes)) (λ _. length self.new.raw.rest.bytes < length self.old.raw.rest.bytes) }
+        ensures takes { MatchResult result
+            (λ entry. OnSome entry
+            (length self.new.raw.rest.bytes < length self.old.raw.rest.bytes))
+            (λ _. length self.new.raw.rest.bytes < length self.old.raw.rest.bytes) }
     {
         self.raw.next()
     }
@@ -82,7 +106,9 @@ impl<R: Reader> LocListIter<R> {
         entry: RawRngListEntry<R::Offset>,
         expr: Expression<R>,
     ) -> Result<Option<LocationListEntry<R>>>
-        ensures { (answer_of (option_map (location_of R.view)) result, self.new) ≡ converted R.Offset.limit (with_payload (R.view expr.0) (entry_of R.Offset.number entry)) self.old }
+        ensures { (answer_of (option_map (location_of R.view)) result, self.new)
+            ≡ converted R.Offset.limit
+            (with_payload (R.view expr.0) (entry_of R.Offset.number entry)) self.old }
     {
         let size = self.raw.address_size();
         let mut base = self.base_address;
@@ -100,18 +126,21 @@ impl<R: Reader> LocListIter<R> {
         }
     }
 
-    /// What an entry stands for: a location, or none. An entry that gives a base address changes the base for those behind
-    /// it. A default location has the addresses from 0 to the greatest number of 64 bits, whatever their size.
+    /// What an entry stands for: a location, or none. An entry that gives a base address changes
+    /// the base for those behind it. A default location has the addresses from 0 to the greatest
+    /// number of 64 bits, whatever their size.
     ///
-    /// No location is given where it begins at or above the least address that stands for none, or not below its end, nor
-    /// by a pair of offsets from a base that stands for none. Refusals, of the look-up of an address by its index:
-    /// `UnexpectedEof`, `UnsupportedOffset`; the base and the rest of the list stay then.
+    /// No location is given where it begins at or above the least address that stands for none, or
+    /// not below its end, nor by a pair of offsets from a base that stands for none. Refusals, of
+    /// the look-up of an address by its index: `UnexpectedEof`, `UnsupportedOffset`; the base and
+    /// the rest of the list stay then.
     #[tactic(auto, unfolding(crate::specs::Places::converted))]
     pub fn convert_raw(
         &mut self,
         raw_loc: RawLocListEntry<R>,
     ) -> Result<Option<LocationListEntry<R>>>
-        ensures { (answer_of (option_map (location_of R.view)) result, self.new) ≡ converted R.Offset.limit (location_entry_of R.view R.Offset.number raw_loc) self.old }
+        ensures { (answer_of (option_map (location_of R.view)) result, self.new)
+            ≡ converted R.Offset.limit (location_entry_of R.view R.Offset.number raw_loc) self.old }
     {
         let (entry, expr) = match raw_loc {
             RawLocListEntry::BaseAddress { addr } => {
@@ -160,22 +189,37 @@ impl<R: Reader> LocListIter<R> {
 
     /// The next location, or none behind the last.
     ///
-    /// Refusals: those of `RawLocListIter::next`, behind which nothing is left, and those of `convert_raw`, behind which
-    /// the rest of the list is left. Nothing is left behind the last entry either.
+    /// Refusals: those of `RawLocListIter::next`, behind which nothing is left, and those of
+    /// `convert_raw`, behind which the rest of the list is left. Nothing is left behind the last
+    /// entry either.
     pub fn next(&mut self) -> Result<Option<LocationListEntry<R>>>
-        ensures ahead { locations_ahead R.Offset.limit self.old ≡ answered (answer_of (option_map (location_of R.view)) result) (locations_ahead R.Offset.limit self.new) }
+        ensures ahead { locations_ahead R.Offset.limit self.old
+            ≡ answered (answer_of (option_map (location_of R.view)) result)
+            (locations_ahead R.Offset.limit self.new) }
 
-        // The entries that stand for nothing are read, and the one behind them; the base before the others is at hand.
-        ensures place { IsBehind (location_grammar R.Offset.limit) R.Offset.limit (read_from (location_grammar R.Offset.limit) R.Offset.limit self.old) self.old self.new }
+        // The entries that stand for nothing are read, and the one behind them; the base before the
+        // others is at hand.
+        ensures place { IsBehind (location_grammar R.Offset.limit) R.Offset.limit
+            (read_from (location_grammar R.Offset.limit) R.Offset.limit self.old) self.old
+            self.new }
         ensures same { InList self.old self.new }
-        ensures takes { MatchResult result (λ location. OnSome location (length self.new.raw.rest.bytes < length self.old.raw.rest.bytes)) (λ _. length self.new.raw.rest.bytes < length self.old.raw.rest.bytes) }
-        ensures ended { IfOk result (λ location. IfNone location (length self.new.raw.rest.bytes ≡ 0)) }
+        ensures takes { MatchResult result
+            (λ location. OnSome location
+            (length self.new.raw.rest.bytes < length self.old.raw.rest.bytes))
+            (λ _. length self.new.raw.rest.bytes < length self.old.raw.rest.bytes) }
+        ensures ended { IfOk result
+            (λ location. IfNone location (length self.new.raw.rest.bytes ≡ 0)) }
 
-        // Where none of the entries that are left answers anything, nothing is left, whether the list ends or is refused.
+        // Where none of the entries that are left answers anything, nothing is left, whether the
+        // list ends or is refused.
         ensures spent { IsSpent (location_grammar R.Offset.limit) R.Offset.limit self.old self.new }
 
-        // A location's range begins below its end, and below the least address that stands for none.
-        ensures sound { IfOk result (λ location. IfSome location (λ l. (l.range.begin < l.range.end) × (l.range.begin < min_tombstone self.old.raw.encoding.address_size))) }
+        // A location's range begins below its end, and below the least address that stands for
+        // none.
+        ensures sound { IfOk result
+            (λ location. IfSome location
+            (λ l. (l.range.begin < l.range.end)
+            × (l.range.begin < min_tombstone self.old.raw.encoding.address_size))) }
     {
         next_item(self)
     }
@@ -184,7 +228,9 @@ impl<R: Reader> LocListIter<R> {
 impl<R: Reader> Iterator for LocListIter<R> {
     type Item = Result<LocationListEntry<R>>;
 
-    ghost next_gives = { λ s r t. IsNext (location_grammar R.Offset.limit) R.Offset.limit s (answer_of (option_map (location_of R.view)) (transposed r)) t };
+    ghost next_gives = { λ s r t.
+        IsNext (location_grammar R.Offset.limit) R.Offset.limit s
+        (answer_of (option_map (location_of R.view)) (transposed r)) t };
 
     ghost remaining = { λ s. at_most (length s.raw.rest.bytes) };
 

@@ -5,7 +5,9 @@ ghost use Rattle.std.specs.Option.{option_map};
 ghost use Rattle.std.specs.Iterator.{at_most};
 ghost use Rattle.gimli_base.specs.Offset.{answer_of};
 ghost use Rattle.gimli_base.specs.Reading.{read};
-ghost use Rattle.gimli_lists.specs.LocationEntry.{location_entry_of, short_expression_at, expression_at, indexed_length_at, new_location_at, location_grammar};
+ghost use Rattle.gimli_lists.specs.LocationEntry.{location_entry_of, short_expression_at};
+ghost use Rattle.gimli_lists.specs.LocationEntry.{expression_at, indexed_length_at};
+ghost use Rattle.gimli_lists.specs.LocationEntry.{new_location_at, location_grammar};
 ghost use Rattle.gimli_lists.specs.LocationReads.{location_grammar-takes};
 ghost use Rattle.gimli_lists.specs.Places.{RawPlace, next_raw, raw_list_ahead};
 ghost use Rattle.gimli_lists.specs.RawList.{IsFirstOf, old_entry_at};
@@ -22,8 +24,8 @@ use gimli_base::{
 };
 use std::marker::Model;
 
-/// An entry of a location list, as it is written. Each but a base address has an expression, which says where the object
-/// is.
+/// An entry of a location list, as it is written. Each but a base address has an expression, which
+/// says where the object is.
 #[derive(Debug, Drop)]
 pub enum RawLocListEntry<R, Offset = <R as Reader>::Offset> {
     /// A pair of versions up to 4, of addresses or of offsets from the base address.
@@ -35,8 +37,8 @@ pub enum RawLocListEntry<R, Offset = <R as Reader>::Offset> {
         /// The expression.
         expr: Expression<R>,
     },
-    /// A base address, from which later offsets count; `DW_LLE_base_address`, or in a list of addresses alone the pair that
-    /// begins with all ones.
+    /// A base address, from which later offsets count; `DW_LLE_base_address`, or in a list of
+    /// addresses alone the pair that begins with all ones.
     BaseAddress {
         /// The address.
         addr: u64,
@@ -101,7 +103,8 @@ pub enum RawLocListEntry<R, Offset = <R as Reader>::Offset> {
 impl<R: Reader> RawLocListEntry<R> {
     /// The same entry, its expression copied.
     pub fn copy(&self) -> RawLocListEntry<R>
-        ensures { location_entry_of R.view R.Offset.number result ≡ location_entry_of R.view R.Offset.number self.now }
+        ensures { location_entry_of R.view R.Offset.number result
+            ≡ location_entry_of R.view R.Offset.number self.now }
     {
         match self {
             RawLocListEntry::AddressOrOffsetPair { begin, end, expr } => {
@@ -156,7 +159,8 @@ impl<R: Reader> RawLocListEntry<R> {
 // The expression behind a length of 2 bytes; where it is refused, the input is left anywhere.
 #[inline]
 fn read_short_expression<R: Reader>(input: &mut R) -> Result<Expression<R>>
-    ensures { read (answer_of (λ e. R.view e.0) result) (R.view input.new) ≡ short_expression_at (R.view input.old) }
+    ensures { read (answer_of (λ e. R.view e.0) result) (R.view input.new)
+        ≡ short_expression_at (R.view input.old) }
 {
     let length = input.read_u16()?;
     Ok(Expression(input.split(R::Offset::from_u16(length))?))
@@ -165,7 +169,8 @@ fn read_short_expression<R: Reader>(input: &mut R) -> Result<Expression<R>>
 // The expression of an entry of the new encoding; where it is refused, the input is left anywhere.
 #[inline]
 fn read_expression<R: Reader>(input: &mut R, version: u16) -> Result<Expression<R>>
-    ensures { read (answer_of (λ e. R.view e.0) result) (R.view input.new) ≡ expression_at R.Offset.limit version (R.view input.old) }
+    ensures { read (answer_of (λ e. R.view e.0) result) (R.view input.new)
+        ≡ expression_at R.Offset.limit version (R.view input.old) }
 {
     if version < 5 {
         return read_short_expression(input);
@@ -174,7 +179,8 @@ fn read_expression<R: Reader>(input: &mut R, version: u16) -> Result<Expression<
     Ok(Expression(input.split(R::Offset::from_u64(length)?)?))
 }
 
-// The number of bytes of a range that begins at an indexed address; where it is refused, the input is left anywhere.
+// The number of bytes of a range that begins at an indexed address; where it is refused, the input
+// is left anywhere.
 fn read_indexed_length<R: Reader>(input: &mut R, version: u16) -> Result<u64>
     ensures { read result (R.view input.new) ≡ indexed_length_at version (R.view input.old) }
 {
@@ -188,7 +194,8 @@ fn read_indexed_length<R: Reader>(input: &mut R, version: u16) -> Result<u64>
 // The next entry of versions up to 4; where it is refused, the input is left anywhere.
 #[tactic(auto, unfolding(crate::specs::RawList::old_entry_at))]
 fn parse_bare<R: Reader>(input: &mut R, address_size: u8) -> Result<Option<RawLocListEntry<R>>>
-    ensures { read (answer_of (option_map (location_entry_of R.view R.Offset.number)) result) (R.view input.new) ≡ old_entry_at short_expression_at address_size (R.view input.old) }
+    ensures { read (answer_of (option_map (location_entry_of R.view R.Offset.number)) result)
+        (R.view input.new) ≡ old_entry_at short_expression_at address_size (R.view input.old) }
 {
     let range = RawRange::parse(input, address_size)?;
     if range.is_end() {
@@ -212,7 +219,9 @@ fn parse_coded<R: Reader>(
     version: u16,
     address_size: u8,
 ) -> Result<Option<RawLocListEntry<R>>>
-    ensures { read (answer_of (option_map (location_entry_of R.view R.Offset.number)) result) (R.view input.new) ≡ new_location_at R.Offset.limit version address_size (R.view input.old) }
+    ensures { read (answer_of (option_map (location_entry_of R.view R.Offset.number)) result)
+        (R.view input.new) ≡ new_location_at R.Offset.limit version address_size
+        (R.view input.old) }
 {
     let code = DwLle(input.read_u8()?);
     match code {
@@ -305,7 +314,8 @@ pub struct RawLocListIter<R: Reader> {
 impl<R: Reader> Model for RawLocListIter<R> {
     ghost Value = { RawPlace };
 
-    ghost view = { λ i. record { rest = R.view i.input; encoding = i.encoding; format = i.format } };
+    ghost view = { λ i.
+        record { rest = R.view i.input; encoding = i.encoding; format = i.format } };
 }
 
 impl<R: Reader> RawLocListIter<R> {
@@ -329,15 +339,25 @@ impl<R: Reader> RawLocListIter<R> {
 
     /// The next entry, or none behind the last, which the end of the list or of the section ends.
     ///
-    /// Its expression is the input's bytes at their place, without the length before them. Refusals: `UnexpectedEof`,
-    /// `BadUnsignedLeb128`, `UnsupportedAddressSize`, `UnsupportedOffset` for an index or a length that does not fit,
-    /// `UnknownLocListsEntry`. Nothing is left behind the end, and behind a refusal.
+    /// Its expression is the input's bytes at their place, without the length before them.
+    /// Refusals: `UnexpectedEof`, `BadUnsignedLeb128`, `UnsupportedAddressSize`,
+    /// `UnsupportedOffset` for an index or a length that does not fit, `UnknownLocListsEntry`.
+    /// Nothing is left behind the end, and behind a refusal.
     pub fn next(&mut self) -> Result<Option<RawLocListEntry<R>>>
-        ensures value { (answer_of (option_map (location_entry_of R.view R.Offset.number)) result, self.new) ≡ next_raw (location_grammar R.Offset.limit) self.old }
+        ensures value { (
+          answer_of (option_map (location_entry_of R.view R.Offset.number)) result,
+          self.new,
+        ) ≡ next_raw (location_grammar R.Offset.limit) self.old }
 
-        // An entry stands in front of those that are left; no entry and a refusal say how the list ends.
-        ensures ahead { IsFirstOf (answer_of (option_map (location_entry_of R.view R.Offset.number)) result) (raw_list_ahead (location_grammar R.Offset.limit) self.old) (raw_list_ahead (location_grammar R.Offset.limit) self.new) }
-        ensures takes { MatchResult result (λ entry. OnSome entry (length self.new.rest.bytes < length self.old.rest.bytes)) (λ _. length self.new.rest.bytes < length self.old.rest.bytes) }
+        // An entry stands in front of those that are left; no entry and a refusal say how the list
+        // ends.
+        ensures ahead { IsFirstOf
+            (answer_of (option_map (location_entry_of R.view R.Offset.number)) result)
+            (raw_list_ahead (location_grammar R.Offset.limit) self.old)
+            (raw_list_ahead (location_grammar R.Offset.limit) self.new) }
+        ensures takes { MatchResult result
+            (λ entry. OnSome entry (length self.new.rest.bytes < length self.old.rest.bytes))
+            (λ _. length self.new.rest.bytes < length self.old.rest.bytes) }
     {
         take_entry(&mut self.input, self.encoding, self.format)
     }
@@ -346,7 +366,13 @@ impl<R: Reader> RawLocListIter<R> {
 impl<R: Reader> Iterator for RawLocListIter<R> {
     type Item = Result<RawLocListEntry<R>>;
 
-    ghost next_gives = { λ s r t. ((answer_of (option_map (location_entry_of R.view R.Offset.number)) (transposed r), t) ≡ next_raw (location_grammar R.Offset.limit) s) × IsFirstOf (answer_of (option_map (location_entry_of R.view R.Offset.number)) (transposed r)) (raw_list_ahead (location_grammar R.Offset.limit) s) (raw_list_ahead (location_grammar R.Offset.limit) t) };
+    ghost next_gives = { λ s r t.
+        ((answer_of (option_map (location_entry_of R.view R.Offset.number)) (transposed r), t)
+        ≡ next_raw (location_grammar R.Offset.limit) s)
+        × IsFirstOf
+        (answer_of (option_map (location_entry_of R.view R.Offset.number)) (transposed r))
+        (raw_list_ahead (location_grammar R.Offset.limit) s)
+        (raw_list_ahead (location_grammar R.Offset.limit) t) };
 
     ghost remaining = { λ s. at_most (length s.rest.bytes) };
 

@@ -14,7 +14,8 @@ pub struct DebugRanges<R> {
 impl<'a, E: Endianity> DebugRanges<EndianSlice<'a, E>> {
     /// The section of these bytes.
     pub fn new(bytes: &'a [u8], endian: E) -> Self
-        ensures { ⟦<DebugRanges<EndianSlice<'a, E>> as Section<EndianSlice<'a, E>>>⟧.content result ≡ record { big = E.big endian; place = 0; bytes = bytes.now } }
+        ensures { ⟦<DebugRanges<EndianSlice<'a, E>> as Section<EndianSlice<'a, E>>>⟧.content result
+            ≡ record { big = E.big endian; place = 0; bytes = bytes.now } }
     {
         DebugRanges {
             section: EndianSlice::new(bytes, endian),
@@ -47,7 +48,8 @@ impl<R: Reader> Section<R> for DebugRanges<R> {
 impl<R: Reader> DebugRanges<R> {
     /// A section of the same bytes.
     pub fn copy(&self) -> Self
-        ensures { ⟦<DebugRanges<R> as Section<R>>⟧.content result ≡ ⟦<DebugRanges<R> as Section<R>>⟧.content self.now }
+        ensures { ⟦<DebugRanges<R> as Section<R>>⟧.content result
+            ≡ ⟦<DebugRanges<R> as Section<R>>⟧.content self.now }
     {
         DebugRanges {
             section: self.section.copy(),

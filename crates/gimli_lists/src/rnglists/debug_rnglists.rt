@@ -14,7 +14,8 @@ pub struct DebugRngLists<R> {
 impl<'a, E: Endianity> DebugRngLists<EndianSlice<'a, E>> {
     /// The section of these bytes.
     pub fn new(bytes: &'a [u8], endian: E) -> Self
-        ensures { ⟦<DebugRngLists<EndianSlice<'a, E>> as Section<EndianSlice<'a, E>>>⟧.content result ≡ record { big = E.big endian; place = 0; bytes = bytes.now } }
+        ensures { ⟦<DebugRngLists<EndianSlice<'a, E>> as Section<EndianSlice<'a, E>>>⟧.content
+            result ≡ record { big = E.big endian; place = 0; bytes = bytes.now } }
     {
         DebugRngLists {
             section: EndianSlice::new(bytes, endian),
@@ -47,7 +48,8 @@ impl<R: Reader> Section<R> for DebugRngLists<R> {
 impl<R: Reader> DebugRngLists<R> {
     /// A section of the same bytes.
     pub fn copy(&self) -> Self
-        ensures { ⟦<DebugRngLists<R> as Section<R>>⟧.content result ≡ ⟦<DebugRngLists<R> as Section<R>>⟧.content self.now }
+        ensures { ⟦<DebugRngLists<R> as Section<R>>⟧.content result
+            ≡ ⟦<DebugRngLists<R> as Section<R>>⟧.content self.now }
     {
         DebugRngLists {
             section: self.section.copy(),

@@ -1,12 +1,14 @@
 //! The ranges of a list, which know their base address.
 
-ghost use Rattle.std.specs.Prelude.{◌≡◌, ◌<◌, length, unwrap_or, IsTrue, MatchResult, IfOk, IfSome, IfNone, OnSome};
+ghost use Rattle.std.specs.Prelude.{◌≡◌, ◌<◌, length, unwrap_or, IsTrue, MatchResult, IfOk, IfSome};
+ghost use Rattle.std.specs.Prelude.{IfNone, OnSome};
 ghost use Rattle.std.specs.Option.{option_map};
 ghost use Rattle.std.specs.Iterator.{at_most};
 ghost use Rattle.gimli_base.specs.Address.{min_tombstone, table_address};
 ghost use Rattle.gimli_base.specs.Offset.{answer_of};
 ghost use Rattle.gimli_base.specs.Reading.{is_size};
-ghost use Rattle.gimli_lists.specs.Places.{next_raw, raw_list_ahead, ListPlace, converted, InList, IsBehind, IsSpent, read_from, IsNext};
+ghost use Rattle.gimli_lists.specs.Places.{next_raw, raw_list_ahead, ListPlace, converted, InList};
+ghost use Rattle.gimli_lists.specs.Places.{IsBehind, IsSpent, read_from, IsNext};
 ghost use Rattle.gimli_lists.specs.RawList.{IsFirstOf};
 ghost use Rattle.gimli_lists.specs.RangeEntry.{entry_of, range_grammar};
 ghost use Rattle.gimli_lists.specs.RangeReads.{range_grammar-takes};
@@ -32,7 +34,13 @@ pub struct RngListIter<R: Reader> {
 impl<R: Reader> Model for RngListIter<R> {
     ghost Value = { ListPlace };
 
-    ghost view = { λ i. record { raw = i.raw; base = i.base_address; addresses = R.view i.debug_addr.section; table = R.Offset.number i.debug_addr_base.0 } };
+    ghost view = { λ i.
+        record {
+          raw = i.raw;
+          base = i.base_address;
+          addresses = R.view i.debug_addr.section;
+          table = R.Offset.number i.debug_addr_base.0;
+        } };
 
     ghost invariant = { λ i. IsTrue (is_size i.raw.encoding.address_size) };
 }
@@ -46,7 +54,14 @@ impl<R: Reader> RngListIter<R> {
         debug_addr_base: DebugAddrBase<R::Offset>,
     ) -> RngListIter<R>
         requires { IsTrue (is_size raw.encoding.address_size) }
-        ensures { result ≡ record { raw = raw; base = base_address; addresses = ⟦<DebugAddr<R> as Section<R>>⟧.content debug_addr; table = R.Offset.number debug_addr_base.0 } }
+        ensures { result
+            ≡ record {
+              raw = raw;
+              base = base_address;
+              addresses = ⟦<DebugAddr<R> as Section<R>>⟧.content debug_addr;
+              table =
+                  R.Offset.number debug_addr_base.0;
+            } }
     {
         RngListIter {
             raw,
@@ -56,27 +71,36 @@ impl<R: Reader> RngListIter<R> {
         }
     }
 
-    /// The next entry as it is written, or none behind the last. The answer is for `convert_raw`, which has to see each
-    /// entry in turn.
+    /// The next entry as it is written, or none behind the last. The answer is for `convert_raw`,
+    /// which has to see each entry in turn.
     ///
     /// Refusals: those of `RawRngListIter::next`; nothing is left then.
     pub fn next_raw(&mut self) -> Result<Option<RawRngListEntry<R::Offset>>>
-        ensures value { (answer_of (option_map (entry_of R.Offset.number)) result, self.new.raw) ≡ next_raw (range_grammar R.Offset.limit) self.old.raw }
-        ensures ahead { IsFirstOf (answer_of (option_map (entry_of R.Offset.number)) result) (raw_list_ahead (range_grammar R.Offset.limit) self.old.raw) (raw_list_ahead (range_grammar R.Offset.limit) self.new.raw) }
+        ensures value { (answer_of (option_map (entry_of R.Offset.number)) result, self.new.raw)
+            ≡ next_raw (range_grammar R.Offset.limit) self.old.raw }
+        ensures ahead { IsFirstOf (answer_of (option_map (entry_of R.Offset.number)) result)
+            (raw_list_ahead (range_grammar R.Offset.limit) self.old.raw)
+            (raw_list_ahead (range_grammar R.Offset.limit) self.new.raw) }
         ensures same { self.new ≡ record self.old { raw = self.new.raw } }
-        ensures takes { MatchResult result (λ entry. OnSome entry (length self.new.raw.rest.bytes < length self.old.raw.rest.bytes)) (λ _. length self.new.raw.rest.bytes < length self.old.raw.rest.bytes) }
+        ensures takes { MatchResult result
+            (λ entry. OnSome entry
+            (length self.new.raw.rest.bytes < length self.old.raw.rest.bytes))
+            (λ _. length self.new.raw.rest.bytes < length self.old.raw.rest.bytes) }
     {
         self.raw.next()
     }
 
-    /// What an entry stands for: a range, or none. An entry that gives a base address changes the base for those behind it.
+    /// What an entry stands for: a range, or none. An entry that gives a base address changes the
+    /// base for those behind it.
     ///
-    /// No range is given where it begins at or above the least address that stands for none, or not below its end, nor by
-    /// a pair of offsets from a base that stands for none. Refusals, of the look-up of an address by its index:
-    /// `UnexpectedEof`, `UnsupportedOffset`; the base and the rest of the list stay then.
+    /// No range is given where it begins at or above the least address that stands for none, or not
+    /// below its end, nor by a pair of offsets from a base that stands for none. Refusals, of the
+    /// look-up of an address by its index: `UnexpectedEof`, `UnsupportedOffset`; the base and the
+    /// rest of the list stay then.
     #[tactic(auto, unfolding(crate::specs::Places::converted))]
     pub fn convert_raw(&mut self, raw_range: RawRngListEntry<R::Offset>) -> Result<Option<Range>>
-        ensures { (answer_of (option_map range_of) result, self.new) ≡ converted R.Offset.limit (entry_of R.Offset.number raw_range) self.old }
+        ensures { (answer_of (option_map range_of) result, self.new)
+            ≡ converted R.Offset.limit (entry_of R.Offset.number raw_range) self.old }
     {
         let size = self.raw.address_size();
         let mut base = self.base_address;
@@ -93,22 +117,34 @@ impl<R: Reader> RngListIter<R> {
 
     /// The next range, or none behind the last.
     ///
-    /// Refusals: those of `RawRngListIter::next`, behind which nothing is left, and those of `convert_raw`, behind which
-    /// the rest of the list is left. Nothing is left behind the last entry either.
+    /// Refusals: those of `RawRngListIter::next`, behind which nothing is left, and those of
+    /// `convert_raw`, behind which the rest of the list is left. Nothing is left behind the last
+    /// entry either.
     pub fn next(&mut self) -> Result<Option<Range>>
-        ensures ahead { ranges_ahead R.Offset.limit self.old ≡ answered (answer_of (option_map range_of) result) (ranges_ahead R.Offset.limit self.new) }
+        ensures ahead { ranges_ahead R.Offset.limit self.old
+            ≡ answered (answer_of (option_map range_of) result)
+            (ranges_ahead R.Offset.limit self.new) }
 
-        // The entries that stand for nothing are read, and the one behind them; the base before the others is at hand.
-        ensures place { IsBehind (range_grammar R.Offset.limit) R.Offset.limit (read_from (range_grammar R.Offset.limit) R.Offset.limit self.old) self.old self.new }
+        // The entries that stand for nothing are read, and the one behind them; the base before the
+        // others is at hand.
+        ensures place { IsBehind (range_grammar R.Offset.limit) R.Offset.limit
+            (read_from (range_grammar R.Offset.limit) R.Offset.limit self.old) self.old self.new }
         ensures same { InList self.old self.new }
-        ensures takes { MatchResult result (λ range. OnSome range (length self.new.raw.rest.bytes < length self.old.raw.rest.bytes)) (λ _. length self.new.raw.rest.bytes < length self.old.raw.rest.bytes) }
+        ensures takes { MatchResult result
+            (λ range. OnSome range
+            (length self.new.raw.rest.bytes < length self.old.raw.rest.bytes))
+            (λ _. length self.new.raw.rest.bytes < length self.old.raw.rest.bytes) }
         ensures ended { IfOk result (λ range. IfNone range (length self.new.raw.rest.bytes ≡ 0)) }
 
-        // Where none of the entries that are left answers anything, nothing is left, whether the list ends or is refused.
+        // Where none of the entries that are left answers anything, nothing is left, whether the
+        // list ends or is refused.
         ensures spent { IsSpent (range_grammar R.Offset.limit) R.Offset.limit self.old self.new }
 
         // A range begins below its end, and below the least address that stands for none.
-        ensures sound { IfOk result (λ range. IfSome range (λ r. (r.begin < r.end) × (r.begin < min_tombstone self.old.raw.encoding.address_size))) }
+        ensures sound { IfOk result
+            (λ range. IfSome range
+            (λ r. (r.begin < r.end)
+            × (r.begin < min_tombstone self.old.raw.encoding.address_size))) }
     {
         next_item(self)
     }
@@ -147,7 +183,9 @@ impl<R: Reader> EntryWalk for RngListIter<R> {
 impl<R: Reader> Iterator for RngListIter<R> {
     type Item = Result<Range>;
 
-    ghost next_gives = { λ s r t. IsNext (range_grammar R.Offset.limit) R.Offset.limit s (answer_of (option_map range_of) (transposed r)) t };
+    ghost next_gives = { λ s r t.
+        IsNext (range_grammar R.Offset.limit) R.Offset.limit s
+        (answer_of (option_map range_of) (transposed r)) t };
 
     ghost remaining = { λ s. at_most (length s.raw.rest.bytes) };
 
@@ -156,10 +194,11 @@ impl<R: Reader> Iterator for RngListIter<R> {
     }
 }
 
-/// What an entry stands for: a range, or none. An entry that gives a base address changes the one at hand.
+/// What an entry stands for: a range, or none. An entry that gives a base address changes the one
+/// at hand.
 ///
-/// The size of addresses has to be 1, 2, 4 or 8. Refusals, of the look-up of an address by its index: `UnexpectedEof`,
-/// `UnsupportedOffset`; the base stays then.
+/// The size of addresses has to be 1, 2, 4 or 8. Refusals, of the look-up of an address by its
+/// index: `UnexpectedEof`, `UnsupportedOffset`; the base stays then.
 #[inline(always)]
 pub(crate) fn resolve_entry<R: Reader>(
     entry: RawRngListEntry<R::Offset>,
@@ -169,8 +208,17 @@ pub(crate) fn resolve_entry<R: Reader>(
     debug_addr_base: DebugAddrBase<R::Offset>,
 ) -> Result<Option<Range>>
     requires { IsTrue (is_size size) }
-    ensures value { answer_of (option_map range_of) result ≡ resolve size (λ index. table_address R.Offset.limit size (R.Offset.number debug_addr_base.0) index (⟦<DebugAddr<R> as Section<R>>⟧.content debug_addr.now)) base.old (entry_of R.Offset.number entry) }
-    ensures given { base.new ≡ unwrap_or (base_given (λ index. table_address R.Offset.limit size (R.Offset.number debug_addr_base.0) index (⟦<DebugAddr<R> as Section<R>>⟧.content debug_addr.now)) (entry_of R.Offset.number entry)) base.old }
+    ensures value { answer_of (option_map range_of) result
+        ≡ resolve size
+        (λ index. table_address R.Offset.limit size (R.Offset.number debug_addr_base.0) index
+        (⟦<DebugAddr<R> as Section<R>>⟧.content debug_addr.now)) base.old
+        (entry_of R.Offset.number entry) }
+    ensures given { base.new
+        ≡ unwrap_or
+        (base_given
+        (λ index. table_address R.Offset.limit size (R.Offset.number debug_addr_base.0) index
+        (⟦<DebugAddr<R> as Section<R>>⟧.content debug_addr.now)) (entry_of R.Offset.number entry))
+        base.old }
 {
     match entry {
         RawRngListEntry::BaseAddress { addr } => {

@@ -1,6 +1,7 @@
 //! Range lists as they are written, before anything is done with base addresses.
 
-ghost use Rattle.std.specs.Prelude.{◌≡◌, ◌==◌, ◌&&◌, ◌<◌, length, IsTrue, MatchResult, OnSome, OnOk};
+ghost use Rattle.std.specs.Prelude.{◌≡◌, ◌==◌, ◌&&◌, ◌<◌, length, IsTrue, MatchResult, OnSome};
+ghost use Rattle.std.specs.Prelude.{OnOk};
 ghost use Rattle.std.specs.Option.{option_map};
 ghost use Rattle.std.specs.Iterator.{at_most};
 ghost use Rattle.gimli_base.specs.Address.{ones_sized};
@@ -134,7 +135,8 @@ impl RawRange {
         self.begin == 0 && self.end == 0
     }
 
-    /// Whether the pair gives a base address, which is then its second. The size has to be 1, 2, 4 or 8.
+    /// Whether the pair gives a base address, which is then its second. The size has to be 1, 2, 4
+    /// or 8.
     #[inline]
     pub(crate) fn is_base_address(self, address_size: u8) -> bool
         requires { IsTrue (is_size address_size) }
@@ -147,7 +149,8 @@ impl RawRange {
     #[inline(always)]
     #[tactic(auto, unfolding(crate::specs::RawList::pair_at, gimli_base::specs::Reading::address_at))]
     pub(crate) fn parse<R: Reader>(input: &mut R, address_size: u8) -> Result<RawRange>
-        ensures value { read (answer_of (λ p. (p.begin, p.end)) result) (R.view input.new) ≡ pair_at address_size (R.view input.old) }
+        ensures value { read (answer_of (λ p. (p.begin, p.end)) result) (R.view input.new)
+            ≡ pair_at address_size (R.view input.old) }
         ensures size { OnOk result (IsTrue (is_size address_size)) }
     {
         // (by a call of one width the compiler keeps the numbers in registers)
@@ -168,7 +171,8 @@ impl RawRange {
 // The next index of an address; where it is refused, the input is left anywhere.
 #[inline]
 pub(crate) fn read_index<R: Reader>(input: &mut R) -> Result<DebugAddrIndex<R::Offset>>
-    ensures { read (answer_of (λ i. R.Offset.number i.0) result) (R.view input.new) ≡ index_at R.Offset.limit (R.view input.old) }
+    ensures { read (answer_of (λ i. R.Offset.number i.0) result) (R.view input.new)
+        ≡ index_at R.Offset.limit (R.view input.old) }
 {
     let number = input.read_uleb128()?;
     let index = R::Offset::from_u64(number)?;
@@ -181,7 +185,8 @@ fn parse_bare<R: Reader>(
     input: &mut R,
     address_size: u8,
 ) -> Result<Option<RawRngListEntry<R::Offset>>>
-    ensures { read (answer_of (option_map (entry_of R.Offset.number)) result) (R.view input.new) ≡ old_entry_at nothing_at address_size (R.view input.old) }
+    ensures { read (answer_of (option_map (entry_of R.Offset.number)) result) (R.view input.new)
+        ≡ old_entry_at nothing_at address_size (R.view input.old) }
 {
     let range = RawRange::parse(input, address_size)?;
     if range.is_end() {
@@ -202,7 +207,8 @@ fn parse_rle<R: Reader>(
     input: &mut R,
     address_size: u8,
 ) -> Result<Option<RawRngListEntry<R::Offset>>>
-    ensures { read (answer_of (option_map (entry_of R.Offset.number)) result) (R.view input.new) ≡ new_entry_at R.Offset.limit address_size (R.view input.old) }
+    ensures { read (answer_of (option_map (entry_of R.Offset.number)) result) (R.view input.new)
+        ≡ new_entry_at R.Offset.limit address_size (R.view input.old) }
 {
     let code = DwRle(input.read_u8()?);
     match code {
@@ -276,7 +282,8 @@ pub struct RawRngListIter<R: Reader> {
 impl<R: Reader> Model for RawRngListIter<R> {
     ghost Value = { RawPlace };
 
-    ghost view = { λ i. record { rest = R.view i.input; encoding = i.encoding; format = i.format } };
+    ghost view = { λ i.
+        record { rest = R.view i.input; encoding = i.encoding; format = i.format } };
 }
 
 impl<R: Reader> RawRngListIter<R> {
@@ -300,14 +307,21 @@ impl<R: Reader> RawRngListIter<R> {
 
     /// The next entry, or none behind the last, which the end of the list or of the section ends.
     ///
-    /// Refusals: `UnexpectedEof`, `BadUnsignedLeb128`, `UnsupportedAddressSize`, `UnsupportedOffset` for an index that
-    /// does not fit, `UnknownRangeListsEntry`. Nothing is left behind the end, and behind a refusal.
+    /// Refusals: `UnexpectedEof`, `BadUnsignedLeb128`, `UnsupportedAddressSize`,
+    /// `UnsupportedOffset` for an index that does not fit, `UnknownRangeListsEntry`. Nothing is
+    /// left behind the end, and behind a refusal.
     pub fn next(&mut self) -> Result<Option<RawRngListEntry<R::Offset>>>
-        ensures value { (answer_of (option_map (entry_of R.Offset.number)) result, self.new) ≡ next_raw (range_grammar R.Offset.limit) self.old }
+        ensures value { (answer_of (option_map (entry_of R.Offset.number)) result, self.new)
+            ≡ next_raw (range_grammar R.Offset.limit) self.old }
 
-        // An entry stands in front of those that are left; no entry and a refusal say how the list ends.
-        ensures ahead { IsFirstOf (answer_of (option_map (entry_of R.Offset.number)) result) (raw_list_ahead (range_grammar R.Offset.limit) self.old) (raw_list_ahead (range_grammar R.Offset.limit) self.new) }
-        ensures takes { MatchResult result (λ entry. OnSome entry (length self.new.rest.bytes < length self.old.rest.bytes)) (λ _. length self.new.rest.bytes < length self.old.rest.bytes) }
+        // An entry stands in front of those that are left; no entry and a refusal say how the list
+        // ends.
+        ensures ahead { IsFirstOf (answer_of (option_map (entry_of R.Offset.number)) result)
+            (raw_list_ahead (range_grammar R.Offset.limit) self.old)
+            (raw_list_ahead (range_grammar R.Offset.limit) self.new) }
+        ensures takes { MatchResult result
+            (λ entry. OnSome entry (length self.new.rest.bytes < length self.old.rest.bytes))
+            (λ _. length self.new.rest.bytes < length self.old.rest.bytes) }
     {
         take_entry(&mut self.input, self.encoding, self.format)
     }
@@ -316,7 +330,12 @@ impl<R: Reader> RawRngListIter<R> {
 impl<R: Reader> Iterator for RawRngListIter<R> {
     type Item = Result<RawRngListEntry<R::Offset>>;
 
-    ghost next_gives = { λ s r t. ((answer_of (option_map (entry_of R.Offset.number)) (transposed r), t) ≡ next_raw (range_grammar R.Offset.limit) s) × IsFirstOf (answer_of (option_map (entry_of R.Offset.number)) (transposed r)) (raw_list_ahead (range_grammar R.Offset.limit) s) (raw_list_ahead (range_grammar R.Offset.limit) t) };
+    ghost next_gives = { λ s r t.
+        ((answer_of (option_map (entry_of R.Offset.number)) (transposed r), t)
+        ≡ next_raw (range_grammar R.Offset.limit) s)
+        × IsFirstOf (answer_of (option_map (entry_of R.Offset.number)) (transposed r))
+        (raw_list_ahead (range_grammar R.Offset.limit) s)
+        (raw_list_ahead (range_grammar R.Offset.limit) t) };
 
     ghost remaining = { λ s. at_most (length s.rest.bytes) };
 

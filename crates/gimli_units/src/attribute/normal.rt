@@ -26,11 +26,12 @@ use gimli_base::{
 };
 
 impl<R: Reader> Attribute<R> {
-    /// The value as the name makes it: the first of the name's conversions that applies, else the value as the form shows
-    /// it (DWARF 5, 7.5.4, table 7.5).
+    /// The value as the name makes it: the first of the name's conversions that applies, else the
+    /// value as the form shows it (DWARF 5, 7.5.4, table 7.5).
     #[tactic(auto, unfolding(crate::specs::NormalValue::normal))]
     pub fn value(&self) -> AttributeValue<R>
-        ensures { map_value R.view R.Offset.number result ≡ normal self.now.name.0 (map_value R.view R.Offset.number self.now.value) }
+        ensures { map_value R.view R.Offset.number result
+            ≡ normal self.now.name.0 (map_value R.view R.Offset.number self.now.value) }
     {
         macro_rules! converted {
             ($call:ident, $variant:ident) => {

@@ -1,6 +1,6 @@
 use Rattle.std.proofs.Common.{rules, ap, sym}
 use Rattle.gimli_base.specs.Items.{whole}
-use Rattle.gimli_base.specs.ItemTurns.{items_begin, items_more, items_refused, items_end}
+use Rattle.gimli_base.proofs.ItemTurns.{items_begin, items_more, items_refused, items_end}
 use Rattle.gimli_base.specs.Abbreviations.{specifications_at}
 use Rattle.gimli_base.proofs.AbbreviationReads.{specification_at-shorter}
 use Rattle.gimli_base.proofs.abbrev.parse_specifications.Goals as goal
@@ -11,7 +11,9 @@ loop-specification-init g c = rw c.clear.ensures.items (items_begin _ _)
 pub returns-in_err-specification : goal.returns-in_err-specification
 unfolding specifications_at
 returns-in_err-specification g c =
-    let ended = ap whole (items_refused _ _ _ _ _ c.loop-specification.invariant c.in_err-specification.ensures) in
+    let ended =
+    ap whole
+    (items_refused _ _ _ _ _ c.loop-specification.invariant c.in_err-specification.ensures) in
     search rules
 
 pub loop-specification-smaller : goal.loop-specification-smaller
@@ -20,8 +22,14 @@ loop-specification-smaller g c = specification_at-shorter _ _ _ c.in_ok-specific
 pub loop-specification-preserved : goal.loop-specification-preserved
 loop-specification-preserved g c =
     rw c.in_ok-push.ensures.items
-    (items_more _ _ _ _ _ _ c.loop-specification.invariant (rw c.in-Some.is at c.in_ok-specification.ensures) (specification_at-shorter _ _ _ c.in_ok-specification.ensures))
+    (items_more _ _ _ _ _ _ c.loop-specification.invariant
+    (rw c.in-Some.is at c.in_ok-specification.ensures)
+    (specification_at-shorter _ _ _ c.in_ok-specification.ensures))
 
 pub returns : goal.returns
 unfolding specifications_at
-returns g c = sym (ap whole (items_end _ _ _ _ _ c.loop-specification.invariant (rw c.in_default.is at c.in_ok-specification.ensures)))
+returns g c =
+    sym
+    (ap whole
+    (items_end _ _ _ _ _ c.loop-specification.invariant
+    (rw c.in_default.is at c.in_ok-specification.ensures)))

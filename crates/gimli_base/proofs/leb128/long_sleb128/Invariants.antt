@@ -7,5 +7,7 @@ abbrev pub invariant-loop-i : goal.invariant-loop-i
 invariant-loop-i g l = record {
   scale : l.scale ≡ 128 ^ l.i;
   small : l.value < 128 ^ l.i;
-  same : sleb_within 9 (g.R.Reader.view l.initial.reader) ≡ made (λ z. pos l.value +ℤ (pos l.scale *ℤ z)) (sleb_within (9 - l.i) (g.R.Reader.view l.reader));
+  same : sleb_within 9 (g.R.Reader.view l.initial.reader)
+      ≡ made (λ z. pos l.value +ℤ (pos l.scale *ℤ z))
+      (sleb_within (9 - l.i) (g.R.Reader.view l.reader));
 }

@@ -6,5 +6,6 @@ abbrev pub invariant-loop-i : goal.invariant-loop-i
 invariant-loop-i g l = record {
   scale : l.scale ≡ 128 ^ l.i;
   small : l.value < 128 ^ l.i;
-  same : uleb_within 1 9 (g.R.Reader.view l.initial.reader) ≡ made (λ m. l.value + l.scale * m) (uleb_within 1 (9 - l.i) (g.R.Reader.view l.reader));
+  same : uleb_within 1 9 (g.R.Reader.view l.initial.reader)
+      ≡ made (λ m. l.value + l.scale * m) (uleb_within 1 (9 - l.i) (g.R.Reader.view l.reader));
 }

@@ -4,12 +4,13 @@ use Rattle.gimli_base.specs.Taken.{taken_length, initial_length_at-takes, split_
 use Rattle.gimli_units.specs.Unit.{UnitView}
 use Rattle.gimli_units.specs.UnitKind.{map_type}
 use Rattle.gimli_headers.specs.Header.{unit_at, fields_at}
-use Rattle.gimli_headers.specs.UnitReads.{common_at-takes, type_at-takes, unit_at-read}
+use Rattle.gimli_headers.proofs.UnitReads.{common_at-takes, type_at-takes, unit_at-read}
 use Rattle.gimli_headers.proofs.parse.parse_unit_header.Goals as goal
 
 pub new-requires-clause-length_fits : goal.new-requires-clause-length_fits
 new-requires-clause-length_fits g c =
-    let field = taken_length 0 _ _ _ (initial_length_at-takes _ _ _ _ c.in_ok-unit_length.ensures.value) in
+    let field = taken_length 0 _ _ _
+    (initial_length_at-takes _ _ _ _ c.in_ok-unit_length.ensures.value) in
     let own = taken_length 0 _ _ _ (split_at-takes _ _ _ _ c.in_ok-rest.ensures.value) in
     let fits = g.met.R.Reader.length_fits_offset c.args.input.now in
     omega (arith, field, own, fits)
@@ -34,6 +35,8 @@ returns-clause-size g c =
       offset = number c.new.result.unit_offset.0;
       entries = g.R.Reader.view c.new.result.entries_buf;
     } in
-    let is : Ok (unit, g.R.Reader.view c.split.new.self) ≡ unit_at g.R.Offset.ReaderOffset.limit c.args.section (number c.args.unit_offset.0) (g.R.Reader.view c.args.input.now) =
+    let is : Ok (unit, g.R.Reader.view c.split.new.self)
+    ≡ unit_at g.R.Offset.ReaderOffset.limit c.args.section (number c.args.unit_offset.0)
+    (g.R.Reader.view c.args.input.now) =
     search rules in
     (unit_at-read _ _ _ _ unit _ is).size

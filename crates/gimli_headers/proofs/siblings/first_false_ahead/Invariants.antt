@@ -4,13 +4,15 @@ use Rattle.gimli_units.specs.FirstFalse.{first_false}
 use Rattle.gimli_headers.specs.OpenRows.{checked, Rise, judged}
 use Rattle.gimli_headers.proofs.siblings.first_false_ahead.Given as goal
 
--- what the check answers where the rows that are left are, is the first of all rows whose reference is false
+-- what the check answers where the rows that are left are, is the first of all rows whose reference
+-- is false
 abbrev pub invariant-rows : goal.invariant-rows
 invariant-rows g l =
     let limit = g.R.Offset.ReaderOffset.limit in
     let number = g.R.Offset.ReaderOffset.number in
     record {
-      same : judged l.entries.end (checked number l.check) (rows_of limit l.entries).rows ≡ first_false l.fn.entries.end (rows_of limit l.fn.entries).rows;
+      same : judged l.entries.end (checked number l.check) (rows_of limit l.entries).rows
+          ≡ first_false l.fn.entries.end (rows_of limit l.fn.entries).rows;
       rise : Rise l.entries.depth (checked number l.check).opens;
       end : l.entries.end ≡ l.fn.entries.end;
     }

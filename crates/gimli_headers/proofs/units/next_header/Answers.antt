@@ -1,6 +1,6 @@
 use Rattle.std.proofs.Common.{rules, arith, ◌+◌, ◌<◌, length, ◌≡◌, ap}
 use Rattle.gimli_base.specs.View.{View}
-use Rattle.gimli_headers.specs.UnitReads.{unit_at-left, unit_at-shorter}
+use Rattle.gimli_headers.proofs.UnitReads.{unit_at-left, unit_at-shorter}
 use Rattle.gimli_headers.proofs.units.next_header.Goals as goal
 
 pub unwrap-behind-requires : goal.unwrap-behind-requires
@@ -8,7 +8,8 @@ unwrap-behind-requires g c =
     let left = unit_at-left _ _ _ _ _ _ c.in-Ok.ensures.value in
     let same = ap (λ (v : View). length v.bytes) c.copy-rest.ensures in
     let number = g.R.Offset.ReaderOffset.number in
-    let fits : number c.args.offset.now.0 + number c.length_including_self-whole_length.result < g.R.Offset.ReaderOffset.limit =
+    let fits : number c.args.offset.now.0 + number c.length_including_self-whole_length.result
+    < g.R.Offset.ReaderOffset.limit =
     omega (arith, left, same, c.length_including_self-whole_length.ensures) in
     search rules
 
@@ -17,7 +18,9 @@ returns-in-Ok-clause-fits g c =
     let left = unit_at-left _ _ _ _ _ _ c.in-Ok.ensures.value in
     let same = ap (λ (v : View). length v.bytes) c.copy-rest.ensures in
     let number = g.R.Offset.ReaderOffset.number in
-    let sum : number c.unwrap-behind.result ≡ number c.args.offset.now.0 + number c.length_including_self-whole_length.result = search rules in
+    let sum : number c.unwrap-behind.result
+    ≡ number c.args.offset.now.0 + number c.length_including_self-whole_length.result =
+    search rules in
     omega (arith, left, same, sum, c.length_including_self-whole_length.ensures)
 
 pub returns-in-Ok-clause-takes : goal.returns-in-Ok-clause-takes

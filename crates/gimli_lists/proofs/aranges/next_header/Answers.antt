@@ -8,7 +8,8 @@ unwrap-whole_length-requires g c =
     let left = set_at-left _ _ _ _ _ c.in-Ok.ensures in
     let same = ap (λ (v : View). length v.bytes) c.copy-rest.ensures in
     let number = g.R.Offset.ReaderOffset.number in
-    let fits : number c.from_u8-field.result + number c.in-Ok.header.length < g.R.Offset.ReaderOffset.limit =
+    let fits : number c.from_u8-field.result + number c.in-Ok.header.length
+    < g.R.Offset.ReaderOffset.limit =
     omega (arith, left, same, c.from_u8-field.ensures, c.initial_length_size.ensures) in
     search rules
 
@@ -17,8 +18,10 @@ unwrap-behind-requires g c =
     let left = set_at-left _ _ _ _ _ c.in-Ok.ensures in
     let same = ap (λ (v : View). length v.bytes) c.copy-rest.ensures in
     let number = g.R.Offset.ReaderOffset.number in
-    let whole : number c.unwrap-whole_length.result ≡ number c.from_u8-field.result + number c.in-Ok.header.length = search rules in
-    let fits : number c.args.offset.now.0 + number c.unwrap-whole_length.result < g.R.Offset.ReaderOffset.limit =
+    let whole : number c.unwrap-whole_length.result
+    ≡ number c.from_u8-field.result + number c.in-Ok.header.length = search rules in
+    let fits : number c.args.offset.now.0 + number c.unwrap-whole_length.result
+    < g.R.Offset.ReaderOffset.limit =
     omega (arith, left, same, whole, c.from_u8-field.ensures, c.initial_length_size.ensures) in
     search rules
 
@@ -27,8 +30,10 @@ returns-in-Ok-clause-fits g c =
     let left = set_at-left _ _ _ _ _ c.in-Ok.ensures in
     let same = ap (λ (v : View). length v.bytes) c.copy-rest.ensures in
     let number = g.R.Offset.ReaderOffset.number in
-    let whole : number c.unwrap-whole_length.result ≡ number c.from_u8-field.result + number c.in-Ok.header.length = search rules in
-    let sum : number c.unwrap-behind.result ≡ number c.args.offset.now.0 + number c.unwrap-whole_length.result = search rules in
+    let whole : number c.unwrap-whole_length.result
+    ≡ number c.from_u8-field.result + number c.in-Ok.header.length = search rules in
+    let sum : number c.unwrap-behind.result
+    ≡ number c.args.offset.now.0 + number c.unwrap-whole_length.result = search rules in
     omega (arith, left, same, whole, sum, c.from_u8-field.ensures, c.initial_length_size.ensures)
 
 pub returns-in-Ok-clause-takes : goal.returns-in-Ok-clause-takes

@@ -1,7 +1,7 @@
 use Rattle.std.proofs.Common.{◌≡◌, arith, ap, length, rules, Ok, Err, None, Some}
 use Rattle.gimli_base.specs.View.{View}
 use Rattle.gimli_lists.specs.Places.{RawPlace, next_raw}
-use Rattle.gimli_lists.specs.PlaceSteps.{Next, first_from}
+use Rattle.gimli_lists.proofs.PlaceSteps.{Next, first_from}
 use Rattle.gimli_lists.specs.RawList.{next_entry}
 use Rattle.gimli_lists.proofs.raw.take_entry.Goals as goal
 
@@ -15,27 +15,51 @@ pub returns-then-is_empty-clause-ahead : goal.returns-then-is_empty-clause-ahead
 unfolding next_entry next_raw
 returns-then-is_empty-clause-ahead g c =
     let e = g.E.RawEntry in
-    let place : RawPlace = record { rest = g.R.Reader.view c.args.input.now; encoding = c.args.encoding; format = c.args.format } in
+    let place : RawPlace =
+    record {
+      rest = g.R.Reader.view c.args.input.now;
+      encoding = c.args.encoding;
+      format = c.args.format;
+    } in
     let is : ◌≡◌ {A = Next e.Payload} (Ok None, place) (next_raw e.grammar place) = search rules in
-    first_from e.grammar g.met.E.RawEntry.takes_bytes g.R.Offset.ReaderOffset.limit place place (Ok None) is
+    first_from e.grammar g.met.E.RawEntry.takes_bytes g.R.Offset.ReaderOffset.limit place place
+    (Ok None) is
 
 pub returns-in-Ok-Some-clause-ahead : goal.returns-in-Ok-Some-clause-ahead
 unfolding next_entry next_raw
 returns-in-Ok-Some-clause-ahead g c =
     let e = g.E.RawEntry in
-    let place : RawPlace = record { rest = g.R.Reader.view c.args.input.now; encoding = c.args.encoding; format = c.args.format } in
-    first_from e.grammar g.met.E.RawEntry.takes_bytes g.R.Offset.ReaderOffset.limit place _ (Ok (Some (e.written c.in-Ok-Some.entry))) (search rules)
+    let place : RawPlace =
+    record {
+      rest = g.R.Reader.view c.args.input.now;
+      encoding = c.args.encoding;
+      format = c.args.format;
+    } in
+    first_from e.grammar g.met.E.RawEntry.takes_bytes g.R.Offset.ReaderOffset.limit place _
+    (Ok (Some (e.written c.in-Ok-Some.entry))) (search rules)
 
 pub returns-in-Ok-None-clause-ahead : goal.returns-in-Ok-None-clause-ahead
 unfolding next_entry next_raw
 returns-in-Ok-None-clause-ahead g c =
     let e = g.E.RawEntry in
-    let place : RawPlace = record { rest = g.R.Reader.view c.args.input.now; encoding = c.args.encoding; format = c.args.format } in
-    first_from e.grammar g.met.E.RawEntry.takes_bytes g.R.Offset.ReaderOffset.limit place _ (Ok None) (search rules)
+    let place : RawPlace =
+    record {
+      rest = g.R.Reader.view c.args.input.now;
+      encoding = c.args.encoding;
+      format = c.args.format;
+    } in
+    first_from e.grammar g.met.E.RawEntry.takes_bytes g.R.Offset.ReaderOffset.limit place _
+    (Ok None) (search rules)
 
 pub returns-in-Err-clause-ahead : goal.returns-in-Err-clause-ahead
 unfolding next_entry next_raw
 returns-in-Err-clause-ahead g c =
     let e = g.E.RawEntry in
-    let place : RawPlace = record { rest = g.R.Reader.view c.args.input.now; encoding = c.args.encoding; format = c.args.format } in
-    first_from e.grammar g.met.E.RawEntry.takes_bytes g.R.Offset.ReaderOffset.limit place _ (Err c.in-Err.error) (search rules)
+    let place : RawPlace =
+    record {
+      rest = g.R.Reader.view c.args.input.now;
+      encoding = c.args.encoding;
+      format = c.args.format;
+    } in
+    first_from e.grammar g.met.E.RawEntry.takes_bytes g.R.Offset.ReaderOffset.limit place _
+    (Err c.in-Err.error) (search rules)

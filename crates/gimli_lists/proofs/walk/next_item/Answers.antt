@@ -1,6 +1,10 @@
 use Rattle.std.proofs.Common.{◌≡◌, rules, refl, sym, ◌∙◌, arith, ◌<◌, length, Ok, Err, None, Some}
 use Rattle.gimli_lists.specs.Places.{next_raw, converted}
-use Rattle.gimli_lists.specs.PlaceSteps.{Next, Converted, InList-trans, InList-read, ahead_none, ahead_stop, next_raw-ended, next_raw-refused, behind_end, behind_refused, behind_one, behind_more, spent_one, spent_more, stepped-inside, stepped-ahead, stepped-shorter, stepped-sound}
+use Rattle.gimli_lists.proofs.PlaceSteps.{Next, Converted, InList-trans, InList-read, ahead_none}
+use Rattle.gimli_lists.proofs.PlaceSteps.{ahead_stop, next_raw-ended, next_raw-refused, behind_end}
+use Rattle.gimli_lists.proofs.PlaceSteps.{behind_refused, behind_one, behind_more, spent_one}
+use Rattle.gimli_lists.proofs.PlaceSteps.{spent_more, stepped-inside, stepped-ahead}
+use Rattle.gimli_lists.proofs.PlaceSteps.{stepped-shorter, stepped-sound}
 use Rattle.gimli_lists.proofs.walk.next_item.Goals as goal
 
 pub entries-init : goal.entries-init
@@ -23,7 +27,8 @@ returns-in_err-raw-clause-same g c =
     let takes = g.met.W.EntryWalk.takes_bytes in
     let p = w.place c.entries.walk in
     let q = w.place c.take_raw.new.self in
-    InList-trans (w.place c.args.walk.now) p q c.entries.invariant.1 (InList-read w.grammar takes w.limit p q _ c.take_raw.ensures.same c.take_raw.ensures.value)
+    InList-trans (w.place c.args.walk.now) p q c.entries.invariant.1
+    (InList-read w.grammar takes w.limit p q _ c.take_raw.ensures.same c.take_raw.ensures.value)
 
 pub returns-in_err-item-clause-ahead : goal.returns-in_err-item-clause-ahead
 returns-in_err-item-clause-ahead g c =
@@ -34,10 +39,14 @@ returns-in_err-item-clause-ahead g c =
     let s = w.place c.convert.new.self in
     let entry = w.written c.in-Some.raw in
     let e = c.in_err-item.field-0.0 in
-    let read : ◌≡◌ {A = Next w.Payload} (Ok (Some entry), q.raw) (next_raw w.grammar p.raw) = search rules in
-    let made : ◌≡◌ {A = Converted w.Payload} (Err e, s) (converted w.limit entry q) = search rules in
+    let read : ◌≡◌ {A = Next w.Payload} (Ok (Some entry), q.raw) (next_raw w.grammar p.raw) =
+    search rules in
+    let made : ◌≡◌ {A = Converted w.Payload} (Err e, s) (converted w.limit entry q) =
+    search rules in
     let is : c.from_residual-in_err-item.result ≡ Err e = search rules in
-    rw is (stepped-ahead w.grammar takes w.limit (w.place c.args.walk.now) p q _ _ _ c.take_raw.ensures.same read made c.entries.invariant.0)
+    rw is
+    (stepped-ahead w.grammar takes w.limit (w.place c.args.walk.now) p q _ _ _
+    c.take_raw.ensures.same read made c.entries.invariant.0)
 
 pub returns-in_err-item-clause-same : goal.returns-in_err-item-clause-same
 returns-in_err-item-clause-same g c =
@@ -47,9 +56,12 @@ returns-in_err-item-clause-same g c =
     let q = w.place c.take_raw.new.self in
     let s = w.place c.convert.new.self in
     let entry = w.written c.in-Some.raw in
-    let read : ◌≡◌ {A = Next w.Payload} (Ok (Some entry), q.raw) (next_raw w.grammar p.raw) = search rules in
-    let made : ◌≡◌ {A = Converted w.Payload} (Err c.in_err-item.field-0.0, s) (converted w.limit entry q) = search rules in
-    stepped-inside w.grammar takes w.limit (w.place c.args.walk.now) p q s entry (Err c.in_err-item.field-0.0) c.take_raw.ensures.same read made c.entries.invariant.1
+    let read : ◌≡◌ {A = Next w.Payload} (Ok (Some entry), q.raw) (next_raw w.grammar p.raw) =
+    search rules in
+    let made : ◌≡◌ {A = Converted w.Payload} (Err c.in_err-item.field-0.0, s)
+    (converted w.limit entry q) = search rules in
+    stepped-inside w.grammar takes w.limit (w.place c.args.walk.now) p q s entry
+    (Err c.in_err-item.field-0.0) c.take_raw.ensures.same read made c.entries.invariant.1
 
 pub returns-in_err-item-clause-takes : goal.returns-in_err-item-clause-takes
 returns-in_err-item-clause-takes g c =
@@ -59,11 +71,19 @@ returns-in_err-item-clause-takes g c =
     let q = w.place c.take_raw.new.self in
     let s = w.place c.convert.new.self in
     let entry = w.written c.in-Some.raw in
-    let read : ◌≡◌ {A = Next w.Payload} (Ok (Some entry), q.raw) (next_raw w.grammar p.raw) = search rules in
-    let made : ◌≡◌ {A = Converted w.Payload} (Err c.in_err-item.field-0.0, s) (converted w.limit entry q) = search rules in
+    let read : ◌≡◌ {A = Next w.Payload} (Ok (Some entry), q.raw) (next_raw w.grammar p.raw) =
+    search rules in
+    let made : ◌≡◌ {A = Converted w.Payload} (Err c.in_err-item.field-0.0, s)
+    (converted w.limit entry q) = search rules in
     let shorter : length q.raw.rest.bytes < length p.raw.rest.bytes = search rules in
     let is : c.from_residual-in_err-item.result ≡ Err c.in_err-item.field-0.0 = search rules in
-    rw is (omega (arith, stepped-shorter w.grammar takes w.limit (w.place c.args.walk.now) p q s entry (Err c.in_err-item.field-0.0) c.take_raw.ensures.same read made shorter, c.entries.invariant.2))
+    rw is
+    (omega (
+      arith,
+      stepped-shorter w.grammar takes w.limit (w.place c.args.walk.now) p q s entry
+          (Err c.in_err-item.field-0.0) c.take_raw.ensures.same read made shorter,
+      c.entries.invariant.2,
+    ))
 
 pub returns-in-Some-2-clause-ahead : goal.returns-in-Some-2-clause-ahead
 returns-in-Some-2-clause-ahead g c =
@@ -73,9 +93,13 @@ returns-in-Some-2-clause-ahead g c =
     let q = w.place c.take_raw.new.self in
     let s = w.place c.convert.new.self in
     let entry = w.written c.in-Some.raw in
-    let read : ◌≡◌ {A = Next w.Payload} (Ok (Some entry), q.raw) (next_raw w.grammar p.raw) = search rules in
-    let made : ◌≡◌ {A = Converted w.Payload} (Ok (Some (w.resolved c.in-Some-2.item)), s) (converted w.limit entry q) = search rules in
-    stepped-ahead w.grammar takes w.limit (w.place c.args.walk.now) p q s entry (Ok (Some (w.resolved c.in-Some-2.item))) c.take_raw.ensures.same read made c.entries.invariant.0
+    let read : ◌≡◌ {A = Next w.Payload} (Ok (Some entry), q.raw) (next_raw w.grammar p.raw) =
+    search rules in
+    let made : ◌≡◌ {A = Converted w.Payload} (Ok (Some (w.resolved c.in-Some-2.item)), s)
+    (converted w.limit entry q) = search rules in
+    stepped-ahead w.grammar takes w.limit (w.place c.args.walk.now) p q s entry
+    (Ok (Some (w.resolved c.in-Some-2.item))) c.take_raw.ensures.same read made
+    c.entries.invariant.0
 
 pub returns-in-Some-2-clause-same : goal.returns-in-Some-2-clause-same
 returns-in-Some-2-clause-same g c =
@@ -85,9 +109,13 @@ returns-in-Some-2-clause-same g c =
     let q = w.place c.take_raw.new.self in
     let s = w.place c.convert.new.self in
     let entry = w.written c.in-Some.raw in
-    let read : ◌≡◌ {A = Next w.Payload} (Ok (Some entry), q.raw) (next_raw w.grammar p.raw) = search rules in
-    let made : ◌≡◌ {A = Converted w.Payload} (Ok (Some (w.resolved c.in-Some-2.item)), s) (converted w.limit entry q) = search rules in
-    stepped-inside w.grammar takes w.limit (w.place c.args.walk.now) p q s entry (Ok (Some (w.resolved c.in-Some-2.item))) c.take_raw.ensures.same read made c.entries.invariant.1
+    let read : ◌≡◌ {A = Next w.Payload} (Ok (Some entry), q.raw) (next_raw w.grammar p.raw) =
+    search rules in
+    let made : ◌≡◌ {A = Converted w.Payload} (Ok (Some (w.resolved c.in-Some-2.item)), s)
+    (converted w.limit entry q) = search rules in
+    stepped-inside w.grammar takes w.limit (w.place c.args.walk.now) p q s entry
+    (Ok (Some (w.resolved c.in-Some-2.item))) c.take_raw.ensures.same read made
+    c.entries.invariant.1
 
 pub returns-in-Some-2-clause-takes : goal.returns-in-Some-2-clause-takes
 returns-in-Some-2-clause-takes g c =
@@ -97,10 +125,17 @@ returns-in-Some-2-clause-takes g c =
     let q = w.place c.take_raw.new.self in
     let s = w.place c.convert.new.self in
     let entry = w.written c.in-Some.raw in
-    let read : ◌≡◌ {A = Next w.Payload} (Ok (Some entry), q.raw) (next_raw w.grammar p.raw) = search rules in
-    let made : ◌≡◌ {A = Converted w.Payload} (Ok (Some (w.resolved c.in-Some-2.item)), s) (converted w.limit entry q) = search rules in
+    let read : ◌≡◌ {A = Next w.Payload} (Ok (Some entry), q.raw) (next_raw w.grammar p.raw) =
+    search rules in
+    let made : ◌≡◌ {A = Converted w.Payload} (Ok (Some (w.resolved c.in-Some-2.item)), s)
+    (converted w.limit entry q) = search rules in
     let shorter : length q.raw.rest.bytes < length p.raw.rest.bytes = search rules in
-    omega (arith, stepped-shorter w.grammar takes w.limit (w.place c.args.walk.now) p q s entry (Ok (Some (w.resolved c.in-Some-2.item))) c.take_raw.ensures.same read made shorter, c.entries.invariant.2)
+    omega (
+      arith,
+      stepped-shorter w.grammar takes w.limit (w.place c.args.walk.now) p q s entry
+          (Ok (Some (w.resolved c.in-Some-2.item))) c.take_raw.ensures.same read made shorter,
+      c.entries.invariant.2,
+    )
 
 pub returns-in-Some-2-clause-sound : goal.returns-in-Some-2-clause-sound
 returns-in-Some-2-clause-sound g c =
@@ -110,9 +145,13 @@ returns-in-Some-2-clause-sound g c =
     let q = w.place c.take_raw.new.self in
     let s = w.place c.convert.new.self in
     let entry = w.written c.in-Some.raw in
-    let read : ◌≡◌ {A = Next w.Payload} (Ok (Some entry), q.raw) (next_raw w.grammar p.raw) = search rules in
-    let made : ◌≡◌ {A = Converted w.Payload} (Ok (Some (w.resolved c.in-Some-2.item)), s) (converted w.limit entry q) = search rules in
-    stepped-sound w.grammar takes w.limit (w.place c.args.walk.now) p q s entry (Ok (Some (w.resolved c.in-Some-2.item))) c.take_raw.ensures.same read made c.entries.invariant.1
+    let read : ◌≡◌ {A = Next w.Payload} (Ok (Some entry), q.raw) (next_raw w.grammar p.raw) =
+    search rules in
+    let made : ◌≡◌ {A = Converted w.Payload} (Ok (Some (w.resolved c.in-Some-2.item)), s)
+    (converted w.limit entry q) = search rules in
+    stepped-sound w.grammar takes w.limit (w.place c.args.walk.now) p q s entry
+    (Ok (Some (w.resolved c.in-Some-2.item))) c.take_raw.ensures.same read made
+    c.entries.invariant.1
 
 pub entries-smaller : goal.entries-smaller
 entries-smaller g c =
@@ -122,10 +161,13 @@ entries-smaller g c =
     let q = w.place c.take_raw.new.self in
     let s = w.place c.convert.new.self in
     let entry = w.written c.in-Some.raw in
-    let read : ◌≡◌ {A = Next w.Payload} (Ok (Some entry), q.raw) (next_raw w.grammar p.raw) = search rules in
-    let made : ◌≡◌ {A = Converted w.Payload} (Ok None, s) (converted w.limit entry q) = search rules in
+    let read : ◌≡◌ {A = Next w.Payload} (Ok (Some entry), q.raw) (next_raw w.grammar p.raw) =
+    search rules in
+    let made : ◌≡◌ {A = Converted w.Payload} (Ok None, s) (converted w.limit entry q) =
+    search rules in
     let shorter : length q.raw.rest.bytes < length p.raw.rest.bytes = search rules in
-    stepped-shorter w.grammar takes w.limit (w.place c.args.walk.now) p q s entry (Ok None) c.take_raw.ensures.same read made shorter
+    stepped-shorter w.grammar takes w.limit (w.place c.args.walk.now) p q s entry (Ok None)
+    c.take_raw.ensures.same read made shorter
 
 pub entries-preserved : goal.entries-preserved
 entries-preserved g c =
@@ -135,15 +177,25 @@ entries-preserved g c =
     let q = w.place c.take_raw.new.self in
     let s = w.place c.convert.new.self in
     let entry = w.written c.in-Some.raw in
-    let read : ◌≡◌ {A = Next w.Payload} (Ok (Some entry), q.raw) (next_raw w.grammar p.raw) = search rules in
-    let made : ◌≡◌ {A = Converted w.Payload} (Ok None, s) (converted w.limit entry q) = search rules in
+    let read : ◌≡◌ {A = Next w.Payload} (Ok (Some entry), q.raw) (next_raw w.grammar p.raw) =
+    search rules in
+    let made : ◌≡◌ {A = Converted w.Payload} (Ok None, s) (converted w.limit entry q) =
+    search rules in
     let shorter : length q.raw.rest.bytes < length p.raw.rest.bytes = search rules in
-    let left = stepped-shorter w.grammar takes w.limit (w.place c.args.walk.now) p q s entry (Ok None) c.take_raw.ensures.same read made shorter in (
-      sym (stepped-ahead w.grammar takes w.limit (w.place c.args.walk.now) p q s entry (Ok None) c.take_raw.ensures.same read made c.entries.invariant.0),
-      stepped-inside w.grammar takes w.limit (w.place c.args.walk.now) p q s entry (Ok None) c.take_raw.ensures.same read made c.entries.invariant.1,
+    let left = stepped-shorter w.grammar takes w.limit (w.place c.args.walk.now) p q s entry
+    (Ok None) c.take_raw.ensures.same read made shorter in (
+      sym
+          (stepped-ahead w.grammar takes w.limit (w.place c.args.walk.now) p q s entry (Ok None)
+          c.take_raw.ensures.same read made c.entries.invariant.0),
+      stepped-inside w.grammar takes w.limit (w.place c.args.walk.now) p q s entry (Ok None)
+          c.take_raw.ensures.same read made c.entries.invariant.1,
       omega (arith, left, c.entries.invariant.2),
-      λ t h. c.entries.invariant.3 t (behind_more w.grammar takes w.limit p q s entry (Ok None) c.take_raw.ensures.same read made t refl h),
-      λ t h. c.entries.invariant.4 t (spent_more w.grammar takes w.limit p q s entry (Ok None) c.take_raw.ensures.same read made t refl h),
+      λ t h. c.entries.invariant.3 t
+          (behind_more w.grammar takes w.limit p q s entry (Ok None) c.take_raw.ensures.same read
+          made t refl h),
+      λ t h. c.entries.invariant.4 t
+          (spent_more w.grammar takes w.limit p q s entry (Ok None) c.take_raw.ensures.same read
+          made t refl h),
     )
 
 pub returns-clause-ahead : goal.returns-clause-ahead
@@ -152,7 +204,8 @@ returns-clause-ahead g c =
     let takes = g.met.W.EntryWalk.takes_bytes in
     let p = w.place c.entries.walk in
     let q = w.place c.take_raw.new.self in
-    let read : ◌≡◌ {A = Next w.Payload} (Ok None, q.raw) (next_raw w.grammar p.raw) = search rules in
+    let read : ◌≡◌ {A = Next w.Payload} (Ok None, q.raw) (next_raw w.grammar p.raw) =
+    search rules in
     sym c.entries.invariant.0 ∙ ahead_none w.grammar takes w.limit p q.raw read
 
 pub returns-clause-same : goal.returns-clause-same
@@ -161,8 +214,10 @@ returns-clause-same g c =
     let takes = g.met.W.EntryWalk.takes_bytes in
     let p = w.place c.entries.walk in
     let q = w.place c.take_raw.new.self in
-    let read : ◌≡◌ {A = Next w.Payload} (Ok None, q.raw) (next_raw w.grammar p.raw) = search rules in
-    InList-trans (w.place c.args.walk.now) p q c.entries.invariant.1 (InList-read w.grammar takes w.limit p q (Ok None) c.take_raw.ensures.same read)
+    let read : ◌≡◌ {A = Next w.Payload} (Ok None, q.raw) (next_raw w.grammar p.raw) =
+    search rules in
+    InList-trans (w.place c.args.walk.now) p q c.entries.invariant.1
+    (InList-read w.grammar takes w.limit p q (Ok None) c.take_raw.ensures.same read)
 
 pub returns-clause-ended : goal.returns-clause-ended
 returns-clause-ended g c =
@@ -170,7 +225,8 @@ returns-clause-ended g c =
     let takes = g.met.W.EntryWalk.takes_bytes in
     let p = w.place c.entries.walk in
     let q = w.place c.take_raw.new.self in
-    let read : ◌≡◌ {A = Next w.Payload} (Ok None, q.raw) (next_raw w.grammar p.raw) = search rules in
+    let read : ◌≡◌ {A = Next w.Payload} (Ok None, q.raw) (next_raw w.grammar p.raw) =
+    search rules in
     next_raw-ended w.grammar takes w.limit p.raw q.raw read
 
 pub returns-in_err-item-clause-place : goal.returns-in_err-item-clause-place
@@ -181,9 +237,13 @@ returns-in_err-item-clause-place g c =
     let q = w.place c.take_raw.new.self in
     let s = w.place c.convert.new.self in
     let entry = w.written c.in-Some.raw in
-    let read : ◌≡◌ {A = Next w.Payload} (Ok (Some entry), q.raw) (next_raw w.grammar p.raw) = search rules in
-    let made : ◌≡◌ {A = Converted w.Payload} (Err c.in_err-item.field-0.0, s) (converted w.limit entry q) = search rules in
-    c.entries.invariant.3 s (behind_one w.grammar takes w.limit p q s entry (Err c.in_err-item.field-0.0) c.take_raw.ensures.same read made refl)
+    let read : ◌≡◌ {A = Next w.Payload} (Ok (Some entry), q.raw) (next_raw w.grammar p.raw) =
+    search rules in
+    let made : ◌≡◌ {A = Converted w.Payload} (Err c.in_err-item.field-0.0, s)
+    (converted w.limit entry q) = search rules in
+    c.entries.invariant.3 s
+    (behind_one w.grammar takes w.limit p q s entry (Err c.in_err-item.field-0.0)
+    c.take_raw.ensures.same read made refl)
 
 pub returns-in-Some-2-clause-place : goal.returns-in-Some-2-clause-place
 returns-in-Some-2-clause-place g c =
@@ -193,9 +253,13 @@ returns-in-Some-2-clause-place g c =
     let q = w.place c.take_raw.new.self in
     let s = w.place c.convert.new.self in
     let entry = w.written c.in-Some.raw in
-    let read : ◌≡◌ {A = Next w.Payload} (Ok (Some entry), q.raw) (next_raw w.grammar p.raw) = search rules in
-    let made : ◌≡◌ {A = Converted w.Payload} (Ok (Some (w.resolved c.in-Some-2.item)), s) (converted w.limit entry q) = search rules in
-    c.entries.invariant.3 s (behind_one w.grammar takes w.limit p q s entry (Ok (Some (w.resolved c.in-Some-2.item))) c.take_raw.ensures.same read made refl)
+    let read : ◌≡◌ {A = Next w.Payload} (Ok (Some entry), q.raw) (next_raw w.grammar p.raw) =
+    search rules in
+    let made : ◌≡◌ {A = Converted w.Payload} (Ok (Some (w.resolved c.in-Some-2.item)), s)
+    (converted w.limit entry q) = search rules in
+    c.entries.invariant.3 s
+    (behind_one w.grammar takes w.limit p q s entry (Ok (Some (w.resolved c.in-Some-2.item)))
+    c.take_raw.ensures.same read made refl)
 
 pub returns-clause-place : goal.returns-clause-place
 returns-clause-place g c =
@@ -203,7 +267,8 @@ returns-clause-place g c =
     let takes = g.met.W.EntryWalk.takes_bytes in
     let p = w.place c.entries.walk in
     let q = w.place c.take_raw.new.self in
-    let read : ◌≡◌ {A = Next w.Payload} (Ok None, q.raw) (next_raw w.grammar p.raw) = search rules in
+    let read : ◌≡◌ {A = Next w.Payload} (Ok None, q.raw) (next_raw w.grammar p.raw) =
+    search rules in
     c.entries.invariant.3 q (behind_end w.grammar takes w.limit p q c.take_raw.ensures.same read)
 
 pub returns-in_err-raw-clause-place : goal.returns-in_err-raw-clause-place
@@ -214,7 +279,8 @@ returns-in_err-raw-clause-place g c =
     let q = w.place c.take_raw.new.self in
     let e = c.in_err-raw.field-0.0 in
     let read : ◌≡◌ {A = Next w.Payload} (Err e, q.raw) (next_raw w.grammar p.raw) = search rules in
-    c.entries.invariant.3 q (behind_refused w.grammar takes w.limit p q e c.take_raw.ensures.same read)
+    c.entries.invariant.3 q
+    (behind_refused w.grammar takes w.limit p q e c.take_raw.ensures.same read)
 
 pub returns-in_err-item-clause-spent : goal.returns-in_err-item-clause-spent
 returns-in_err-item-clause-spent g c =
@@ -224,9 +290,13 @@ returns-in_err-item-clause-spent g c =
     let q = w.place c.take_raw.new.self in
     let s = w.place c.convert.new.self in
     let entry = w.written c.in-Some.raw in
-    let read : ◌≡◌ {A = Next w.Payload} (Ok (Some entry), q.raw) (next_raw w.grammar p.raw) = search rules in
-    let made : ◌≡◌ {A = Converted w.Payload} (Err c.in_err-item.field-0.0, s) (converted w.limit entry q) = search rules in
-    c.entries.invariant.4 s (spent_one w.grammar takes w.limit p q s entry (Err c.in_err-item.field-0.0) c.take_raw.ensures.same read made s refl)
+    let read : ◌≡◌ {A = Next w.Payload} (Ok (Some entry), q.raw) (next_raw w.grammar p.raw) =
+    search rules in
+    let made : ◌≡◌ {A = Converted w.Payload} (Err c.in_err-item.field-0.0, s)
+    (converted w.limit entry q) = search rules in
+    c.entries.invariant.4 s
+    (spent_one w.grammar takes w.limit p q s entry (Err c.in_err-item.field-0.0)
+    c.take_raw.ensures.same read made s refl)
 
 pub returns-in-Some-2-clause-spent : goal.returns-in-Some-2-clause-spent
 returns-in-Some-2-clause-spent g c =
@@ -236,9 +306,13 @@ returns-in-Some-2-clause-spent g c =
     let q = w.place c.take_raw.new.self in
     let s = w.place c.convert.new.self in
     let entry = w.written c.in-Some.raw in
-    let read : ◌≡◌ {A = Next w.Payload} (Ok (Some entry), q.raw) (next_raw w.grammar p.raw) = search rules in
-    let made : ◌≡◌ {A = Converted w.Payload} (Ok (Some (w.resolved c.in-Some-2.item)), s) (converted w.limit entry q) = search rules in
-    c.entries.invariant.4 s (spent_one w.grammar takes w.limit p q s entry (Ok (Some (w.resolved c.in-Some-2.item))) c.take_raw.ensures.same read made s refl)
+    let read : ◌≡◌ {A = Next w.Payload} (Ok (Some entry), q.raw) (next_raw w.grammar p.raw) =
+    search rules in
+    let made : ◌≡◌ {A = Converted w.Payload} (Ok (Some (w.resolved c.in-Some-2.item)), s)
+    (converted w.limit entry q) = search rules in
+    c.entries.invariant.4 s
+    (spent_one w.grammar takes w.limit p q s entry (Ok (Some (w.resolved c.in-Some-2.item)))
+    c.take_raw.ensures.same read made s refl)
 
 pub returns-clause-spent : goal.returns-clause-spent
 returns-clause-spent g c =
@@ -246,7 +320,8 @@ returns-clause-spent g c =
     let takes = g.met.W.EntryWalk.takes_bytes in
     let p = w.place c.entries.walk in
     let q = w.place c.take_raw.new.self in
-    let read : ◌≡◌ {A = Next w.Payload} (Ok None, q.raw) (next_raw w.grammar p.raw) = search rules in
+    let read : ◌≡◌ {A = Next w.Payload} (Ok None, q.raw) (next_raw w.grammar p.raw) =
+    search rules in
     λ none. next_raw-ended w.grammar takes w.limit p.raw q.raw read
 
 pub returns-in_err-raw-clause-spent : goal.returns-in_err-raw-clause-spent

@@ -1,5 +1,6 @@
 use Rattle.std.proofs.Common.{rules, ◌≡◌}
-use Rattle.gimli_units.proofs.Chains.{uleb16_at-shorter, chain_more, chain_refused, chain_end, chain_begin}
+use Rattle.gimli_units.proofs.Chains.{uleb16_at-shorter, chain_more, chain_refused, chain_end}
+use Rattle.gimli_units.proofs.Chains.{chain_begin}
 use Rattle.gimli_units.proofs.form.direct_form.Goals as goal
 
 pub indirect-init : goal.indirect-init

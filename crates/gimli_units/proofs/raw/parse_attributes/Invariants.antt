@@ -11,6 +11,9 @@ invariant-loop-specification g l =
     let limit = g.R.Offset.ReaderOffset.limit in
     record {
       same : attributes_at limit l.encoding l.specifications (view l.initial.input)
-          ≡ after (map (map_attribute view g.R.Offset.ReaderOffset.number) l.attrs.items) (attributes_at limit l.encoding (drop l.specification-index l.specifications) (view l.input));
-      room : vec_len l.attrs + (length l.specifications - l.specification-index) ≤ vec_capacity l.attrs;
+          ≡ after (map (map_attribute view g.R.Offset.ReaderOffset.number) l.attrs.items)
+          (attributes_at limit l.encoding (drop l.specification-index l.specifications)
+          (view l.input));
+      room : vec_len l.attrs + (length l.specifications - l.specification-index)
+          ≤ vec_capacity l.attrs;
     }

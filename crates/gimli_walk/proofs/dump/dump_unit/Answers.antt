@@ -7,15 +7,22 @@ use Rattle.gimli_walk.proofs.dump.dump_unit.Goals as goal
 pub returns-in-Ok : goal.returns-in-Ok
 returns-in-Ok g c =
     let u = unit_view c.args.unit.now in
-    let offset : c.into_u64-offset.result ≡ u.offset = c.into_u64-offset.ensures.value ∙ c.offset.ensures in
-    let kind : c.number_of-type_number.result ≡ type_number u.kind = c.number_of-type_number.ensures ∙ ap type_number c.type_.ensures in
+    let offset : c.into_u64-offset.result
+    ≡ u.offset = c.into_u64-offset.ensures.value ∙ c.offset.ensures in
+    let kind : c.number_of-type_number.result
+    ≡ type_number u.kind = c.number_of-type_number.ensures ∙ ap type_number c.type_.ensures in
     let line = rw (offset, c.version.ensures, kind) at c.in_ok-write_unit_line.ensures in
-    unit_rows g.R.Offset.ReaderOffset.limit u (g.W.Write.contents c.args.out.now) (g.W.Write.contents c.write_unit_line.new.out) (g.W.Write.contents c.write_rows.new.out) _ _ _ c.write_rows.result line c.in-Ok.ensures c.write_rows.ensures
+    unit_rows g.R.Offset.ReaderOffset.limit u (g.W.Write.contents c.args.out.now)
+    (g.W.Write.contents c.write_unit_line.new.out) (g.W.Write.contents c.write_rows.new.out) _ _
+    _ c.write_rows.result line c.in-Ok.ensures c.write_rows.ensures
 
 pub returns-in-Err-OutOfMemory : goal.returns-in-Err-OutOfMemory
 returns-in-Err-OutOfMemory g c =
     let u = unit_view c.args.unit.now in
-    let offset : c.into_u64-offset.result ≡ u.offset = c.into_u64-offset.ensures.value ∙ c.offset.ensures in
-    let kind : c.number_of-type_number.result ≡ type_number u.kind = c.number_of-type_number.ensures ∙ ap type_number c.type_.ensures in
+    let offset : c.into_u64-offset.result
+    ≡ u.offset = c.into_u64-offset.ensures.value ∙ c.offset.ensures in
+    let kind : c.number_of-type_number.result
+    ≡ type_number u.kind = c.number_of-type_number.ensures ∙ ap type_number c.type_.ensures in
     let line = rw (offset, c.version.ensures, kind) at c.in_ok-write_unit_line.ensures in
-    unit_memory g.R.Offset.ReaderOffset.limit u (g.W.Write.contents c.args.out.now) (g.W.Write.contents c.write_unit_line.new.out) _ _ line
+    unit_memory g.R.Offset.ReaderOffset.limit u (g.W.Write.contents c.args.out.now)
+    (g.W.Write.contents c.write_unit_line.new.out) _ _ line

@@ -1,7 +1,8 @@
 use Rattle.std.proofs.Common.{rules, ◌≡◌, ◌∙◌, sym, ap, Ok, Err, ℕ, max}
 use Rattle.std.proofs.Math.Nat.{max-zero}
 use Rattle.gimli_units.specs.UnitHeld.{unit_view}
-use Rattle.gimli_walk.proofs.Dumps.{dump_ended, dump_refused, dump_more, dump_cut, dump_whole, behind_status, behind_behind, until_outcome, unit_first}
+use Rattle.gimli_walk.proofs.Dumps.{dump_ended, dump_refused, dump_more, dump_cut, dump_whole}
+use Rattle.gimli_walk.proofs.Dumps.{behind_status, behind_behind, until_outcome, unit_first}
 use Rattle.gimli_walk.proofs.dump.dump_units.Goals as goal
 
 pub returns-in_err-next-in-Ok-Some-clause-text : goal.returns-in_err-next-in-Ok-Some-clause-text
@@ -13,13 +14,21 @@ returns-in_err-next-in-Ok-Some-clause-text g c =
     let new = g.W.Write.contents c.dump_unit.new.out in
     let stop = c.in_err-next-in-Ok-Some.field-0.0 in
     let r : c.from_residual.result ≡ Err stop = search rules in
-    let cut = dump_cut limit declarations out new c.units.units c.next.new.self (unit_view c.in-Ok-Some.unit) stop (rw c.in-Ok-Some.field-0-is at c.in-Ok-Some.ensures.ahead) c.in_err-next-in-Ok-Some.ensures in
-    rw r (dump_whole limit declarations start new c.units-units.result _ (Err stop) c.units-units.ensures.begin (c.units.invariant.completes new (Err stop) cut))
+    let cut = dump_cut limit declarations out new c.units.units c.next.new.self
+    (unit_view c.in-Ok-Some.unit) stop
+    (rw c.in-Ok-Some.field-0-is at c.in-Ok-Some.ensures.ahead)
+    c.in_err-next-in-Ok-Some.ensures in
+    rw r
+    (dump_whole limit declarations start new c.units-units.result _ (Err stop)
+    c.units-units.ensures.begin (c.units.invariant.completes new (Err stop) cut))
 
 pub returns-in_err-next-in-Ok-Some-clause-without_memory : goal.returns-in_err-next-in-Ok-Some-clause-without_memory
 returns-in_err-next-in-Ok-Some-clause-without_memory g c = λ none.
-    let one = rw (c.in-Ok-Some.field-0-is, c.units.invariant.first none) at c.in-Ok-Some.ensures.value in
-    absurd (let k = unit_first g.R.Offset.ReaderOffset.limit _ (unit_view c.in-Ok-Some.unit) _ one in cc)
+    let one = rw (c.in-Ok-Some.field-0-is, c.units.invariant.first none) at
+    c.in-Ok-Some.ensures.value in
+    absurd
+    (let k = unit_first g.R.Offset.ReaderOffset.limit _ (unit_view c.in-Ok-Some.unit) _ one in
+    cc)
 
 pub units-preserved : goal.units-preserved
 units-preserved g c =
@@ -33,11 +42,17 @@ units-preserved g c =
     let greater : c.max-status.result ≡ max c.units.status next = search rules in
     record {
       completes = λ final written rest.
-          until_outcome start final _ (behind_status c.units.status (behind_status next written)) (behind_status c.max-status.result written)
-          (behind_behind c.units.status next written ∙ ap (λ (n : ℕ). behind_status n written) (sym greater))
-          (c.units.invariant.completes final (behind_status next written) (dump_more limit declarations out mid final c.units.units c.next.new.self u next written (rw c.in-Ok-Some.field-0-is at c.in-Ok-Some.ensures.ahead) c.in_ok-next-in-Ok-Some.ensures rest));
+          until_outcome start final _ (behind_status c.units.status (behind_status next written))
+          (behind_status c.max-status.result written)
+          (behind_behind c.units.status next written
+          ∙ ap (λ (n : ℕ). behind_status n written) (sym greater))
+          (c.units.invariant.completes final (behind_status next written)
+          (dump_more limit declarations out mid final c.units.units c.next.new.self u next
+          written (rw c.in-Ok-Some.field-0-is at c.in-Ok-Some.ensures.ahead)
+          c.in_ok-next-in-Ok-Some.ensures rest));
       first = λ none.
-          let one = rw (c.in-Ok-Some.field-0-is, c.units.invariant.first none) at c.in-Ok-Some.ensures.value in
+          let one = rw (c.in-Ok-Some.field-0-is, c.units.invariant.first none) at
+          c.in-Ok-Some.ensures.value in
           absurd (let k = unit_first limit _ u _ one in cc);
     }
 
@@ -47,8 +62,12 @@ returns-in-Ok-None-clause-text g c =
     let declarations = g.R.Reader.view c.args.debug_abbrev.now.section in
     let start = g.W.Write.contents c.args.out.now in
     let out = g.W.Write.contents c.units.out in
-    let all = c.units.invariant.completes out (Ok 0) (dump_ended limit declarations out c.units.units c.next.new.self (rw c.in-Ok-None.field-0-is at c.in-Ok-None.ensures.ahead)) in
-    rw max-zero at (dump_whole limit declarations start out c.units-units.result _ (Ok (max c.units.status 0)) c.units-units.ensures.begin all)
+    let all = c.units.invariant.completes out (Ok 0)
+    (dump_ended limit declarations out c.units.units c.next.new.self
+    (rw c.in-Ok-None.field-0-is at c.in-Ok-None.ensures.ahead)) in
+    rw max-zero at
+    (dump_whole limit declarations start out c.units-units.result _ (Ok (max c.units.status 0))
+    c.units-units.ensures.begin all)
 
 pub returns-in-Err-clause-text : goal.returns-in-Err-clause-text
 returns-in-Err-clause-text g c =
@@ -57,6 +76,10 @@ returns-in-Err-clause-text g c =
     let start = g.W.Write.contents c.args.out.now in
     let out = g.W.Write.contents c.units.out in
     let new = g.W.Write.contents c.write_error.new.out in
-    let all = c.units.invariant.completes new (Ok 1) (dump_refused limit declarations out new c.units.units c.next.new.self c.in-Err.error c.in-Err.ensures.ahead c.in_ok-write_error-in-Err.ensures) in
+    let all = c.units.invariant.completes new (Ok 1)
+    (dump_refused limit declarations out new c.units.units c.next.new.self c.in-Err.error
+    c.in-Err.ensures.ahead c.in_ok-write_error-in-Err.ensures) in
     let greater : c.max.result ≡ max c.units.status 1 = search rules in
-    rw greater (dump_whole limit declarations start new c.units-units.result _ (Ok (max c.units.status 1)) c.units-units.ensures.begin all)
+    rw greater
+    (dump_whole limit declarations start new c.units-units.result _ (Ok (max c.units.status 1))
+    c.units-units.ensures.begin all)

@@ -5,15 +5,19 @@ use Rattle.gimli_walk.specs.Stops.{WroteUntil}
 use Rattle.gimli_walk.proofs.Dumps.{place_dump, behind_status}
 use Rattle.gimli_walk.proofs.dump.dump_units.Given as goal
 
--- whatever completes the units that are left completes the whole; where the first is refused no other is read
+-- whatever completes the units that are left completes the whole; where the first is refused no
+-- other is read
 abbrev pub invariant-units : goal.invariant-units
 invariant-units g l =
     let limit = g.R.Offset.ReaderOffset.limit in
     let text = place_dump limit (g.R.Reader.view l.debug_abbrev.section) in
     record {
-      completes : (final : Option (List ℕ)) (written : Result ℕ Stop) → WroteUntil (g.W.Write.contents l.out) final (text l.units) written
-          → WroteUntil (g.W.Write.contents l.initial.out) final (text l.initial.units) (behind_status l.status written);
-      first : has_unit limit (g.R.Reader.view l.debug_info.section) ≡ false → l.units ≡ record { rest = g.R.Reader.view l.debug_info.section; offset = 0 };
+      completes : (final : Option (List ℕ)) (written : Result ℕ Stop)
+          → WroteUntil (g.W.Write.contents l.out) final (text l.units) written
+          → WroteUntil (g.W.Write.contents l.initial.out) final (text l.initial.units)
+          (behind_status l.status written);
+      first : has_unit limit (g.R.Reader.view l.debug_info.section) ≡ false
+          → l.units ≡ record { rest = g.R.Reader.view l.debug_info.section; offset = 0 };
     }
 
 abbrev pub decreases-units : goal.decreases-units

@@ -7,5 +7,6 @@ pub returns-in-Ok-None : goal.returns-in-Ok-None
 returns-in-Ok-None g c =
     let limit = g.R.Offset.ReaderOffset.limit in
     let none = rw c.in-Ok-None.field-0-is at c.in-Ok-None.ensures.value in
-    let all = c.sets.invariant ∙ ap (unit_among c.args.address) (sets_none limit c.sets.headers none) in
+    let all = c.sets.invariant
+    ∙ ap (unit_among c.args.address) (sets_none limit c.sets.headers none) in
     sym (ap (unit_among c.args.address) (sym c.headers-headers.ensures.all) ∙ all)

@@ -7,7 +7,8 @@ use Rattle.gimli_walk.proofs.find.unit_of_address.Given as goal
 abbrev pub invariant-sets : goal.invariant-sets
 invariant-sets g l =
     let limit = g.R.Offset.ReaderOffset.limit in
-    unit_among l.address (sets_ahead limit l.initial.headers) ≡ unit_among l.address (sets_ahead limit l.headers)
+    unit_among l.address (sets_ahead limit l.initial.headers)
+    ≡ unit_among l.address (sets_ahead limit l.headers)
 
 abbrev pub decreases-sets : goal.decreases-sets
 decreases-sets g l = length l.headers.rest.bytes

@@ -1,5 +1,5 @@
 use Rattle.gimli_base.specs.declared.common.SectionId.TheVariants.{DebugTypes as TypesSection}
-use Rattle.gimli_headers.specs.UnitSteps.{answers_ahead, first_answer}
+use Rattle.gimli_headers.proofs.UnitSteps.{answers_ahead, first_answer}
 use Rattle.gimli_walk.specs.Runs.{run-from_yields}
 use Rattle.gimli_walk.proofs.run.run_type_units.Goals as goal
 
@@ -7,5 +7,6 @@ pub returns : goal.returns
 returns g c =
     let limit = g.R.Offset.ReaderOffset.limit in
     let all = c.run_all.ensures in
-    let run = run-from_yields _ _ (answers_ahead limit TypesSection) (first_answer limit TypesSection _) _ _ _ all.front all.fewer all.whole in
+    let run = run-from_yields _ _ (answers_ahead limit TypesSection)
+    (first_answer limit TypesSection _) _ _ _ all.front all.fewer all.whole in
     rw c.units.ensures.begin at run

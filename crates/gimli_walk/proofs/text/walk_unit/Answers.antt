@@ -16,7 +16,8 @@ returns-in-Ok-clause-text g c h =
       offset = number c.args.unit.now.unit_offset.0;
       entries = g.R.Reader.view c.args.unit.now.entries_buf;
     } in
-    walked_declared g.R.Offset.ReaderOffset.limit c.args.mode unit _ _ _ _ c.walk_declared.result c.in-Ok.ensures h c.walk_declared.ensures.text
+    walked_declared g.R.Offset.ReaderOffset.limit c.args.mode unit _ _ _ _ c.walk_declared.result
+    c.in-Ok.ensures h c.walk_declared.ensures.text
 
 pub returns-in_ok-write_error-in-Err-clause-text : goal.returns-in_ok-write_error-in-Err-clause-text
 returns-in_ok-write_error-in-Err-clause-text g c h =
@@ -30,7 +31,8 @@ returns-in_ok-write_error-in-Err-clause-text g c h =
       offset = number c.args.unit.now.unit_offset.0;
       entries = g.R.Reader.view c.args.unit.now.entries_buf;
     } in
-    undeclared _ _ (mode_text g.R.Offset.ReaderOffset.limit c.args.mode) unit _ c.in-Err.error c.in-Err.ensures c.in_ok-write_error-in-Err.ensures
+    undeclared _ _ (mode_text g.R.Offset.ReaderOffset.limit c.args.mode) unit _ c.in-Err.error
+    c.in-Err.ensures c.in_ok-write_error-in-Err.ensures
 
 pub returns-in-Ok-clause-true_lines : goal.returns-in-Ok-clause-true_lines
 returns-in-Ok-clause-true_lines g c = rw (← c.in-Ok.ensures) c.walk_declared.ensures.true_lines
@@ -47,4 +49,5 @@ returns-in_ok-write_error-in-Err-clause-true_lines g c =
       offset = number c.args.unit.now.unit_offset.0;
       entries = g.R.Reader.view c.args.unit.now.entries_buf;
     } in
-    undeclared_true g.R.Offset.ReaderOffset.limit c.args.mode unit _ c.in-Err.error _ _ c.in-Err.ensures c.in_ok-write_error-in-Err.ensures
+    undeclared_true g.R.Offset.ReaderOffset.limit c.args.mode unit _ c.in-Err.error _ _
+    c.in-Err.ensures c.in_ok-write_error-in-Err.ensures

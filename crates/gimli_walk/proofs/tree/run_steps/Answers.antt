@@ -8,7 +8,8 @@ steps-init g c = walked_none g.R.Offset.ReaderOffset.limit _ _ 0 _ (omega arith)
 pub steps-preserved : goal.steps-preserved
 steps-preserved g c =
     let told = c.in_ok-turn.ensures.turned in
-    walked_step g.R.Offset.ReaderOffset.limit _ _ _ _ _ _ _ _ _ _ told.0 c.steps.invariant c.in-Some.ensures told.1 told.2
+    walked_step g.R.Offset.ReaderOffset.limit _ _ _ _ _ _ _ _ _ _ told.0 c.steps.invariant
+    c.in-Some.ensures told.1 told.2
 
 pub returns-clause-whole : goal.returns-clause-whole
 returns-clause-whole g c =

@@ -8,7 +8,9 @@ pub returns : goal.returns
 returns g c =
     let told = told_by g.R.Reader.view g.R.Offset.ReaderOffset.number in
     let all = c.run_all_steps.ensures in
-    tree_run_from g.R.Offset.ReaderOffset.limit _ _ _ _ _ _ _ _ c.args.unit.now.entries_fit c.in_ok-tree.ensures (rw c.walk-walker.ensures at all.run) (sym (length-map c.run_all_steps.result.answers.items told)) all.stopped
+    tree_run_from g.R.Offset.ReaderOffset.limit _ _ _ _ _ _ _ _ c.args.unit.now.entries_fit
+    c.in_ok-tree.ensures (rw c.walk-walker.ensures at all.run)
+    (sym (length-map c.run_all_steps.result.answers.items told)) all.stopped
 
 pub returns-in_err-tree : goal.returns-in_err-tree
 returns-in_err-tree g c =

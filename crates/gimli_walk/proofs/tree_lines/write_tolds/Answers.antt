@@ -11,11 +11,15 @@ answers-preserved g c = λ final rest.
     let left = drop (c.answers.answer-index + 1) c.args.answers.now in
     let next = drop_more _ _ _ c.answers-test.true ∙ ap (λ x. x ∷ left) (sym c.answer-item.is) in
     let lines = ap (λ l. concat (map told_line (f l))) next in
-    c.answers.invariant final (rw lines (Appends-trans _ _ final _ (concat (map told_line (f left))) c.in_ok-write_told.ensures rest))
+    c.answers.invariant final
+    (rw lines
+    (Appends-trans _ _ final _ (concat (map told_line (f left))) c.in_ok-write_told.ensures
+    rest))
 
 pub returns : goal.returns
 returns g c =
     let f = tolds_by g.R.Reader.view g.R.Offset.ReaderOffset.number in
-    let none = drop_all c.answers.answer-index c.args.answers.now (omega (arith, c.answers-test.false)) in
+    let none = drop_all c.answers.answer-index c.args.answers.now
+    (omega (arith, c.answers-test.false)) in
     let lines = ap (λ l. concat (map told_line (f l))) none in
     c.answers.invariant _ (rw lines (Appends-none _))

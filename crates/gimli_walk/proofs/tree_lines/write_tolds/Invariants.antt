@@ -8,5 +8,7 @@ use Rattle.gimli_walk.proofs.tree_lines.write_tolds.Given as goal
 abbrev pub invariant-answers : goal.invariant-answers
 invariant-answers g l =
     let f = tolds_by g.R.Reader.view g.R.Offset.ReaderOffset.number in
-    (final : Option (List ℕ)) → Appends (g.W.Write.contents l.out) final (concat (map told_line (f (drop l.answer-index l.answers))))
+    (final : Option (List ℕ))
+    → Appends (g.W.Write.contents l.out) final
+    (concat (map told_line (f (drop l.answer-index l.answers))))
     → Appends (g.W.Write.contents l.initial.out) final (concat (map told_line (f l.answers)))

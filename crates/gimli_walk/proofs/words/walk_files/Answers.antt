@@ -6,24 +6,33 @@ use Rattle.gimli_walk.proofs.words.walk_files.Goals as goal
 
 pub returns-in_default : goal.returns-in_default
 returns-in_default g c =
-    no_first c.read.new.self (subst (λ o. CalledAt g.F.FnMut c.args.read c.args.info.now o c.read.new.self) c.in_default.is (record { shown = _; shows = refl; called = c.read.ensures }))
+    no_first c.read.new.self
+    (subst (λ o. CalledAt g.F.FnMut c.args.read c.args.info.now o c.read.new.self)
+    c.in_default.is (record { shown = _; shows = refl; called = c.read.ensures }))
     (Keeps-same _) c.cannot_read.ensures
 
 pub returns-in_default-read : goal.returns-in_default-read
 returns-in_default-read g c =
     no_second c.in-Some.info_bytes c.read.new.self c.read-2.new.self
-    (subst (λ o. CalledAt g.F.FnMut c.args.read c.args.info.now o c.read.new.self) c.in-Some.is (record { shown = _; shows = refl; called = c.read.ensures }))
-    (subst (λ o. CalledAt g.F.FnMut c.read.new.self c.args.abbrev.now o c.read-2.new.self) c.in_default-read.is (record { shown = _; shows = refl; called = c.read-2.ensures }))
+    (subst (λ o. CalledAt g.F.FnMut c.args.read c.args.info.now o c.read.new.self) c.in-Some.is
+    (record { shown = _; shows = refl; called = c.read.ensures }))
+    (subst (λ o. CalledAt g.F.FnMut c.read.new.self c.args.abbrev.now o c.read-2.new.self)
+    c.in_default-read.is (record { shown = _; shows = refl; called = c.read-2.ensures }))
     (Keeps-same _) c.cannot_read-in_default-read.ensures
 
 pub returns : goal.returns
 returns g c =
-    of_both g.F.FnMut (λ v. v.items) c.args.read (g.W.Write.contents c.args.out.now) (g.W.Write.contents c.walk_text.new.out) (g.W.Write.contents c.flushed.new.out)
-    c.read.new.self c.read-2.new.self c.args.info.now c.args.abbrev.now c.in-Some.info_bytes c.in-Some-read.abbrev_bytes
+    of_both g.F.FnMut (λ v. v.items) c.args.read (g.W.Write.contents c.args.out.now)
+    (g.W.Write.contents c.walk_text.new.out) (g.W.Write.contents c.flushed.new.out)
+    c.read.new.self c.read-2.new.self c.args.info.now c.args.abbrev.now c.in-Some.info_bytes
+    c.in-Some-read.abbrev_bytes
     (λ o i t s. SaysWalk c.args.mode (g.W.Write.contents c.args.out.now) o i t s)
     (λ b d i t s. SaysWalk-kept c.args.mode _ b d i t s)
     c.walk_text.result c.unwrap_or-status.result c.flushed.result
-    (subst (λ o. CalledAt g.F.FnMut c.args.read c.args.info.now o c.read.new.self) c.in-Some.is (record { shown = _; shows = refl; called = c.read.ensures }))
-    (subst (λ o. CalledAt g.F.FnMut c.read.new.self c.args.abbrev.now o c.read-2.new.self) c.in-Some-read.is (record { shown = _; shows = refl; called = c.read-2.ensures }))
-    (if_ok_asks _ c.walk_text.result (rw (← c.deref.ensures.value, ← c.deref-2.ensures.value) c.walk_text.ensures.text))
+    (subst (λ o. CalledAt g.F.FnMut c.args.read c.args.info.now o c.read.new.self) c.in-Some.is
+    (record { shown = _; shows = refl; called = c.read.ensures }))
+    (subst (λ o. CalledAt g.F.FnMut c.read.new.self c.args.abbrev.now o c.read-2.new.self)
+    c.in-Some-read.is (record { shown = _; shows = refl; called = c.read-2.ensures }))
+    (if_ok_asks _ c.walk_text.result
+    (rw (← c.deref.ensures.value, ← c.deref-2.ensures.value) c.walk_text.ensures.text))
     c.unwrap_or-status.ensures c.flushed.ensures

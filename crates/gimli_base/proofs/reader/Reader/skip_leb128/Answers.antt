@@ -10,12 +10,16 @@ returns-in_err-read_u8-clause-value g c =
     search rules
 
 pub loop-rest-smaller : goal.loop-rest-smaller
-loop-rest-smaller g c = omega (arith, IsLater-length 1 _ _ (byte_at-later _ _ _ c.in_ok-read_u8.ensures.value))
+loop-rest-smaller g c =
+    omega (arith, IsLater-length 1 _ _ (byte_at-later _ _ _ c.in_ok-read_u8.ensures.value))
 
 pub loop-rest-preserved : goal.loop-rest-preserved
-loop-rest-preserved g c = sym (pass_more _ _ _ c.in_ok-read_u8.ensures.value c.if-branch-ge128.true) ∙ c.loop-rest.invariant
+loop-rest-preserved g c =
+    sym (pass_more _ _ _ c.in_ok-read_u8.ensures.value c.if-branch-ge128.true)
+    ∙ c.loop-rest.invariant
 
 pub returns-clause-value : goal.returns-clause-value
-returns-clause-value g c = let last = sym (pass_last _ _ _ c.in_ok-read_u8.ensures.value c.if-branch-ge128.false) in
+returns-clause-value g c =
+    let last = sym (pass_last _ _ _ c.in_ok-read_u8.ensures.value c.if-branch-ge128.false) in
     let begun = c.loop-rest.invariant in
     search rules

@@ -1,9 +1,11 @@
 use Rattle.gimli_base.specs.declared.common.SectionId.TheVariants.{DebugInfo as InfoSection}
-use Rattle.gimli_headers.specs.UnitSteps.{units-tile, units-found}
+use Rattle.gimli_headers.proofs.UnitSteps.{units-tile, units-found}
 use Rattle.gimli_headers.proofs.debug_info.DebugInfo.units.Goals as goal
 
 pub returns-clause-tiles : goal.returns-clause-tiles
-returns-clause-tiles g c = units-tile g.R.Offset.ReaderOffset.limit InfoSection (g.R.Reader.view c.args.self.now.section)
+returns-clause-tiles g c =
+    units-tile g.R.Offset.ReaderOffset.limit InfoSection (g.R.Reader.view c.args.self.now.section)
 
 pub returns-clause-found : goal.returns-clause-found
-returns-clause-found g c = units-found g.R.Offset.ReaderOffset.limit InfoSection (g.R.Reader.view c.args.self.now.section)
+returns-clause-found g c =
+    units-found g.R.Offset.ReaderOffset.limit InfoSection (g.R.Reader.view c.args.self.now.section)

@@ -4,7 +4,8 @@ use Rattle.gimli_lists.proofs.aranges.entries.next_entry.Given as goal
 
 abbrev pub invariant-loop-address : goal.invariant-loop-address
 invariant-loop-address g l = record {
-  same : first_of_tuples raw_entry l.address_size (g.R.Reader.view l.initial.input) ≡ first_of_tuples raw_entry l.address_size (g.R.Reader.view l.input);
+  same : first_of_tuples raw_entry l.address_size (g.R.Reader.view l.initial.input)
+      ≡ first_of_tuples raw_entry l.address_size (g.R.Reader.view l.input);
   shorter : length (g.R.Reader.view l.input).bytes ≤ length (g.R.Reader.view l.initial.input).bytes;
 }
 

@@ -1,7 +1,7 @@
 use Rattle.std.proofs.Common.{subst, sym, IsTrue}
 use Rattle.gimli_base.specs.declared.common.Encoding.{Encoding}
 use Rattle.gimli_base.specs.Reading.{is_size}
-use Rattle.gimli_lists.specs.PlaceSteps.{raw_list_at-encoding}
+use Rattle.gimli_lists.proofs.PlaceSteps.{raw_list_at-encoding}
 use Rattle.gimli_lists.proofs.loclists.LocationLists.locations.Goals as goal
 
 pub new-requires : goal.new-requires

@@ -7,10 +7,12 @@ returns-in-Some g c =
     let e = c.args.self.now in
     let null = sym c.is_null.ensures ∙ c.if-is_null.false in
     c.reference.ensures
-    ∙ target_of g.R.Reader.view g.R.Offset.ReaderOffset.number e.tag e.has_children e.attrs.items (Some c.in-Some.attr.now) null c.if-not-self.false c.in-Some.ensures
+    ∙ target_of g.R.Reader.view g.R.Offset.ReaderOffset.number e.tag e.has_children e.attrs.items
+    (Some c.in-Some.attr.now) null c.if-not-self.false c.in-Some.ensures
 
 pub returns-in-None : goal.returns-in-None
 returns-in-None g c =
     let e = c.args.self.now in
     let null = sym c.is_null.ensures ∙ c.if-is_null.false in
-    target_of g.R.Reader.view g.R.Offset.ReaderOffset.number e.tag e.has_children e.attrs.items None null c.if-not-self.false c.in-None.ensures
+    target_of g.R.Reader.view g.R.Offset.ReaderOffset.number e.tag e.has_children e.attrs.items None
+    null c.if-not-self.false c.in-None.ensures

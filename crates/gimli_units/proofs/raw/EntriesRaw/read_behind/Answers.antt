@@ -8,6 +8,7 @@ use Rattle.gimli_units.proofs.raw.EntriesRaw.read_behind.Goals as goal
 pub go_behind_entry-requires : goal.go_behind_entry-requires
 go_behind_entry-requires g c =
     let same = ap (λ (v : View). length v.bytes) c.copy-rest.ensures in
-    let later = IsLater-length 0 _ _ (attributes_at-later _ _ _ _ _ _ c.in_ok-parse_attributes.ensures.value) in
+    let later = IsLater-length 0 _ _
+    (attributes_at-later _ _ _ _ _ _ c.in_ok-parse_attributes.ensures.value) in
     let left = ap (λ (p : RawPlace). length p.rest.bytes) c.self.view_is in
     omega (arith, same, left, later, c.requires.shorter)

@@ -8,12 +8,21 @@ returns-in_err-advance-clause-refused g c =
     let e = c.in_err-advance.field-0.0 in
     let was = c.in_err-advance.was in
     let sought = (c.advance.ensures.moved (λ k. let x = sym was ∙ k in absurd (cc))).1.sought in
-    rw r (c.advance.new.self.tree.now.cursor, sought.refused e was, ((λ honest. sought.place e was (λ f. honest)), (λ t leads deep. sought.refused_there e was t leads deep)))
+    rw r (
+      c.advance.new.self.tree.now.cursor,
+      sought.refused e was,
+      (
+        (λ honest. sought.place e was (λ f. honest)),
+        (λ t leads deep. sought.refused_there e was t leads deep),
+      ),
+    )
 
 pub returns-then-not-branch-clause-answers : goal.returns-then-not-branch-clause-answers
 returns-then-not-branch-clause-answers g c fits honest =
     let no : c.advance.result ≡ Ok false = search rules in
-    end_told g.R.Offset.ReaderOffset.limit c.args.self.now.tree.now c.advance.new.self.tree.now c.args.self.now.depth c.args.self.now.«open» (λ o. rw no at c.advance.ensures.gone_on o fits) honest
+    end_told g.R.Offset.ReaderOffset.limit c.args.self.now.tree.now c.advance.new.self.tree.now
+    c.args.self.now.depth c.args.self.now.«open»
+    (λ o. rw no at c.advance.ensures.gone_on o fits) honest
 
 pub returns-in_err-advance-clause-as_advance : goal.returns-in_err-advance-clause-as_advance
 returns-in_err-advance-clause-as_advance g c opened near =

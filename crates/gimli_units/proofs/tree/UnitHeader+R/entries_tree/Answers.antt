@@ -16,7 +16,8 @@ new-requires-clause-some g c =
       offset = n c.args.self.now.unit_offset.0;
       entries = g.R.Reader.view c.args.self.now.entries_buf;
     } in
-    (start_some unit c.args.abbreviations.now (option_map (λ o. n o.0) c.args.offset) c.in_ok-start.start c.args.self.now.entries_fit c.in_ok-start.ensures).0
+    (start_some unit c.args.abbreviations.now (option_map (λ o. n o.0) c.args.offset)
+    c.in_ok-start.start c.args.self.now.entries_fit c.in_ok-start.ensures).0
 
 pub new-requires-clause-depth : goal.new-requires-clause-depth
 new-requires-clause-depth g c =
@@ -30,4 +31,5 @@ new-requires-clause-depth g c =
       offset = n c.args.self.now.unit_offset.0;
       entries = g.R.Reader.view c.args.self.now.entries_buf;
     } in
-    (start_some unit c.args.abbreviations.now (option_map (λ o. n o.0) c.args.offset) c.in_ok-start.start c.args.self.now.entries_fit c.in_ok-start.ensures).1
+    (start_some unit c.args.abbreviations.now (option_map (λ o. n o.0) c.args.offset)
+    c.in_ok-start.start c.args.self.now.entries_fit c.in_ok-start.ensures).1

@@ -15,8 +15,14 @@ returns-clause-ahead g c =
     let is : place ≡ c.args.self.now = c.self.view_is in
     sym (ap (λ (p : ArangesPlace). aranges_of p.encoding.address_size p.rest) is)
     ∙ made_of-first z (some_bytes z c.self.invariant) (answer_to z) v
-    ∙ sym (ap (λ (u : View). option_to_list (first_of_tuples (answer_to z) z v).0 ++ aranges_of z u) c.next_range.ensures.left)
-    ∙ ap (λ (p : ArangesPlace). option_to_list (first_of_tuples (answer_to p.encoding.address_size) p.encoding.address_size p.rest).0 ++ aranges_of z rest) is
+    ∙ sym
+    (ap (λ (u : View). option_to_list (first_of_tuples (answer_to z) z v).0 ++ aranges_of z u)
+    c.next_range.ensures.left)
+    ∙ ap
+    (λ (p : ArangesPlace).
+    option_to_list
+    (first_of_tuples (answer_to p.encoding.address_size) p.encoding.address_size p.rest).0
+    ++ aranges_of z rest) is
 
 pub returns-clause-ended : goal.returns-clause-ended
 returns-clause-ended g c none =

@@ -15,8 +15,13 @@ returns-clause-ahead g c =
     let is : place ≡ c.args.self.now = c.self.view_is in
     sym (ap (λ (p : ArangesPlace). raw_entries p.encoding.address_size p.rest) is)
     ∙ made_of-first z (some_bytes z c.self.invariant) raw_entry v
-    ∙ sym (ap (λ (u : View). option_to_list (first_of_tuples raw_entry z v).0 ++ raw_entries z u) c.next_entry.ensures.left)
-    ∙ ap (λ (p : ArangesPlace). option_to_list (first_of_tuples raw_entry p.encoding.address_size p.rest).0 ++ raw_entries z rest) is
+    ∙ sym
+    (ap (λ (u : View). option_to_list (first_of_tuples raw_entry z v).0 ++ raw_entries z u)
+    c.next_entry.ensures.left)
+    ∙ ap
+    (λ (p : ArangesPlace).
+    option_to_list (first_of_tuples raw_entry p.encoding.address_size p.rest).0
+    ++ raw_entries z rest) is
 
 pub returns-clause-ended : goal.returns-clause-ended
 returns-clause-ended g c none =

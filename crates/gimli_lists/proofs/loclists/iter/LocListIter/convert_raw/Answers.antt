@@ -8,5 +8,6 @@ pub returns-in-DefaultLocation : goal.returns-in-DefaultLocation
 unfolding converted
 returns-in-DefaultLocation g c =
     let same = ap (λ (p : ListPlace). is_size p.raw.encoding.address_size) c.self.view_is in
-    let kept = zero-address c.args.self.now.raw.encoding.address_size (sym same ∙ c.self.invariant) in
+    let kept = zero-address c.args.self.now.raw.encoding.address_size
+    (sym same ∙ c.self.invariant) in
     rw (c.in-DefaultLocation.is, kept) refl

@@ -1,11 +1,15 @@
 -- The widths that declarations keep are those of the layouts of forms (DWARF 5, 7.5.6, table 7.6).
-use Rattle.std.specs.Prelude.{◌≡◌, ℕ, ◌==◌, Bool, true, false, if◌then◌else◌, List, [], ◌∷◌, map, Option, Some, None}
+use Rattle.std.specs.Prelude.{◌≡◌, ℕ, ◌==◌, Bool, true, false, if◌then◌else◌, List, [], ◌∷◌, map}
+use Rattle.std.specs.Prelude.{Option, Some, None}
 use Rattle.std.proofs.Common.{refl, ap, ◌∙◌}
 use Rattle.gimli_base.specs.declared.common.Encoding.{Encoding}
 use Rattle.gimli_base.specs.declared.width.Width.{Width}
-use Rattle.gimli_base.specs.declared.width.Width.TheVariants.{Fixed, Address, Word, Reference, Unknown}
+use Rattle.gimli_base.specs.declared.width.Width.TheVariants.{Fixed, Address, Word, Reference}
+use Rattle.gimli_base.specs.declared.width.Width.TheVariants.{Unknown}
 use Rattle.gimli_base.specs.Width.{widths, width_in, width_of, size_in, form_size}
-use Rattle.gimli_units.specs.Layout.{Layout, byte, number, section_or, address, uleb, sleb, offset, word_offset, reference, offset_leb, offset_leb_and, block, block_leb, text, nothing, constant, forms, found_in, layout_of}
+use Rattle.gimli_units.specs.Layout.{Layout, byte, number, section_or, address, uleb, sleb, offset}
+use Rattle.gimli_units.specs.Layout.{word_offset, reference, offset_leb, offset_leb_and, block}
+use Rattle.gimli_units.specs.Layout.{block_leb, text, nothing, constant, forms, found_in, layout_of}
 use Rattle.gimli_units.specs.Passing.{size_of, known_size}
 
 -- the width of a layout
@@ -50,20 +54,28 @@ size_as e (block n f) = refl
 size_as e (block_leb f) = refl
 size_as e (text f) = refl
 
-found_as : (form : ℕ) (rs : List (ℕ × Layout)) → width_in form (map (λ r. (r.0, width_as r.1)) rs) ≡ elim (found_in form rs) [ Some l ↦ width_as l | None ↦ Unknown ]
+found_as : (form : ℕ) (rs : List (ℕ × Layout))
+    → width_in form (map (λ r. (r.0, width_as r.1)) rs)
+    ≡ elim (found_in form rs) [ Some l ↦ width_as l | None ↦ Unknown ]
 found_as form [] = refl
 found_as form (r ∷ rs) = cases (form == r.0) (found_as form rs)
   where
-    cases : (t : Bool) → width_in form (map (λ r. (r.0, width_as r.1)) rs) ≡ elim (found_in form rs) [ Some l ↦ width_as l | None ↦ Unknown ]
-        → (if t then width_as r.1 else width_in form (map (λ r. (r.0, width_as r.1)) rs)) ≡ elim (if t then Some r.1 else found_in form rs) [ Some l ↦ width_as l | None ↦ Unknown ]
+    cases : (t : Bool) → width_in form (map (λ r. (r.0, width_as r.1)) rs)
+        ≡ elim (found_in form rs) [ Some l ↦ width_as l | None ↦ Unknown ]
+        → (if t then width_as r.1 else width_in form (map (λ r. (r.0, width_as r.1)) rs))
+        ≡ elim (if t then Some r.1 else found_in form rs) [ Some l ↦ width_as l | None ↦ Unknown ]
     cases true others = refl
     cases false others = others
 
 -- the size that a declaration keeps is that of the form's layout
 pub form_size-known : (e : Encoding) (form : ℕ) → form_size e form ≡ known_size e form
 unfolding width_of known_size layout_of
-form_size-known e form = ap (λ ws. size_in e (width_in form ws)) widths_as ∙ ap (λ w. size_in e w) (found_as form forms) ∙ cases (found_in form forms)
+form_size-known e form =
+    ap (λ ws. size_in e (width_in form ws)) widths_as ∙ ap (λ w. size_in e w) (found_as form forms)
+    ∙ cases (found_in form forms)
   where
-    cases : (o : Option Layout) → size_in e (elim o [ Some l ↦ width_as l | None ↦ Unknown ]) ≡ elim o [ Some l ↦ size_of e l | None ↦ None ]
+    cases : (o : Option Layout)
+        → size_in e (elim o [ Some l ↦ width_as l | None ↦ Unknown ])
+        ≡ elim o [ Some l ↦ size_of e l | None ↦ None ]
     cases (Some l) = size_as e l
     cases None = refl

@@ -1,4 +1,5 @@
--- The padding of a set of ranges of addresses is the least that puts its first tuple at a multiple of the size of a tuple (DWARF 5, 6.1.2).
+-- The padding of a set of ranges of addresses is the least that puts its first tuple at a multiple
+-- of the size of a tuple (DWARF 5, 6.1.2).
 use Rattle.std.specs.Prelude.{◌≡◌, ℕ, ◌+◌, ◌*◌, ◌%◌, ◌<◌, true, false}
 use Rattle.std.proofs.Common.{refl, arith, inl, inr}
 use Rattle.std.proofs.lemmas.Bool.Decides.{eqb_tells}
@@ -9,7 +10,8 @@ use Rattle.gimli_lists.specs.ArangeSets.{fields_size, padding_size}
 
 -- what is said of the padding
 abbrev Pads : Format → ℕ → Type 0
-Pads format size = ((fields_size format + padding_size format size) % (2 * size) ≡ 0) × (padding_size format size < 2 * size)
+Pads format size = ((fields_size format + padding_size format size) % (2 * size) ≡ 0)
+    × (padding_size format size < 2 * size)
 
 pads : (format : Format) (size : ℕ) → is_size size ≡ true → Pads format size
 pads format size h = elim (eqb_tells size 1) [
@@ -20,7 +22,9 @@ pads format size h = elim (eqb_tells size 1) [
       | inl four ↦ rw four.1 (by_format-4 format)
       | inr not_four ↦ elim (eqb_tells size 8) [
         | inl eight ↦ rw eight.1 (by_format-8 format)
-        | inr not_eight ↦ absurd (let none : false ≡ true = rw (not_one.0, not_two.0, not_four.0, not_eight.0) at h in cc)
+        | inr not_eight ↦ absurd
+            (let none : false ≡ true = rw (not_one.0, not_two.0, not_four.0, not_eight.0) at h in
+            cc)
       ]
     ]
   ]
@@ -43,9 +47,11 @@ pads format size h = elim (eqb_tells size 1) [
     by_format-8 Dwarf64 = (refl, omega arith)
 
 -- with the padding, the fields take a multiple of the size of a tuple
-pub padding-aligns : (format : Format) (size : ℕ) → is_size size ≡ true → (fields_size format + padding_size format size) % (2 * size) ≡ 0
+pub padding-aligns : (format : Format) (size : ℕ) → is_size size ≡ true
+    → (fields_size format + padding_size format size) % (2 * size) ≡ 0
 padding-aligns format size h = (pads format size h).0
 
 -- and no less would do: it is less than a tuple
-pub padding-least : (format : Format) (size : ℕ) → is_size size ≡ true → padding_size format size < 2 * size
+pub padding-least : (format : Format) (size : ℕ) → is_size size ≡ true
+    → padding_size format size < 2 * size
 padding-least format size h = (pads format size h).1

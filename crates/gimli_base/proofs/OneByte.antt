@@ -9,7 +9,9 @@ one_digit : (big : Bool) (x : ℕ) → number big (x ∷ []) ≡ x
 one_digit true x = omega arith
 one_digit false x = omega arith
 
-one_of : (big : Bool) (place : ℕ) (xs : List ℕ) → byte_at (record { big = big; place = place; bytes = xs }) ≡ uint_at 1 (record { big = big; place = place; bytes = xs })
+one_of : (big : Bool) (place : ℕ) (xs : List ℕ)
+    → byte_at (record { big = big; place = place; bytes = xs })
+    ≡ uint_at 1 (record { big = big; place = place; bytes = xs })
 unfolding byte_at uint_at bytes_at
 one_of big place [] = refl
 one_of big place (x ∷ xs) =
