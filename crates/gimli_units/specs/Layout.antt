@@ -22,19 +22,18 @@ use Rattle.gimli_units.specs.declared.value.AttributeValue.TheVariants.{DebugRng
 pub data Layout : Type 0 where
   byte : (ℕ → Value) → Layout  -- one byte
   number : ℕ → (ℕ → Value) → Layout  -- n bytes
-  section_or : ℕ → (ℕ → Value)
-      → Layout  -- n bytes; where the name is one of a section's and n is the format's width,
-      an offset
+  -- n bytes; where the name is one of a section's and n is the format's width, an offset
+  section_or : ℕ → (ℕ → Value) → Layout
   address : (ℕ → Value) → Layout  -- as many bytes as the unit's addresses have
   uleb : (ℕ → Value) → Layout  -- an unsigned LEB128 number
   sleb : (ℤ → Value) → Layout  -- a signed LEB128 number
   offset : ℕ → (ℕ → Value) → Layout  -- n bytes, an offset or index
   word_offset : (ℕ → Value) → Layout  -- as many bytes as the format's offsets have, an offset
-  reference : (ℕ → Value) → Layout  -- in
-      version 2 as many bytes as addresses have, else as word_offset
+  -- in version 2 as many bytes as addresses have, else as word_offset
+  reference : (ℕ → Value) → Layout
   offset_leb : (ℕ → Value) → Layout  -- an unsigned LEB128 number, an offset or index
-  offset_leb_and : ℕ → (ℕ → ℕ → Value) → Layout  -- an unsigned LEB128 number, an offset or index,
-      and then n bytes
+  -- an unsigned LEB128 number, an offset or index, and then n bytes
+  offset_leb_and : ℕ → (ℕ → ℕ → Value) → Layout
   block : ℕ → (View → Value) → Layout  -- a length of n bytes, and that many bytes
   block_leb : (View → Value) → Layout  -- a length in LEB128, and that many bytes
   text : (View → Value) → Layout  -- bytes up to a zero, which is passed too
