@@ -34,19 +34,20 @@ fn error_of(name: &str, carried: u64) -> Option<Error> {
 
 // The refusal with a name among those that carry a number.
 fn carrying(name: &str, carried: u64) -> Option<Error> {
+    let byte = carried.min(0xff) as u8;
     Some(match name {
         "UnexpectedEof" => Error::UnexpectedEof(ReaderOffsetId(carried)),
         "UnknownVersion" => Error::UnknownVersion(carried),
-        "UnknownUnitType" => Error::UnknownUnitType(DwUt(carried as u8)),
-        "UnsupportedAddressSize" => Error::UnsupportedAddressSize(carried as u8),
-        "UnsupportedSegmentSize" => Error::UnsupportedSegmentSize(carried as u8),
-        "UnsupportedOffsetSize" => Error::UnsupportedOffsetSize(carried as u8),
+        "UnknownUnitType" => Error::UnknownUnitType(DwUt(byte)),
+        "UnsupportedAddressSize" => Error::UnsupportedAddressSize(byte),
+        "UnsupportedSegmentSize" => Error::UnsupportedSegmentSize(byte),
+        "UnsupportedOffsetSize" => Error::UnsupportedOffsetSize(byte),
         "OffsetOutOfBounds" => Error::OffsetOutOfBounds(carried),
         "NoEntryAtGivenOffset" => Error::NoEntryAtGivenOffset(carried),
         "InvalidAbbreviationCode" => Error::InvalidAbbreviationCode(carried),
-        "UnknownForm" => Error::UnknownForm(DwForm(carried as u16)),
-        "UnknownRangeListsEntry" => Error::UnknownRangeListsEntry(DwRle(carried as u8)),
-        "UnknownLocListsEntry" => Error::UnknownLocListsEntry(DwLle(carried as u8)),
+        "UnknownForm" => Error::UnknownForm(DwForm(carried.min(0xffff) as u16)),
+        "UnknownRangeListsEntry" => Error::UnknownRangeListsEntry(DwRle(byte)),
+        "UnknownLocListsEntry" => Error::UnknownLocListsEntry(DwLle(byte)),
         _ => return None,
     })
 }
