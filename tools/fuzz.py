@@ -42,16 +42,15 @@ def check(holds, why):
 
 class Program:
     def __init__(self, path, megabytes, room):
-        self.path, self.bytes, self.room, self.runs = os.path.abspath(path), megabytes << 20, room, 0
-
-    def limits(self):
-        resource.setrlimit(resource.RLIMIT_AS, (self.bytes, self.bytes))
+        self.path, self.room, self.runs = os.path.abspath(path), room, 0
+        # (each run inherits this script's limit: to set one in each child costs more than the run itself)
+        resource.setrlimit(resource.RLIMIT_AS, (megabytes << 20, megabytes << 20))
 
     def lines(self, mode, *words):
         """Returns the lines that the program writes in a mode, once what holds of each run was seen."""
         self.runs += 1
         try:
-            ran = subprocess.run([self.path, mode, *words], capture_output=True, timeout=10, preexec_fn=self.limits, cwd=self.room)
+            ran = subprocess.run([self.path, mode, *words], capture_output=True, timeout=10, cwd=self.room, close_fds=False)
         except subprocess.TimeoutExpired:
             raise Broken(f"{mode} {words}: no end in 10 seconds")
         check(ran.returncode in (0, 1), f"{mode} {words}: status {ran.returncode}")
