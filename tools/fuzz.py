@@ -8,8 +8,8 @@ files `info` and `abbrev`, and `aranges` where there is one, which are cut, join
 from nothing: nested entries with sibling references of any value. Each run has a limit of memory (256 MB) and of time (10 s).
 
 What holds of every run:
-- it ends by itself, with a status from 0 to 3, and nothing but lines of its mode is written;
-- status 1 stands exactly where a line `error N` or `no unit` was written, N from 1 to 24, and 24 never with the memory at hand;
+- it ends by itself, with status 0 or 1, and nothing but lines of its mode is written;
+- status 1 stands exactly where a line `error N` or `no unit` was written, N from 1 to 23, as memory is at hand;
 - in `rows` and in each unit of `dump` offsets grow, and each depth follows from the row before by its flag, or its being a null;
 - the first unit of `dump` has the rows of `rows`;
 - where `check` says `honest`, `cursor` and `plain` write the same to the same steps;
