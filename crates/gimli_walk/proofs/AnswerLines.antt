@@ -29,11 +29,6 @@ take_front [] [] = refl
 take_front [] (y ∷ ys) = refl
 take_front (x ∷ xs) ys = ap (λ l. x ∷ l) (take_front xs ys)
 
--- the answers of a run, by what they stand for, are as many
-pub stops_by : {X Y : Type 0} → (f : X → Y) (items : List X) (stopped : Bool) (steps : ℕ)
-    → IsStopped stopped (length items) steps → IsStopped stopped (length (map f items)) steps
-stops_by f items stopped steps h = rw (length-map items f) h
-
 pub is_cut : (stopped : Bool) (count steps : ℕ) → IsStopped stopped count steps
     → IsCut stopped count steps
 is_cut true count steps h = inl h

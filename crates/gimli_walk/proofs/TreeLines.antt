@@ -1,66 +1,44 @@
 -- The lines of a run of a tree, as a text.
-use Rattle.std.proofs.Common.{◌≡◌, ℕ, Bool, true, false, List, [], ◌∷◌, Option, None, Result, Ok}
-use Rattle.std.proofs.Common.{Err, refl, sym, ap, ◌∙◌}
-use Rattle.std.specs.Prelude.{if◌then◌else◌, IfOk}
-use Rattle.std.specs.List.{list_any}
+use Rattle.std.proofs.Common.{◌≡◌, ℕ, ◌≤◌, Bool, true, false, List, [], length, Option, None, Result}
+use Rattle.std.proofs.Common.{Ok, Err, refl, sym, ap, map}
+use Rattle.std.specs.Prelude.{if◌then◌else◌}
+use Rattle.std.specs.List.{concat, list_any}
 use Rattle.std.specs.Io.KnownBytes.{Appends}
 use Rattle.gimli_base.specs.declared.error.Error.{Error}
 use Rattle.gimli_base.specs.Refusal.{number_of}
 use Rattle.gimli_base.specs.View.{View}
 use Rattle.gimli_base.specs.Abbreviations.{Map}
-use Rattle.gimli_units.specs.Unit.{UnitView}
-use Rattle.gimli_units.specs.TreePlace.{Told}
-use Rattle.gimli_walk.specs.declared.tree.TreeStep.{TreeStep}
-use Rattle.gimli_walk.specs.declared.tree.TreeAnswer.{TreeAnswer}
-use Rattle.gimli_walk.specs.declared.tree.TreeAnswer.TheVariants.{Node, End, Entered, Left, NoNode}
-use Rattle.gimli_walk.specs.declared.tree.TreeAnswer.TheVariants.{Fault}
-use Rattle.gimli_walk.specs.Lines.{error_line, WroteRun}
-use Rattle.gimli_walk.specs.Runs.{ToldRun, run_of, RunsAs}
+use Rattle.gimli_base.specs.Offset.{answer_of}
+use Rattle.gimli_base.specs.Table.{Table, found}
+use Rattle.gimli_units.specs.Unit.{UnitView, whole_length}
 use Rattle.gimli_units.specs.UnitRows.{IsHonestFrom}
+use Rattle.gimli_units.specs.TreePlace.{Told}
+use Rattle.gimli_units.specs.TreeMoves.{TreeView, tree_from}
+use Rattle.gimli_units.specs.TreeWalker.{at_none}
+use Rattle.gimli_walk.specs.declared.lines.Stop.TheVariants.{Memory}
+use Rattle.gimli_walk.specs.declared.tree.TreeStep.{TreeStep}
+use Rattle.gimli_walk.specs.Lines.{error_line, memory_line, WroteRun}
+use Rattle.gimli_walk.specs.Runs.{ToldRun, run_of, RunsAs}
+use Rattle.gimli_walk.specs.Cursors.{IsStopped}
+use Rattle.gimli_walk.specs.Sinks.{HasWrittenSteps}
 use Rattle.gimli_walk.specs.TrueTolds.{IsTreeRunFrom}
 use Rattle.gimli_walk.specs.TreeText.{WroteTrueTree, tree_lines}
-use Rattle.gimli_base.specs.Offset.{answer_of}
-use Rattle.gimli_walk.specs.Trees.{told_by, tolds_by, told_line, tolds_text, is_fault}
-use Rattle.gimli_walk.specs.Trees.{is_fault_answer, tree_view, tree_answers_at, run_tree_answers}
-use Rattle.gimli_walk.specs.Trees.{run_text_of}
+use Rattle.gimli_walk.specs.TreeTurns.{HasTreeRun}
+use Rattle.gimli_walk.specs.Trees.{told_line, tolds_text, is_fault, tree_view, tree_answers_at}
+use Rattle.gimli_walk.specs.Trees.{run_tree_answers, run_text_of}
 use Rattle.gimli_walk.specs.Text.{Wrote}
-use Rattle.gimli_walk.proofs.AnswerLines.{if_ok, run_wrote}
-use Rattle.gimli_walk.proofs.WrittenLines.{Wrote-only}
-
-fault_same : {R A O : Type 0} → (f : R → View) (g : O → ℕ) (a : TreeAnswer R A O)
-    → is_fault_answer a ≡ is_fault (told_by {A = A} f g a)
-fault_same f g (Node e) = refl
-fault_same f g End = refl
-fault_same f g Entered = refl
-fault_same f g Left = refl
-fault_same f g NoNode = refl
-fault_same f g (Fault e) = refl
-
-any_same : {R A O : Type 0} → (f : R → View) (g : O → ℕ) (xs : List (TreeAnswer R A O))
-    → list_any is_fault_answer xs ≡ list_any is_fault (tolds_by {A = A} f g xs)
-any_same f g [] = refl
-any_same {A = A} f g (x ∷ xs) = cases (is_fault_answer x) refl (any_same {A = A} f g xs)
-  where
-    cases : (b : Bool) → is_fault_answer x ≡ b
-        → list_any is_fault_answer xs ≡ list_any is_fault (tolds_by {A = A} f g xs)
-        → list_any is_fault_answer (x ∷ xs) ≡ list_any is_fault (tolds_by {A = A} f g (x ∷ xs))
-    cases true h more = rw (h, sym (fault_same {A = A} f g x) ∙ h) refl
-    cases false h more = rw (h, sym (fault_same {A = A} f g x) ∙ h) more
-
--- the status of answers, by whether one of the code's is a refusal
-pub fault_status : {R A O : Type 0}
-    → (f : R → View) (g : O → ℕ) (items : List (TreeAnswer R A O)) (b : Bool)
-    → b ≡ list_any is_fault_answer items
-    → (if b then 1 else 0) ≡ (tolds_text (tolds_by {A = A} f g items)).status
-fault_status {A = A} f g items b is = rw (← any_same {A = A} f g items, ← is) refl
+use Rattle.gimli_walk.proofs.AnswerLines.{run_wrote}
+use Rattle.gimli_walk.proofs.TreeTurned.{tree_run_from}
+use Rattle.gimli_walk.proofs.WrittenLines.{Appends-trans, Wrote-only}
 
 module _ (limit : ℕ) (u : UnitView) (declared : Map) (steps : List TreeStep)
     (old new : Option (List ℕ)) where
-  run_text : (xs : List Told) (stopped : Bool) (status : ℕ)
+  -- the lines of a run are those of the definition, where its answers are
+  tree_run_text : (xs : List Told) (stopped : Bool) (status : ℕ)
       → RunsAs (Ok (run_of xs stopped)) (run_tree_answers limit u declared None steps)
       → WroteRun old new (tolds_text xs) stopped status
       → Wrote old new (run_text_of (run_tree_answers limit u declared None steps)) status
-  run_text xs stopped status runs h = cases (tree_view u None) refl
+  tree_run_text xs stopped status runs h = cases (tree_view u None) refl
     where
       cases : (r : Result View Error) → tree_view u None ≡ r
           → Wrote old new (run_text_of (run_tree_answers limit u declared None steps)) status
@@ -70,19 +48,6 @@ module _ (limit : ℕ) (u : UnitView) (declared : Map) (steps : List TreeStep)
           (run_wrote told_line (λ all. if list_any is_fault all then 1 else 0) old new xs
           (tree_answers_at limit u declared steps v) stopped status r h)
       cases (Err e) is = absurd (rw is at runs)
-
-  -- the same, by the code's answers
-  pub tree_run_lines : {R A O E : Type 0}
-      → (f : R → View) (g : O → ℕ) (items : List (TreeAnswer R A O)) (stopped : Bool)
-      (r : Result ℕ E)
-      → RunsAs (Ok (run_of (tolds_by {A = A} f g items) stopped))
-      (run_tree_answers limit u declared None steps)
-      → IfOk r (λ status. WroteRun old new (tolds_text (tolds_by {A = A} f g items)) stopped status)
-      → IfOk r
-      (λ status. Wrote old new (run_text_of (run_tree_answers limit u declared None steps))
-      status)
-  tree_run_lines {A = A} f g items stopped r runs h =
-      if_ok r (λ status w. run_text (tolds_by {A = A} f g items) stopped status runs w) h
 
   -- a start that is refused is the text
   pub no_tree_line : (e : Error) → tree_view u None ≡ Err e
@@ -126,3 +91,63 @@ module _ (limit : ℕ) (u : UnitView) (declared : Map) (steps : List TreeStep) w
       cases : (r : Result View Error) → IsTreeRunFrom limit u declared steps r (Err e) → r ≡ Err e
       cases (Ok v) h = absurd h
       cases (Err x) h = ap Err (sym h)
+
+module _ (limit : ℕ) (u : UnitView) (t : Table) (steps : List TreeStep)
+    (old new : Option (List ℕ)) where
+  -- what a run told
+  told_from : (tree : TreeView) (stopped : Bool) (all : List Told)
+      → length u.entries.bytes ≤ whole_length u → Ok tree ≡ tree_from u t None
+      → HasTreeRun limit (at_none tree []) steps all → IsStopped stopped (length all) (length steps)
+      → IsTreeRunFrom limit u (found t) steps (tree_view u None) (Ok (run_of all stopped))
+  told_from tree stopped all fits begins runs count =
+      tree_run_from limit u t None steps all stopped (length all) tree fits begins runs refl count
+
+  module _ (tree : TreeView) (fits : length u.entries.bytes ≤ whole_length u)
+      (begins : Ok tree ≡ tree_from u t None) where
+    -- all lines of a run
+    pub tree_told_text : (status : ℕ)
+        → HasWrittenSteps (HasTreeRun limit (at_none tree []) steps) tolds_text old new
+        (length steps) (Ok status)
+        → IsHonestFrom limit u (found t) (tree_view u None)
+        → Wrote old new (run_text_of (run_tree_answers limit u (found t) None steps)) status
+    tree_told_text status told honest =
+        let from = told_from tree false told.all fits begins told.runs told.count in
+        tree_run_text limit u (found t) steps old new told.all false status
+        (tree_run_as_said limit u (found t) steps (run_of told.all false) from honest)
+        told.are_told
+
+    pub tree_told_true : (status : ℕ)
+        → HasWrittenSteps (HasTreeRun limit (at_none tree []) steps) tolds_text old new
+        (length steps) (Ok status)
+        → WroteTrueTree limit u (found t) steps old new status
+    tree_told_true status told =
+        let from = told_from tree false told.all fits begins told.runs told.count in
+        tree_true_lines limit u (found t) steps old new (run_of told.all false) status from
+        told.are_told
+
+    -- the lines of a run that was stopped, and then the line that says so
+    pub tree_stopped_text : (mid : Option (List ℕ))
+        → HasWrittenSteps (HasTreeRun limit (at_none tree []) steps) tolds_text old mid
+        (length steps) (Err Memory)
+        → Appends mid new memory_line → IsHonestFrom limit u (found t) (tree_view u None)
+        → Wrote old new (run_text_of (run_tree_answers limit u (found t) None steps)) 1
+    tree_stopped_text mid told h honest =
+        let from = told_from tree true told.all fits begins told.runs told.count in
+        tree_run_text limit u (found t) steps old new told.all true 1
+        (tree_run_as_said limit u (found t) steps (run_of told.all true) from honest)
+        (
+          Appends-trans old mid new (concat (map told_line told.all)) memory_line told.are_told h,
+          refl,
+        )
+
+    pub tree_stopped_true : (mid : Option (List ℕ))
+        → HasWrittenSteps (HasTreeRun limit (at_none tree []) steps) tolds_text old mid
+        (length steps) (Err Memory)
+        → Appends mid new memory_line → WroteTrueTree limit u (found t) steps old new 1
+    tree_stopped_true mid told h =
+        let from = told_from tree true told.all fits begins told.runs told.count in
+        tree_true_lines limit u (found t) steps old new (run_of told.all true) 1 from
+        (
+          Appends-trans old mid new (concat (map told_line told.all)) memory_line told.are_told h,
+          refl,
+        )

@@ -1,14 +1,16 @@
 -- What a step does to a tree, whatever the references, and the answers that come of it.
-use Rattle.std.specs.Prelude.{◌≡◌, ℕ, ◌+◌, ◌<◌, ◌≤◌, ℤ, Bool, true, false, List, [], ◌∷◌, ◌++◌}
-use Rattle.std.specs.Prelude.{length, drop, Option, Result, Ok, Err}
+use Rattle.std.specs.Prelude.{◌≡◌, ℕ, ℤ, Bool, true, false, List, [], ◌∷◌, Option, Result, Ok, Err}
 use Rattle.gimli_base.specs.declared.error.Error.{Error}
 use Rattle.gimli_base.specs.declared.error.Error.TheVariants.{OutOfMemory}
 use Rattle.gimli_units.specs.TreePlace.{Lists, Told, a_node, list_end, has_entered, has_left}
-use Rattle.gimli_units.specs.TreePlace.{no_node, children_of}
+use Rattle.gimli_units.specs.TreePlace.{no_node, a_fault, children_of}
 use Rattle.gimli_units.specs.TreeMoves.{TreeView, node_at, HasBegun}
 use Rattle.gimli_units.specs.TreeWalker.{Standing, at_none, told_begun, after_begun, WasAsked}
 use Rattle.gimli_units.specs.TreeWalker.{told_asked, after_asked}
 use Rattle.gimli_walk.specs.declared.tree.TreeStep.{TreeStep}
+use Rattle.gimli_walk.specs.declared.tree.Word.{Word}
+use Rattle.gimli_walk.specs.declared.tree.Word.TheVariants.{End, Entered, Left as LeftWord}
+use Rattle.gimli_walk.specs.declared.tree.Word.TheVariants.{NoNode, Fault}
 use Rattle.gimli_walk.specs.declared.tree.TreeStep.TheVariants.{Root, Next, Enter, Leave}
 
 -- the root was asked for
@@ -48,10 +50,18 @@ HasTurned limit Leave old told new = elim old.lists [
   | list ∷ outer ↦ (told ≡ has_left) × (new ≡ at_none old.tree outer)
 ]
 
--- a step was made, and its answer was added
-abbrev pub HasToldTurn : ℕ → TreeStep → Standing → List Told → Standing → List Told → Type 0
-HasToldTurn limit step old before new after =
-    (a : Told) × HasTurned limit step old a new × (after ≡ before ++ a ∷ [])
+-- a step was made, and its answer was told
+abbrev pub HasToldTurn : ℕ → TreeStep → Standing → Standing → (List Told → Type 0) → Type 0
+HasToldTurn limit step old new IsTold =
+    (a : Told) × HasTurned limit step old a new × IsTold (a ∷ [])
+
+-- an answer that is no node
+abbrev pub told_of_word : Word → Told
+told_of_word End = list_end
+told_of_word Entered = has_entered
+told_of_word LeftWord = has_left
+told_of_word NoNode = no_node
+told_of_word (Fault e) = a_fault e
 
 -- where a walker stands on a node, that is the answer
 abbrev pub told_standing : Standing → Told
@@ -63,18 +73,3 @@ HasTreeRun limit s steps [] = Unit {0}
 HasTreeRun limit s [] (a ∷ rest) = ⊥
 HasTreeRun limit s (step ∷ steps) (a ∷ rest) =
     (new : Standing) × HasTurned limit step s a new × HasTreeRun limit new steps rest
-
--- A part of a run, from step `from` on: the answers that it adds are the next ones; and where it
--- ends, at the step that it answers, what is answered from there on completes them. It is refused
--- where memory is.
-pub record HasWalked (limit : ℕ) (start : Standing) (steps : List TreeStep) (from : ℕ)
-    (old : List Told) (outcome : Result ℕ Error) (stop : Standing) (new : List Told) : Type 0 where
-  pub added : List Told
-  pub is : new ≡ old ++ added
-  pub front : HasTreeRun limit start (drop from steps) added
-  pub fewer : length added + from ≤ length steps
-  pub refused : (e : Error) → outcome ≡ Err e → length added + from < length steps
-  pub count : (end : ℕ) → outcome ≡ Ok end → end ≡ length added + from
-  pub completes : (end : ℕ) → outcome ≡ Ok end → (rest : List Told)
-      → HasTreeRun limit stop (drop end steps) rest
-      → HasTreeRun limit start (drop from steps) (added ++ rest)

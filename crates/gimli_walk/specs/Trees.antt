@@ -80,10 +80,6 @@ told_line has_left = codes "left\n"
 told_line no_node = codes "nonode\n"
 told_line (a_fault e) = error_line (number_of e)
 
-abbrev pub is_fault_answer : {R A O : Type 0} → TreeAnswer R A O → Bool
-is_fault_answer (Fault e) = true
-is_fault_answer answer = false
-
 abbrev pub is_fault : Told → Bool
 is_fault (a_fault e) = true
 is_fault told = false

@@ -1,7 +1,11 @@
 //! A dump of all units of a section, as text.
 
-ghost use Rattle.std.specs.Prelude.{◌≡◌, ◌^◌, IfOk, Err, false};
+ghost use Rattle.std.specs.Prelude.{◌≡◌, ◌^◌, IfOk, IfSome, Ok, Err, false};
 ghost use Rattle.gimli_base.specs.declared.common.SectionId.TheVariants.{DebugInfo as InfoSection};
+ghost use Rattle.gimli_base.specs.Abbreviations.{map_at};
+ghost use Rattle.gimli_base.specs.Offset.{answer_of};
+ghost use Rattle.gimli_base.specs.Reading.{UnlessMemory};
+ghost use Rattle.gimli_base.specs.Table.{found};
 ghost use Rattle.gimli_units.specs.UnitHeld.{unit_view};
 ghost use Rattle.gimli_units.specs.UnitKind.{map_type};
 ghost use Rattle.gimli_headers.specs.Units.{units_of};
@@ -13,11 +17,15 @@ ghost use Rattle.gimli_walk.specs.Dump.{dump_of};
 
 use crate::lines::{Stop, WriteFault, write_error, write_unit_line};
 use crate::rows::{end_lines, write_rows};
-use gimli_base::{DebugAbbrev, EndianSlice, Error, LittleEndian, Reader, ReaderOffset, Section};
+use gimli_base::{
+    Abbreviations, DebugAbbrev, EndianSlice, Error, LittleEndian, Reader, ReaderOffset, Result,
+    Section,
+};
 use gimli_headers::DebugInfo;
 use gimli_units::{UnitHeader, UnitType};
 use std::alloc::Allocator;
 use std::io::Write;
+use std::result::Result as StdResult;
 
 /// Writes each unit of `.debug_info`, and its rows, and answers the exit status: 1 where a refusal
 /// was met, else 0. The sections are little endian.
@@ -30,7 +38,7 @@ pub fn dump_text<A: Allocator + Copy, W: Write>(
     info: &[u8],
     abbreviations: &[u8],
     out: &mut W,
-) -> Result<u8, WriteFault>
+) -> StdResult<u8, WriteFault>
     ensures text { let text = dump_of info.now abbreviations.now in
         IfOk result (λ status. Wrote (W.contents out.old) (W.contents out.new) text status) }
     ensures without_memory { let text = dump_of info.now abbreviations.now in
@@ -49,7 +57,7 @@ fn dump_units<R: Reader, A: Allocator + Copy, W: Write>(
     debug_info: &DebugInfo<R>,
     debug_abbrev: &DebugAbbrev<R>,
     out: &mut W,
-) -> Result<u8, Stop>
+) -> StdResult<u8, Stop>
     ensures text { let info = ⟦<DebugInfo<R> as Section<R>>⟧.content debug_info.now in
         let declarations = ⟦<DebugAbbrev<R> as Section<R>>⟧.content debug_abbrev.now in
         let text = units_dump R.Offset.limit declarations
@@ -59,11 +67,12 @@ fn dump_units<R: Reader, A: Allocator + Copy, W: Write>(
         has_unit R.Offset.limit info ≡ false → result ≡ Err Memory → ⊥ }
 {
     let mut units = debug_info.units();
+    let mut held = None;
     let mut status = 0;
     'units: loop {
         match units.next() {
             Ok(Some(unit)) => {
-                let next = dump_unit(alloc, &unit, debug_abbrev, out)?;
+                let next = dump_unit(alloc, &unit, debug_abbrev, &mut held, out)?;
                 status = status.max(next);
             }
             Ok(None) => return Ok(status),
@@ -75,22 +84,64 @@ fn dump_units<R: Reader, A: Allocator + Copy, W: Write>(
     }
 }
 
-// Writes a unit, and answers the status of its text.
+// A table of abbreviations, and where it begins in its section.
+#[derive(Drop)]
+struct Held<A: Allocator> {
+    offset: u64,
+    table: Abbreviations<A>,
+}
+
+// The table of a unit: that of the unit before, where it begins at the same offset, or else it is
+// read. Refusals: those of `UnitHeader::abbreviations`.
+fn table_of<R: Reader, A: Allocator + Copy>(
+    alloc: A,
+    unit: &UnitHeader<R>,
+    debug_abbrev: &DebugAbbrev<R>,
+    before: Option<Held<A>>,
+) -> Result<Held<A>>
+    requires before { let declarations = ⟦<DebugAbbrev<R> as Section<R>>⟧.content debug_abbrev.now in
+        IfSome before (λ h. Ok (found h.table) ≡ map_at h.offset declarations) }
+    ensures table { let declarations = ⟦<DebugAbbrev<R> as Section<R>>⟧.content debug_abbrev.now in
+        UnlessMemory result (answer_of (λ h. found h.table) result
+        ≡ map_at (unit_view unit.now).abbreviations declarations) }
+    ensures offset { IfOk result (λ h. h.offset ≡ (unit_view unit.now).abbreviations) }
+{
+    let offset = unit.debug_abbrev_offset().0.into_u64();
+    if let Some(held) = before {
+        if held.offset == offset {
+            return Ok(held);
+        }
+    }
+    let table = unit.abbreviations(alloc, debug_abbrev)?;
+    Ok(Held { offset, table })
+}
+
+// Writes a unit, and answers the status of its text. The table of the unit before is held, and
+// then that of this unit, or none where it is refused.
 fn dump_unit<R: Reader, A: Allocator + Copy, W: Write>(
     alloc: A,
     unit: &UnitHeader<R>,
     debug_abbrev: &DebugAbbrev<R>,
+    held: &mut Option<Held<A>>,
     out: &mut W,
-) -> Result<u8, Stop>
-    ensures { let declarations = ⟦<DebugAbbrev<R> as Section<R>>⟧.content debug_abbrev.now in
+) -> StdResult<u8, Stop>
+    requires held { let declarations = ⟦<DebugAbbrev<R> as Section<R>>⟧.content debug_abbrev.now in
+        IfSome held.old (λ h. Ok (found h.table) ≡ map_at h.offset declarations) }
+    ensures held { let declarations = ⟦<DebugAbbrev<R> as Section<R>>⟧.content debug_abbrev.now in
+        IfSome held.new (λ h. Ok (found h.table) ≡ map_at h.offset declarations) }
+    ensures text { let declarations = ⟦<DebugAbbrev<R> as Section<R>>⟧.content debug_abbrev.now in
         let text = unit_dump R.Offset.limit declarations (unit_view unit.now) in
         WroteUntil (W.contents out.old) (W.contents out.new) text result }
 {
     let offset = unit.offset().0.into_u64();
     let type_number = number_of(unit.type_());
     write_unit_line(out, offset, unit.version(), type_number)?;
-    match unit.abbreviations(alloc, debug_abbrev) {
-        Ok(abbreviations) => write_rows(alloc, unit, &abbreviations, out),
+    match table_of(alloc, unit, debug_abbrev, held.take()) {
+        Ok(of_unit) => {
+            let written = write_rows(alloc, unit, &of_unit.table, out);
+            *held = Some(of_unit);
+            written
+        }
         Err(Error::OutOfMemory) => Err(Stop::Memory),
         Err(error) => {
             write_error(out, error)?;

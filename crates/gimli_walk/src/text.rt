@@ -9,12 +9,12 @@ ghost use Rattle.gimli_walk.specs.Text.{IsHonestMode, IsHonestDeclared, IsHonest
 ghost use Rattle.gimli_walk.specs.Text.{WroteTrueMode, WroteTrueDeclared, WroteTrueWalk};
 ghost use Rattle.gimli_units.specs.UnitHeld.{unit_view};
 
+use crate::Mode;
 use crate::answers::write_steps;
 use crate::check::write_check;
 use crate::lines::{WriteFault, write_error, write_no_unit};
 use crate::rows::{end_lines, write_rows};
-use crate::tree_lines::write_tree_run;
-use crate::{Mode, run_tree};
+use crate::tree_lines::write_tree_steps;
 use gimli_base::{Abbreviations, DebugAbbrev, EndianSlice, LittleEndian, Reader, Section};
 use gimli_headers::DebugInfo;
 use gimli_units::UnitHeader;
@@ -152,12 +152,6 @@ fn walk_declared<R: Reader, A: Allocator + Copy, W: Write>(
         }
         Mode::Cursor(steps) => write_steps(alloc, unit, abbreviations, true, steps, out),
         Mode::Plain(steps) => write_steps(alloc, unit, abbreviations, false, steps, out),
-        Mode::Tree(steps) => match run_tree(alloc, unit, abbreviations, None, steps) {
-            Ok(run) => write_tree_run(out, &run),
-            Err(error) => {
-                write_error(out, error)?;
-                Ok(1)
-            }
-        },
+        Mode::Tree(steps) => write_tree_steps(alloc, unit, abbreviations, steps, out),
     }
 }

@@ -1,26 +1,29 @@
 //! Runs of a tree over a list of steps.
 
-ghost use Rattle.std.specs.Prelude.{◌≡◌, Option, ◌+◌, ◌<◌, ◌≤◌, ◌^◌, unsigned_abs, true, false};
-ghost use Rattle.std.specs.Prelude.{length, drop, [], ◌∷◌, ◌++◌, IfOk, OnErr, MatchOption, Ok, Err};
-ghost use Rattle.std.specs.Prelude.{Some, None};
+ghost use Rattle.std.specs.Prelude.{◌≡◌, Option, true, false, length, [], ◌∷◌, OnOk, Ok, Err};
 ghost use Rattle.std.specs.Option.{option_map};
 ghost use Rattle.gimli_base.specs.declared.error.Error.TheVariants.{OutOfMemory};
 ghost use Rattle.gimli_base.specs.Offset.{answer_of};
 ghost use Rattle.gimli_base.specs.Table.{found};
-ghost use Rattle.gimli_units.specs.Entry.{entry_of, is_null};
-ghost use Rattle.gimli_units.specs.TreePlace.{a_node, a_fault};
+ghost use Rattle.gimli_units.specs.TreePlace.{a_fault};
+ghost use Rattle.gimli_walk.specs.declared.lines.Stop.TheVariants.{Memory, Write as WriteStop};
 ghost use Rattle.gimli_walk.specs.declared.tree.TreeStep.TheVariants.{Root, Next, Enter, Leave};
 ghost use Rattle.gimli_walk.specs.Cursors.{IsStopped};
 ghost use Rattle.gimli_walk.specs.Runs.{told_run};
+ghost use Rattle.gimli_walk.specs.Sinks.{HasCollected, HasToldSteps};
+ghost use Rattle.gimli_walk.specs.SinkLaws.{collected_none, collected_more};
 ghost use Rattle.gimli_walk.specs.Trees.{told_by, tolds_by, tree_view};
 ghost use Rattle.gimli_walk.specs.TrueTolds.{IsTreeRunFrom};
-ghost use Rattle.gimli_walk.specs.TreeTurns.{told_standing, HasToldTurn, HasTreeRun, HasWalked};
+ghost use Rattle.gimli_walk.specs.TreeTurns.{told_of_word, told_standing, HasToldTurn, HasTreeRun};
 ghost use Rattle.gimli_units.specs.UnitHeld.{unit_view};
 
 use crate::Run;
+use crate::lines::Stop;
+use crate::sink::TreeSink;
 use gimli_base::{Abbreviations, Error, Reader, Result};
 use gimli_units::{DebuggingInformationEntry, EntriesTreeWalker, UnitHeader, UnitOffset};
 use std::alloc::Allocator;
+use std::result::Result as StdResult;
 
 /// A step of a walk over a tree.
 #[derive(Clone, Copy, Debug, PartialEq, Eq)]
@@ -53,52 +56,19 @@ pub enum TreeAnswer<R, A: Allocator, Offset = <R as Reader>::Offset> {
     Fault(Error),
 }
 
-// The step at a place of the list, if there is one.
-fn step_at(steps: &[TreeStep], at: usize) -> Option<TreeStep>
-    ensures { MatchOption result ((length steps.now ≤ at) × (drop at steps.now ≡ []))
-        (λ s. (at < length steps.now) × (drop at steps.now ≡ s ∷ drop (at + 1) steps.now)) }
-{
-    if at < steps.len() {
-        Some(steps[at])
-    } else {
-        None
-    }
-}
-
-// Adds an answer. Refusal: `OutOfMemory`.
-fn tell<R: Reader, A: Allocator>(
-    answers: &mut Vec<TreeAnswer<R, A>, A>,
-    answer: TreeAnswer<R, A>,
-) -> Result<()>
-    ensures told { IfOk result
-        (λ _. tolds_by R.view R.Offset.number answers.new.items
-        ≡ tolds_by R.view R.Offset.number answers.old.items ++ told_by R.view R.Offset.number answer
-        ∷ []) }
-    ensures kept { OnErr result (answers.new.items ≡ answers.old.items) }
-{
-    answers.push(answer)?;
-    Ok(())
-}
-
-// Adds a node, by a copy of its entry. Refusal: `OutOfMemory`.
-fn tell_node<R: Reader, A: Allocator + Copy>(
-    alloc: A,
-    entry: &DebuggingInformationEntry<R, A>,
-    answers: &mut Vec<TreeAnswer<R, A>, A>,
-) -> Result<()>
-    ensures told { IfOk result
-        (λ _. tolds_by R.view R.Offset.number answers.new.items
-        ≡ tolds_by R.view R.Offset.number answers.old.items
-        ++ a_node
-        (record {
-          entry = entry_of R.view R.Offset.number entry.now;
-          offset = R.Offset.number entry.now.offset.0;
-          depth = entry.now.depth;
-        }) ∷ []) }
-    ensures kept { OnErr result (answers.new.items ≡ answers.old.items) }
-{
-    let copy = entry.try_clone(alloc)?;
-    tell(answers, TreeAnswer::Node(copy))
+/// An answer that is no node.
+#[derive(Clone, Copy)]
+pub(crate) enum Word {
+    /// The list is at its end.
+    End,
+    /// The node's list is open.
+    Entered,
+    /// The innermost list is closed.
+    Left,
+    /// There is no node to enter, or no list to ask or to leave.
+    NoNode,
+    /// What stands next was refused.
+    Fault(Error),
 }
 
 // Whether a refusal is that of memory.
@@ -108,149 +78,215 @@ fn is_memory(error: Error) -> bool
     matches!(error, Error::OutOfMemory)
 }
 
-// Adds what was refused. Refusal: `OutOfMemory`, also where that is what was refused.
-fn tell_fault<R: Reader, A: Allocator>(
-    answers: &mut Vec<TreeAnswer<R, A>, A>,
+// Tells what was refused, unless that is memory.
+fn tell_fault<R: Reader, A: Allocator, S: TreeSink<R, A>>(
     error: Error,
-) -> Result<()>
-    ensures told { IfOk result
-        (λ _. tolds_by R.view R.Offset.number answers.new.items
-        ≡ tolds_by R.view R.Offset.number answers.old.items ++ a_fault error ∷ []) }
-    ensures fine { IfOk result (λ _. error ≡ OutOfMemory → ⊥) }
-    ensures kept { OnErr result (answers.new.items ≡ answers.old.items) }
+    sink: &mut S,
+) -> StdResult<(), Stop>
+    ensures told { OnOk result (S.has_told sink.old (a_fault error ∷ []) sink.new) }
+    ensures fine { OnOk result (error ≡ OutOfMemory → ⊥) }
+    ensures kept { result ≡ Err Memory → S.has_told sink.old [] sink.new }
+    ensures fault { result ≡ Err WriteStop → S.writes ≡ true }
 {
     if is_memory(error) {
-        return Err(Error::OutOfMemory);
+        return Err(Stop::Memory);
     }
-    tell(answers, TreeAnswer::Fault(error))
+    sink.tell(Word::Fault(error))
 }
 
-// Adds the node that a walker stands on, or the end of a list where it stands on none. Refusal:
-// `OutOfMemory`.
-fn tell_found<R: Reader, A: Allocator + Copy>(
-    alloc: A,
+// Tells the node that a walker stands on, or the end of a list where it stands on none.
+fn tell_found<R: Reader, A: Allocator, S: TreeSink<R, A>>(
     walker: &EntriesTreeWalker<'_, R, A>,
-    answers: &mut Vec<TreeAnswer<R, A>, A>,
-) -> Result<()>
-    ensures told { IfOk result (λ _. tolds_by R.view R.Offset.number answers.new.items
-        ≡ tolds_by R.view R.Offset.number answers.old.items ++ told_standing walker.now ∷ []) }
-    ensures kept { OnErr result (answers.new.items ≡ answers.old.items) }
+    sink: &mut S,
+) -> StdResult<(), Stop>
+    ensures told { OnOk result (S.has_told sink.old (told_standing walker.now ∷ []) sink.new) }
+    ensures kept { result ≡ Err Memory → S.has_told sink.old [] sink.new }
+    ensures fault { result ≡ Err WriteStop → S.writes ≡ true }
 {
     match walker.entry() {
-        Some(entry) => tell_node(alloc, entry, answers),
-        None => tell(answers, TreeAnswer::End),
+        Some(entry) => sink.tell_node(entry),
+        None => sink.tell(Word::End),
     }
 }
 
-// The step to the root, which drops all lists. Refusal: `OutOfMemory`.
-fn turn_root<R: Reader, A: Allocator + Copy>(
-    alloc: A,
+// The step to the root, which drops all lists.
+fn turn_root<R: Reader, A: Allocator, S: TreeSink<R, A>>(
     walker: &mut EntriesTreeWalker<'_, R, A>,
-    answers: &mut Vec<TreeAnswer<R, A>, A>,
-) -> Result<()>
-    ensures turned { IfOk result (λ _. HasToldTurn R.Offset.limit Root
-        walker.old (tolds_by R.view R.Offset.number answers.old.items)
-        walker.new (tolds_by R.view R.Offset.number answers.new.items)) }
-    ensures kept { OnErr result (answers.new.items ≡ answers.old.items) }
+    sink: &mut S,
+) -> StdResult<(), Stop>
+    ensures turned { OnOk result
+        (HasToldTurn R.Offset.limit Root walker.old walker.new
+        (λ told. S.has_told sink.old told sink.new)) }
+    ensures kept { result ≡ Err Memory → S.has_told sink.old [] sink.new }
+    ensures fault { result ≡ Err WriteStop → S.writes ≡ true }
 {
     match walker.root() {
-        Ok(()) => tell_found(alloc, walker, answers),
-        Err(error) => tell_fault(answers, error),
+        Ok(()) => tell_found(walker, sink),
+        Err(error) => tell_fault::<R, A, S>(error, sink),
     }
 }
 
-// The step to the next node of the innermost list, if there is one. Refusal: `OutOfMemory`.
-fn turn_next<R: Reader, A: Allocator + Copy>(
-    alloc: A,
+// The step to the next node of the innermost list, if there is one.
+fn turn_next<R: Reader, A: Allocator, S: TreeSink<R, A>>(
     walker: &mut EntriesTreeWalker<'_, R, A>,
-    answers: &mut Vec<TreeAnswer<R, A>, A>,
-) -> Result<()>
-    ensures turned { IfOk result (λ _. HasToldTurn R.Offset.limit Next
-        walker.old (tolds_by R.view R.Offset.number answers.old.items)
-        walker.new (tolds_by R.view R.Offset.number answers.new.items)) }
-    ensures kept { OnErr result (answers.new.items ≡ answers.old.items) }
+    sink: &mut S,
+) -> StdResult<(), Stop>
+    ensures turned { OnOk result
+        (HasToldTurn R.Offset.limit Next walker.old walker.new
+        (λ told. S.has_told sink.old told sink.new)) }
+    ensures kept { result ≡ Err Memory → S.has_told sink.old [] sink.new }
+    ensures fault { result ≡ Err WriteStop → S.writes ≡ true }
 {
     if walker.entered() == 0 {
-        return tell(answers, TreeAnswer::NoNode);
+        return sink.tell(Word::NoNode);
     }
     match walker.next() {
-        Ok(_) => tell_found(alloc, walker, answers),
-        Err(error) => tell_fault(answers, error),
+        Ok(_) => tell_found(walker, sink),
+        Err(error) => tell_fault::<R, A, S>(error, sink),
     }
 }
 
-// The step into the list of the node, if there is one. Refusal: `OutOfMemory`.
-fn turn_enter<R: Reader, A: Allocator>(
+// The step into the list of the node, if there is one.
+fn turn_enter<R: Reader, A: Allocator, S: TreeSink<R, A>>(
     walker: &mut EntriesTreeWalker<'_, R, A>,
-    answers: &mut Vec<TreeAnswer<R, A>, A>,
-) -> Result<()>
-    ensures turned { IfOk result (λ _. HasToldTurn R.Offset.limit Enter
-        walker.old (tolds_by R.view R.Offset.number answers.old.items)
-        walker.new (tolds_by R.view R.Offset.number answers.new.items)) }
-    ensures kept { OnErr result (answers.new.items ≡ answers.old.items) }
+    sink: &mut S,
+) -> StdResult<(), Stop>
+    ensures turned { OnOk result
+        (HasToldTurn R.Offset.limit Enter walker.old walker.new
+        (λ told. S.has_told sink.old told sink.new)) }
+    ensures kept { result ≡ Err Memory → S.has_told sink.old [] sink.new }
+    ensures fault { result ≡ Err WriteStop → S.writes ≡ true }
 {
-    if walker.enter()? {
-        tell(answers, TreeAnswer::Entered)
-    } else {
-        tell(answers, TreeAnswer::NoNode)
+    match walker.enter() {
+        Ok(true) => sink.tell(Word::Entered),
+        Ok(false) => sink.tell(Word::NoNode),
+        Err(_) => Err(Stop::Memory),
     }
 }
 
-// The step out of the innermost list, if there is one. Refusal: `OutOfMemory`.
-fn turn_leave<R: Reader, A: Allocator>(
+// The step out of the innermost list, if there is one.
+fn turn_leave<R: Reader, A: Allocator, S: TreeSink<R, A>>(
     walker: &mut EntriesTreeWalker<'_, R, A>,
-    answers: &mut Vec<TreeAnswer<R, A>, A>,
-) -> Result<()>
-    ensures turned { IfOk result (λ _. HasToldTurn R.Offset.limit Leave
-        walker.old (tolds_by R.view R.Offset.number answers.old.items)
-        walker.new (tolds_by R.view R.Offset.number answers.new.items)) }
-    ensures kept { OnErr result (answers.new.items ≡ answers.old.items) }
+    sink: &mut S,
+) -> StdResult<(), Stop>
+    ensures turned { OnOk result
+        (HasToldTurn R.Offset.limit Leave walker.old walker.new
+        (λ told. S.has_told sink.old told sink.new)) }
+    ensures kept { result ≡ Err Memory → S.has_told sink.old [] sink.new }
+    ensures fault { result ≡ Err WriteStop → S.writes ≡ true }
 {
     if walker.leave() {
-        tell(answers, TreeAnswer::Left)
+        sink.tell(Word::Left)
     } else {
-        tell(answers, TreeAnswer::NoNode)
+        sink.tell(Word::NoNode)
     }
 }
 
-// One step. Refusal: `OutOfMemory`.
-fn turn<R: Reader, A: Allocator + Copy>(
-    alloc: A,
+// One step.
+fn turn<R: Reader, A: Allocator, S: TreeSink<R, A>>(
     walker: &mut EntriesTreeWalker<'_, R, A>,
     step: TreeStep,
-    answers: &mut Vec<TreeAnswer<R, A>, A>,
-) -> Result<()>
-    ensures turned { IfOk result (λ _. HasToldTurn R.Offset.limit step
-        walker.old (tolds_by R.view R.Offset.number answers.old.items)
-        walker.new (tolds_by R.view R.Offset.number answers.new.items)) }
-    ensures kept { OnErr result (answers.new.items ≡ answers.old.items) }
+    sink: &mut S,
+) -> StdResult<(), Stop>
+    ensures turned { OnOk result
+        (HasToldTurn R.Offset.limit step walker.old walker.new
+        (λ told. S.has_told sink.old told sink.new)) }
+    ensures kept { result ≡ Err Memory → S.has_told sink.old [] sink.new }
+    ensures fault { result ≡ Err WriteStop → S.writes ≡ true }
 {
     match step {
-        TreeStep::Root => turn_root(alloc, walker, answers),
-        TreeStep::Next => turn_next(alloc, walker, answers),
-        TreeStep::Enter => turn_enter(walker, answers),
-        TreeStep::Leave => turn_leave(walker, answers),
+        TreeStep::Root => turn_root(walker, sink),
+        TreeStep::Next => turn_next(walker, sink),
+        TreeStep::Enter => turn_enter(walker, sink),
+        TreeStep::Leave => turn_leave(walker, sink),
     }
 }
 
-// All steps. Refusal: `OutOfMemory`; the answers are then the first ones.
-fn run_steps<R: Reader, A: Allocator + Copy>(
+// Takes these steps, and tells each answer.
+pub(crate) fn run_steps<R: Reader, A: Allocator, S: TreeSink<R, A>>(
+    walker: &mut EntriesTreeWalker<'_, R, A>,
+    steps: &[TreeStep],
+    sink: &mut S,
+) -> StdResult<(), Stop>
+    ensures { let told = S.has_told sink.old in
+        let run = HasTreeRun R.Offset.limit walker.old steps.now in
+        HasToldSteps run (λ all. told all sink.new) S.writes (length steps.now) result }
+{
+    'steps: for step in steps {
+        turn(walker, *step, sink)?;
+    }
+    Ok(())
+}
+
+// The answer of a word.
+fn answer_of_word<R: Reader, A: Allocator>(word: Word) -> TreeAnswer<R, A>
+    ensures { told_by R.view R.Offset.number result ≡ told_of_word word }
+{
+    match word {
+        Word::End => TreeAnswer::End,
+        Word::Entered => TreeAnswer::Entered,
+        Word::Left => TreeAnswer::Left,
+        Word::NoNode => TreeAnswer::NoNode,
+        Word::Fault(error) => TreeAnswer::Fault(error),
+    }
+}
+
+// Answers in memory.
+#[derive(Drop)]
+struct Collected<R: Reader, A: Allocator> {
+    alloc: A,
+    answers: Vec<TreeAnswer<R, A>, A>,
+}
+
+impl<R: Reader, A: Allocator + Copy> TreeSink<R, A> for Collected<R, A> {
+    ghost has_told = { λ s told t. HasCollected (told_by R.view R.Offset.number) (λ x. Unit {0})
+        s.answers.items told t.answers.items };
+
+    ghost writes = { false };
+
+    fn tell_node(&mut self, entry: &DebuggingInformationEntry<R, A>) -> StdResult<(), Stop> {
+        let Ok(copy) = entry.try_clone(self.alloc) else {
+            return Err(Stop::Memory);
+        };
+        match self.answers.push(TreeAnswer::Node(copy)) {
+            Ok(()) => {}
+            Err(_) => return Err(Stop::Memory),
+        }
+        Ok(())
+    }
+
+    fn tell(&mut self, word: Word) -> StdResult<(), Stop> {
+        match self.answers.push(answer_of_word(word)) {
+            Ok(()) => {}
+            Err(_) => return Err(Stop::Memory),
+        }
+        Ok(())
+    }
+
+    ghost none = { λ s. collected_none _ _ _ };
+
+    ghost more = { λ s t u xs ys h k. collected_more _ _ _ _ _ xs ys h k };
+}
+
+// The answers to these steps, as far as there is memory for them.
+fn collect_steps<R: Reader, A: Allocator + Copy>(
     alloc: A,
     walker: &mut EntriesTreeWalker<'_, R, A>,
     steps: &[TreeStep],
-    answers: &mut Vec<TreeAnswer<R, A>, A>,
-) -> Result<usize>
-    ensures walk { HasWalked R.Offset.limit walker.old steps.now 0
-        (tolds_by R.view R.Offset.number answers.old.items) result
-        walker.new (tolds_by R.view R.Offset.number answers.new.items) }
-    ensures whole { IfOk result (λ end. end ≡ length steps.now) }
+) -> Run<TreeAnswer<R, A>, A>
+    ensures run { HasTreeRun R.Offset.limit walker.old steps.now
+        (tolds_by R.view R.Offset.number result.answers.items) }
+    ensures stopped { IsStopped result.stopped (length result.answers.items) (length steps.now) }
 {
-    let mut at = 0;
-    'steps: while let Some(step) = step_at(steps, at) {
-        turn(alloc, walker, step, answers)?;
-        at += 1;
+    let mut collected = Collected {
+        alloc,
+        answers: Vec::new(alloc),
+    };
+    let stopped = run_steps(walker, steps, &mut collected).is_err();
+    Run {
+        answers: collected.answers,
+        stopped,
     }
-    Ok(at)
 }
 
 /// The answers of a tree from a start, or from the first entry, to these steps; sibling references
@@ -278,20 +314,5 @@ pub fn run_tree<R: Reader, A: Allocator + Copy>(
 {
     let tree = unit.entries_tree(alloc, abbreviations, start)?;
     let mut walker = tree.walk(alloc);
-    Ok(run_all_steps(alloc, &mut walker, steps))
-}
-
-// The answers to these steps, as far as there is memory for them.
-fn run_all_steps<R: Reader, A: Allocator + Copy>(
-    alloc: A,
-    walker: &mut EntriesTreeWalker<'_, R, A>,
-    steps: &[TreeStep],
-) -> Run<TreeAnswer<R, A>, A>
-    ensures run { HasTreeRun R.Offset.limit walker.old steps.now
-        (tolds_by R.view R.Offset.number result.answers.items) }
-    ensures stopped { IsStopped result.stopped (length result.answers.items) (length steps.now) }
-{
-    let mut answers = Vec::new(alloc);
-    let stopped = run_steps(alloc, walker, steps, &mut answers).is_err();
-    Run { answers, stopped }
+    Ok(collect_steps(alloc, &mut walker, steps))
 }

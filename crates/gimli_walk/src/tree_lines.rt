@@ -1,29 +1,39 @@
 //! The lines of a run of a tree.
 
-ghost use Rattle.std.specs.Prelude.{◌≡◌, map, Bool, OnOk, IfOk};
-ghost use Rattle.std.specs.List.{concat, list_any};
+ghost use Rattle.std.specs.Prelude.{◌≡◌, Bool, true, length, OnOk, IfOk, None};
+ghost use Rattle.std.proofs.Common.{refl, ◌∙◌};
 ghost use Rattle.std.specs.Io.KnownBytes.{Appends};
-ghost use Rattle.gimli_walk.specs.Lines.{WroteRun};
-ghost use Rattle.gimli_walk.specs.Trees.{told_by, tolds_by, node_line, told_line, tolds_text};
-ghost use Rattle.gimli_walk.specs.Trees.{is_fault_answer};
+ghost use Rattle.gimli_base.specs.Table.{found};
+ghost use Rattle.gimli_units.specs.TreePlace.{a_node};
+ghost use Rattle.gimli_units.specs.TreeWalker.{node_held};
+ghost use Rattle.gimli_units.specs.UnitHeld.{unit_view};
+ghost use Rattle.gimli_units.specs.UnitRows.{IsHonestFrom};
+ghost use Rattle.gimli_walk.specs.Sinks.{HasLined, HasWrittenSteps};
+ghost use Rattle.gimli_walk.specs.SinkLaws.{lined_none, lined_more};
+ghost use Rattle.gimli_walk.specs.Text.{Wrote};
+ghost use Rattle.gimli_walk.specs.Trees.{told_line, tolds_text, is_fault, tree_view};
+ghost use Rattle.gimli_walk.specs.Trees.{run_tree_answers, run_text_of};
+ghost use Rattle.gimli_walk.specs.TreeText.{WroteTrueTree};
+ghost use Rattle.gimli_walk.specs.TreeTurns.{told_of_word, HasTreeRun};
 
-use crate::lines::{WriteFault, write_end, write_error, write_row};
-use crate::{Run, TreeAnswer};
-use gimli_base::{Error, Reader, ReaderOffset};
-use gimli_units::DebuggingInformationEntry;
+use crate::TreeStep;
+use crate::lines::{Stop, WriteFault, write_end, write_error, write_row};
+use crate::sink::TreeSink;
+use crate::tree::{Word, run_steps};
+use gimli_base::{Abbreviations, Error, Reader, ReaderOffset};
+use gimli_units::{DebuggingInformationEntry, EntriesTreeWalker, UnitHeader};
 use std::alloc::Allocator;
 use std::io::Write;
 
 // Writes the line of a node.
-#[tactic(auto, unfolding(crate::specs::Trees::node_line))]
+#[tactic(auto, unfolding(crate::specs::Trees::told_line, crate::specs::Trees::node_line))]
 fn write_node<R: Reader, A: Allocator, W: Write>(
     out: &mut W,
     entry: &DebuggingInformationEntry<R, A>,
 ) -> Result<(), WriteFault>
     ensures { OnOk result
         (Appends (W.contents out.old) (W.contents out.new)
-        (node_line (R.Offset.number entry.now.offset.0) entry.now.depth entry.now.tag.0
-        entry.now.has_children)) }
+        (told_line (a_node (node_held R.view R.Offset.number entry.now)))) }
 {
     out.write_all(b"node ").map_err(|_| WriteFault)?;
     let offset = entry.offset().0.into_u64();
@@ -36,78 +46,116 @@ fn write_node<R: Reader, A: Allocator, W: Write>(
     )
 }
 
-// Writes a word of its own line.
-fn write_word<W: Write>(out: &mut W, word: &[u8]) -> Result<(), WriteFault>
-    ensures { OnOk result (Appends (W.contents out.old) (W.contents out.new) word.now) }
-{
-    out.write_all(word).map_err(|_| WriteFault)
-}
-
-// Writes the line of an answer.
+// Writes the line of an answer that is no node.
 #[tactic(auto, unfolding(crate::specs::Trees::told_line))]
+fn write_word<W: Write>(out: &mut W, word: Word) -> Result<(), WriteFault>
+    ensures { OnOk result
+        (Appends (W.contents out.old) (W.contents out.new) (told_line (told_of_word word))) }
+{
+    match word {
+        Word::End => write_end(out),
+        Word::Entered => out.write_all(b"entered\n").map_err(|_| WriteFault),
+        Word::Left => out.write_all(b"left\n").map_err(|_| WriteFault),
+        Word::NoNode => out.write_all(b"nonode\n").map_err(|_| WriteFault),
+        Word::Fault(error) => write_error(out, error),
+    }
+}
+
+// Whether an answer is a refusal.
+fn is_refusal(word: Word) -> bool
+    ensures { result ≡ is_fault (told_of_word word) }
+{
+    matches!(word, Word::Fault(_))
+}
+
+// The lines of answers, which are written as they are told.
+struct NodeLines<'a, W> {
+    out: &'a mut W,
+    // whether an answer was a refusal
+    refused: bool,
+}
+
+impl<R: Reader, A: Allocator, W: Write> TreeSink<R, A> for NodeLines<'_, W> {
+    ghost has_told = { λ s told t. (t.out.ghost_name ≡ s.out.ghost_name)
+        × HasLined told_line is_fault (W.contents s.out.now) s.refused told
+        (W.contents t.out.now) t.refused };
+
+    ghost writes = { true };
+
+    fn tell_node(&mut self, entry: &DebuggingInformationEntry<R, A>) -> Result<(), Stop> {
+        write_node(self.out, entry)?;
+        Ok(())
+    }
+
+    fn tell(&mut self, word: Word) -> Result<(), Stop> {
+        write_word(self.out, word)?;
+        self.refused = self.refused || is_refusal(word);
+        Ok(())
+    }
+
+    ghost none = { λ s. (refl, lined_none _ _ _ _) };
+
+    ghost more = { λ s t u xs ys h k. (k.0 ∙ h.0, lined_more _ _ _ _ _ _ _ _ xs ys h.1 k.1) };
+}
+
+// Writes the lines of a walker's answers to these steps, and answers the status of their text.
 fn write_told<R: Reader, A: Allocator, W: Write>(
+    walker: &mut EntriesTreeWalker<'_, R, A>,
+    steps: &[TreeStep],
     out: &mut W,
-    answer: &TreeAnswer<R, A>,
-) -> Result<(), WriteFault>
-    ensures { OnOk result
-        (Appends (W.contents out.old) (W.contents out.new)
-        (told_line (told_by R.view R.Offset.number answer.now))) }
+) -> Result<u8, Stop>
+    ensures { let old = W.contents out.old in
+        let run = HasTreeRun R.Offset.limit walker.old steps.now in
+        HasWrittenSteps run tolds_text old (W.contents out.new) (length steps.now) result }
 {
-    match answer {
-        TreeAnswer::Node(entry) => write_node(out, entry),
-        TreeAnswer::End => write_end(out),
-        TreeAnswer::Entered => write_word(out, b"entered\n"),
-        TreeAnswer::Left => write_word(out, b"left\n"),
-        TreeAnswer::NoNode => write_word(out, b"nonode\n"),
-        TreeAnswer::Fault(error) => write_error(out, *error),
+    let mut lines = NodeLines {
+        out,
+        refused: false,
+    };
+    let told = run_steps(walker, steps, &mut lines);
+    let NodeLines { out, refused } = lines;
+    // No effect at run time. The proof reads what is behind `out` from this use.
+    let _ = &*out;
+    match told {
+        Ok(()) => Ok(u8::from(refused)),
+        Err(stop) => Err(stop),
     }
 }
 
-// Writes a line for each answer.
-fn write_tolds<R: Reader, A: Allocator, W: Write>(
+/// Writes the lines of a tree's answers to these steps, from the first entry of a unit on, and
+/// answers the status of their text.
+pub(crate) fn write_tree_steps<R: Reader, A: Allocator + Copy, W: Write>(
+    alloc: A,
+    unit: &UnitHeader<R>,
+    abbreviations: &Abbreviations<A>,
+    steps: &[TreeStep],
     out: &mut W,
-    answers: &[TreeAnswer<R, A>],
-) -> Result<(), WriteFault>
-    ensures { OnOk result
-        (Appends (W.contents out.old) (W.contents out.new)
-        (concat (map told_line (tolds_by R.view R.Offset.number answers.now)))) }
-{
-    'answers: for answer in answers {
-        write_told(out, answer)?;
-    }
-    Ok(())
-}
-
-// Whether one of these answers is a refusal.
-fn any_fault<R: Reader, A: Allocator>(answers: &[TreeAnswer<R, A>]) -> bool
-    ensures { result ≡ list_any is_fault_answer answers.now }
-{
-    'answers: for answer in answers {
-        if matches!(answer, TreeAnswer::Fault(_)) {
-            return true;
-        }
-    }
-    false
-}
-
-// Writes the lines of a run, and answers the exit status: 1 where an answer is a refusal, or memory
-// was refused.
-pub(crate) fn write_tree_run<R: Reader, A: Allocator, W: Write>(
-    out: &mut W,
-    run: &Run<TreeAnswer<R, A>, A>,
 ) -> Result<u8, WriteFault>
-    ensures { IfOk result
-        (λ status. WroteRun (W.contents out.old) (W.contents out.new)
-        (tolds_text (tolds_by R.view R.Offset.number run.now.answers.items)) run.now.stopped
-        status) }
+    ensures text { let u = unit_view unit.now in
+        let declared = found abbreviations.now in
+        let text = run_text_of (run_tree_answers R.Offset.limit u declared None steps.now) in
+        IsHonestFrom R.Offset.limit u declared (tree_view u None) →
+        IfOk result (λ status. Wrote (W.contents out.old) (W.contents out.new) text status) }
+    ensures true_lines { let u = unit_view unit.now in
+        let declared = found abbreviations.now in
+        let old = W.contents out.old in
+        let new = W.contents out.new in
+        IfOk result (λ status. WroteTrueTree R.Offset.limit u declared steps.now old new status) }
 {
-    write_tolds(out, &run.answers)?;
-    if run.stopped {
-        write_error(out, Error::OutOfMemory)?;
-        return Ok(1);
+    let tree = match unit.entries_tree(alloc, abbreviations, None) {
+        Ok(tree) => tree,
+        Err(error) => {
+            write_error(out, error)?;
+            return Ok(1);
+        }
+    };
+    let mut walker = tree.walk(alloc);
+    match write_told(&mut walker, steps, out) {
+        Ok(status) => Ok(status),
+        Err(Stop::Memory) => {
+            write_error(out, Error::OutOfMemory)?;
+            Ok(1)
+        }
+        Err(Stop::Write) => Err(WriteFault),
     }
-    if any_fault(&run.answers) {
-        return Ok(1);
-    }
-    Ok(0)
 }

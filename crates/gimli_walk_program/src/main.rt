@@ -2,21 +2,38 @@
 #![tactic(auto)]
 
 use gimli_walk::run_words;
-use std::io::{self, BufWriter};
+use std::io::{self, BufWriter, ErrorKind};
 use std::process::ExitCode;
 use std::{env, fs};
 
-fn main(rt: HostRuntime) -> io::Result<ExitCode> {
-    let mut args = Vec::new(rt.alloc());
-    for word in env::args(&rt)?.skip(1) {
-        args.push(word)?;
-    }
+// The words behind the program's name, or none where one is no UTF-8. Refusal: that of memory.
+fn words_of(rt: &HostRuntime) -> io::Result<Vec<String>> {
     let mut words = Vec::new(rt.alloc());
-    for word in &args {
+    match env::args(rt) {
+        Ok(args) => {
+            for word in args.skip(1) {
+                words.push(word)?;
+            }
+        }
+        Err(error) if error.kind() == ErrorKind::InvalidData => {}
+        Err(error) => return Err(error),
+    }
+    Ok(words)
+}
+
+// Does what the words say, and answers the exit status. Refusal: that of memory for the words, or
+// for what is written.
+fn run(rt: &HostRuntime) -> io::Result<u8> {
+    let owned = words_of(rt)?;
+    let mut words = Vec::new(rt.alloc());
+    for word in &owned {
         words.push(word.as_str())?;
     }
-    let read = |name: &str| fs::read(&rt, name).ok();
+    let read = |name: &str| fs::read(rt, name).ok();
     let mut out = BufWriter::new(rt.alloc(), rt.stdout())?;
-    let status = run_words(rt.alloc(), &words, read, &mut out, &mut rt.stderr());
-    Ok(ExitCode::from(status))
+    Ok(run_words(rt.alloc(), &words, read, &mut out, &mut rt.stderr()))
+}
+
+fn main(rt: HostRuntime) -> ExitCode {
+    ExitCode::from(run(&rt).unwrap_or(3))
 }

@@ -354,4 +354,6 @@ fn more_steps_ask_for_no_more_memory(rt: HostRuntime) {
     let few = requests_of(&rt, rt.alloc(), Mode::Cursor(&[E; 2]));
     assert_eq!(rt; requests_of(&rt, rt.alloc(), Mode::Cursor(&[E; 200])), few);
     assert_eq!(rt; requests_of(&rt, rt.alloc(), Mode::Plain(&[E; 200])), few);
+    let nodes = requests_of(&rt, rt.alloc(), Mode::Tree(&[R; 2]));
+    assert_eq!(rt; requests_of(&rt, rt.alloc(), Mode::Tree(&[R; 200])), nodes);
 }

@@ -4,8 +4,8 @@ use Rattle.gimli_walk.specs.Dump.{type_number}
 use Rattle.gimli_walk.proofs.Dumps.{unit_rows, unit_memory}
 use Rattle.gimli_walk.proofs.dump.dump_unit.Goals as goal
 
-pub returns-in-Ok : goal.returns-in-Ok
-returns-in-Ok g c =
+pub returns-in-Ok-clause-text : goal.returns-in-Ok-clause-text
+returns-in-Ok-clause-text g c =
     let u = unit_view c.args.unit.now in
     let offset : c.into_u64-offset.result
     ≡ u.offset = c.into_u64-offset.ensures.value ∙ c.offset.ensures in
@@ -13,11 +13,11 @@ returns-in-Ok g c =
     ≡ type_number u.kind = c.number_of-type_number.ensures ∙ ap type_number c.type_.ensures in
     let line = rw (offset, c.version.ensures, kind) at c.in_ok-write_unit_line.ensures in
     unit_rows g.R.Offset.ReaderOffset.limit u (g.W.Write.contents c.args.out.now)
-    (g.W.Write.contents c.write_unit_line.new.out) (g.W.Write.contents c.write_rows.new.out) _ _
-    _ c.write_rows.result line c.in-Ok.ensures c.write_rows.ensures
+    (g.W.Write.contents c.write_unit_line.new.out) (g.W.Write.contents c.write_rows-written.new.out) _ _
+    _ c.write_rows-written.result line c.in-Ok.ensures.table c.write_rows-written.ensures
 
-pub returns-in-Err-OutOfMemory : goal.returns-in-Err-OutOfMemory
-returns-in-Err-OutOfMemory g c =
+pub returns-in-Err-OutOfMemory-clause-text : goal.returns-in-Err-OutOfMemory-clause-text
+returns-in-Err-OutOfMemory-clause-text g c =
     let u = unit_view c.args.unit.now in
     let offset : c.into_u64-offset.result
     ≡ u.offset = c.into_u64-offset.ensures.value ∙ c.offset.ensures in

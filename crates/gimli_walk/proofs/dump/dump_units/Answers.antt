@@ -17,7 +17,7 @@ returns-in_err-next-in-Ok-Some-clause-text g c =
     let cut = dump_cut limit declarations out new c.units.units c.next.new.self
     (unit_view c.in-Ok-Some.unit) stop
     (rw c.in-Ok-Some.field-0-is at c.in-Ok-Some.ensures.ahead)
-    c.in_err-next-in-Ok-Some.ensures in
+    c.in_err-next-in-Ok-Some.ensures.text in
     rw r
     (dump_whole limit declarations start new c.units-units.result _ (Err stop)
     c.units-units.ensures.begin (c.units.invariant.completes new (Err stop) cut))
@@ -49,11 +49,12 @@ units-preserved g c =
           (c.units.invariant.completes final (behind_status next written)
           (dump_more limit declarations out mid final c.units.units c.next.new.self u next
           written (rw c.in-Ok-Some.field-0-is at c.in-Ok-Some.ensures.ahead)
-          c.in_ok-next-in-Ok-Some.ensures rest));
+          c.in_ok-next-in-Ok-Some.ensures.text rest));
       first = λ none.
           let one = rw (c.in-Ok-Some.field-0-is, c.units.invariant.first none) at
           c.in-Ok-Some.ensures.value in
           absurd (let k = unit_first limit _ u _ one in cc);
+      held = c.dump_unit.ensures.held;
     }
 
 pub returns-in-Ok-None-clause-text : goal.returns-in-Ok-None-clause-text

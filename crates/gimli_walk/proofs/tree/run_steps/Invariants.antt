@@ -1,13 +1,11 @@
-use Rattle.std.proofs.Common.{◌-◌, length, Ok}
-use Rattle.gimli_walk.specs.Trees.{tolds_by}
-use Rattle.gimli_walk.specs.TreeTurns.{HasWalked}
+use Rattle.std.proofs.Common.{drop}
+use Rattle.gimli_walk.specs.TreeTurns.{HasTreeRun}
+use Rattle.gimli_walk.proofs.Telling.{ToldSoFar}
 use Rattle.gimli_walk.proofs.tree.run_steps.Given as goal
 
 abbrev pub invariant-steps : goal.invariant-steps
 invariant-steps g l =
-    HasWalked g.R.Offset.ReaderOffset.limit l.fn.walker l.steps 0
-    (tolds_by g.R.Reader.view g.R.Offset.ReaderOffset.number l.fn.answers.items) (Ok l.at)
-    l.walker (tolds_by g.R.Reader.view g.R.Offset.ReaderOffset.number l.answers.items)
-
-abbrev pub decreases-steps : goal.decreases-steps
-decreases-steps g l = length l.steps - l.at
+    let limit = g.R.Offset.ReaderOffset.limit in
+    ToldSoFar (HasTreeRun limit l.initial.walker l.steps)
+    (HasTreeRun limit l.walker (drop l.step-index l.steps))
+    (λ all. g.S.TreeSink.has_told l.initial.sink all l.sink) l.step-index

@@ -7,10 +7,10 @@ use Rattle.gimli_walk.proofs.tree.run_tree.Goals as goal
 pub returns : goal.returns
 returns g c =
     let told = told_by g.R.Reader.view g.R.Offset.ReaderOffset.number in
-    let all = c.run_all_steps.ensures in
+    let all = c.collect_steps.ensures in
     tree_run_from g.R.Offset.ReaderOffset.limit _ _ _ _ _ _ _ _ c.args.unit.now.entries_fit
     c.in_ok-tree.ensures (rw c.walk-walker.ensures at all.run)
-    (sym (length-map c.run_all_steps.result.answers.items told)) all.stopped
+    (sym (length-map c.collect_steps.result.answers.items told)) all.stopped
 
 pub returns-in_err-tree : goal.returns-in_err-tree
 returns-in_err-tree g c =
