@@ -1,19 +1,21 @@
-pub mod WrittenLines
-pub mod StoppedLines
-pub mod RowLines
+pub mod Addresses
+pub mod AnswerLines
+pub mod AnswerTruth
+pub mod CursorRuns
+pub mod CursorTruth
+pub mod Declared
+mod DigitsOnto
 pub mod Dumps
 pub mod Found
 pub mod Roots
-pub mod Declared
-pub mod WordLines
-pub mod Addresses
+pub mod RowLines
+mod RowText
+pub mod StoppedLines
 pub mod Telling
-pub mod CursorRuns
-pub mod CursorTruth
-pub mod AnswerTruth
-pub mod AnswerLines
-pub mod TreeRuns
-pub mod TreeTruth
-pub mod TreeTold
-pub mod TreeTurned
 pub mod TreeLines
+pub mod TreeRuns
+pub mod TreeTold
+pub mod TreeTruth
+pub mod TreeTurned
+pub mod WordLines
+pub mod WrittenLines

@@ -4,6 +4,7 @@
 mod answers;
 mod check;
 mod cursor;
+mod digits;
 mod dump;
 mod find;
 mod letters;

@@ -1,12 +1,13 @@
 //! The lines of a walk.
 
-ghost use Rattle.std.specs.Prelude.{◌≡◌, OnOk};
+ghost use Rattle.std.specs.Prelude.{◌≡◌, ◌≤◌, OnOk, drop};
 ghost use Rattle.std.specs.Io.KnownBytes.{Appends};
 ghost use Rattle.gimli_base.specs.Refusal.{number_of};
 ghost use Rattle.gimli_walk.specs.declared.lines.Stop.TheVariants.{Write as WriteStop};
 ghost use Rattle.gimli_walk.specs.Lines.{row_line, end_line, no_unit_line, error_line};
 ghost use Rattle.gimli_walk.specs.Lines.{error_line_at, unit_line, honest_line, false_line};
 
+use crate::digits::{put_byte, put_digits, put_signed};
 use gimli_base::Error;
 use std::io::Write;
 
@@ -31,9 +32,25 @@ impl From<WriteFault> for Stop {
     }
 }
 
+// Puts the line of a row at the end of a buffer, and answers where it begins.
+#[inline(always)]
+fn put_row(offset: u64, depth: isize, tag: u16, has_children: bool, line: &mut [u8; 200]) -> usize
+    ensures within { result ≤ 200 }
+    ensures value { drop result line.new ≡ row_line offset depth tag has_children }
+{
+    let flag = u8::from(has_children);
+    let end = put_byte(b'\n', 200, line);
+    let flag_at = put_byte(b'0' + flag, end, line);
+    let gap = put_byte(b' ', flag_at, line);
+    let tag_at = put_digits(u64::from(tag), 16, gap, line);
+    let gap = put_byte(b' ', tag_at, line);
+    let depth_at = put_signed(depth, gap, line);
+    let gap = put_byte(b' ', depth_at, line);
+    put_digits(offset, 16, gap, line)
+}
+
 /// Writes the line of a row: its offset and tag in hexadecimal, its depth, and whether children
-/// follow.
-#[tactic(auto, unfolding(crate::specs::Lines::row_line))]
+/// follow. It is put together in a buffer and written at once.
 pub(crate) fn write_row<W: Write>(
     out: &mut W,
     offset: u64,
@@ -45,11 +62,13 @@ pub(crate) fn write_row<W: Write>(
         (Appends (W.contents out.old) (W.contents out.new)
         (row_line offset depth tag has_children)) }
 {
-    let flag = u8::from(has_children);
-    write!(out, "{offset:x} {depth} {tag:x} {flag}\n").map_err(|_| WriteFault)
+    let mut line = [b' '; 200];
+    let begin = put_row(offset, depth, tag, has_children, &mut line);
+    let text: &[u8] = &line;
+    out.write_all(&text[begin..]).map_err(|_| WriteFault)
 }
 
-/// Writes the line behind the last row.
+/// Writes the line after the last row.
 pub(crate) fn write_end<W: Write>(out: &mut W) -> Result<(), WriteFault>
     ensures { OnOk result (Appends (W.contents out.old) (W.contents out.new) end_line) }
 {
