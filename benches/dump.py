@@ -23,14 +23,18 @@ def elf_of(corpus, room):
 
 
 def run(words, out):
-    """Returns the seconds and the most memory, in MB, of one run."""
+    """Returns the seconds of one run."""
     with open(out, "wb") as to:
         start = time.perf_counter()
-        child = subprocess.Popen(words, stdout=to, stderr=subprocess.DEVNULL)
-        _, status, used = os.wait4(child.pid, 0)
-        taken = time.perf_counter() - start
-    child.returncode = os.waitstatus_to_exitcode(status)
-    return taken, used.ru_maxrss / 1024
+        subprocess.run(words, stdout=to, stderr=subprocess.DEVNULL)
+        return time.perf_counter() - start
+
+
+def memory_of(words, room):
+    """Returns the most memory of a run, in MB, as GNU time tells it: a child of this script would be told the script's own."""
+    with open("/dev/null", "wb") as to:
+        subprocess.run(["/usr/bin/time", "-f", "%M", "-o", f"{room}/most", *words], stdout=to, stderr=subprocess.DEVNULL)
+    return int(pathlib.Path(f"{room}/most").read_text().split()[-1]) / 1024
 
 
 def main(words):
@@ -51,19 +55,17 @@ def main(words):
                 "llvm": ["llvm-dwarfdump", "--debug-info", elf],
                 "readelf": ["readelf", "--debug-dump=info", elf],
             }
-            taken, most = {it: [] for it in tools}, dict.fromkeys(tools, 0)
+            taken, most = {it: [] for it in tools}, {it: memory_of(tool, room) for it, tool in tools.items()}
             for _ in range(rounds):
                 for name, tool in tools.items():
-                    seconds, memory = run(tool, f"{room}/{name}")
-                    taken[name].append(seconds)
-                    most[name] = max(most[name], memory)
+                    taken[name].append(run(tool, f"{room}/{name}"))
             if pathlib.Path(f"{room}/ours").read_bytes() != pathlib.Path(f"{room}/peer").read_bytes():
                 sys.exit(f"{corpus}: other lines than the peer's")
         middle = {it: statistics.median(all) for it, all in taken.items()}
         size = (os.stat(sections[0]).st_size) / 2**20
         ours = f"{min(taken['ours']):.3f} {middle['ours']:.3f} {max(taken['ours']):.3f}"
         ratios = "".join(f"{middle[it] / middle['ours']:>{8 + (it == 'readelf')}.2f}" for it in ("peer", "llvm", "readelf"))
-        print(f"{os.path.basename(corpus):<20}{size:>6.1f}{ours:>24}{ratios}   " + " ".join(f"{most[it]:.0f}" for it in tools))
+        print(f"{os.path.basename(os.path.normpath(corpus)):<20}{size:>6.1f}{ours:>24}{ratios}   " + " ".join(f"{most[it]:.1f}" for it in tools))
 
 
 if __name__ == "__main__":

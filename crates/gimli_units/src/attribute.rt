@@ -46,7 +46,7 @@ impl<R, Offset> Attribute<R, Offset> {
 
 impl<R: Reader> Attribute<R> {
     /// The value as the form shows it.
-    #[inline]
+    #[inline(always)]
     pub fn raw_value(&self) -> AttributeValue<R>
         ensures { map_value R.view R.Offset.number result
             ≡ map_value R.view R.Offset.number self.now.value }

@@ -129,7 +129,7 @@ impl<R: Reader> AttributeValue<R> {
     }
 
     /// The same value, its readers copied.
-    #[inline]
+    #[inline(always)]
     pub fn copy(&self) -> AttributeValue<R>
         ensures { map_value R.view R.Offset.number result
             ≡ map_value R.view R.Offset.number self.now }
