@@ -1,6 +1,6 @@
 -- The lines of a run of a tree, as a text.
-use Rattle.std.proofs.Common.{◌≡◌, ℕ, ◌≤◌, Bool, true, false, List, [], length, Option, None, Result}
-use Rattle.std.proofs.Common.{Ok, Err, refl, sym, ap, map}
+use Rattle.std.proofs.Common.{◌≡◌, ℕ, ◌≤◌, Bool, true, false, List, [], length, Option, None}
+use Rattle.std.proofs.Common.{Result, Ok, Err, refl, sym, ap, map}
 use Rattle.std.specs.Prelude.{if◌then◌else◌}
 use Rattle.std.specs.List.{concat, list_any}
 use Rattle.std.specs.Io.KnownBytes.{Appends}
@@ -134,8 +134,7 @@ module _ (limit : ℕ) (u : UnitView) (t : Table) (steps : List TreeStep)
     tree_stopped_text mid told h honest =
         let from = told_from tree true told.all fits begins told.runs told.count in
         tree_run_text limit u (found t) steps old new told.all true 1
-        (tree_run_as_said limit u (found t) steps (run_of told.all true) from honest)
-        (
+        (tree_run_as_said limit u (found t) steps (run_of told.all true) from honest) (
           Appends-trans old mid new (concat (map told_line told.all)) memory_line told.are_told h,
           refl,
         )
@@ -146,8 +145,7 @@ module _ (limit : ℕ) (u : UnitView) (t : Table) (steps : List TreeStep)
         → Appends mid new memory_line → WroteTrueTree limit u (found t) steps old new 1
     tree_stopped_true mid told h =
         let from = told_from tree true told.all fits begins told.runs told.count in
-        tree_true_lines limit u (found t) steps old new (run_of told.all true) 1 from
-        (
+        tree_true_lines limit u (found t) steps old new (run_of told.all true) 1 from (
           Appends-trans old mid new (concat (map told_line told.all)) memory_line told.are_told h,
           refl,
         )
