@@ -1,6 +1,6 @@
 -- The lines of a run of a tree, as a text.
-use Rattle.std.proofs.Common.{◌≡◌, ℕ, ◌≤◌, Bool, true, false, List, [], length, Option, None, Result}
-use Rattle.std.proofs.Common.{Ok, Err, refl, sym, ap, map}
+use Rattle.std.proofs.Common.{◌≡◌, ℕ, ◌≤◌, Bool, true, false, List, [], length, Option, None}
+use Rattle.std.proofs.Common.{Result, Ok, Err, refl, sym, ap, map}
 use Rattle.std.specs.Prelude.{if◌then◌else◌}
 use Rattle.std.specs.List.{concat, list_any}
 use Rattle.std.specs.Io.KnownBytes.{Appends}

@@ -99,7 +99,7 @@ fn table_of<R: Reader, A: Allocator + Copy>(
     debug_abbrev: &DebugAbbrev<R>,
     before: Option<Held<A>>,
 ) -> Result<Held<A>>
-    requires before { let declarations = ⟦<DebugAbbrev<R> as Section<R>>⟧.content debug_abbrev.now in
+    requires held { let declarations = ⟦<DebugAbbrev<R> as Section<R>>⟧.content debug_abbrev.now in
         IfSome before (λ h. Ok (found h.table) ≡ map_at h.offset declarations) }
     ensures table { let declarations = ⟦<DebugAbbrev<R> as Section<R>>⟧.content debug_abbrev.now in
         UnlessMemory result (answer_of (λ h. found h.table) result
