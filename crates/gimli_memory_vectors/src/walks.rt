@@ -35,11 +35,11 @@ fn take_steps<'a, T: Walk>(
     Ok(left)
 }
 
-// The steps that find nothing behind one that memory was refused for, since it ends the walk or all its lists.
+// The steps that find nothing behind one that memory was refused for, since it ends the walk or all lists.
 fn ended_by(letter: u8) -> &'static [u8] {
     match letter {
         b'e' | b'd' | b's' => b"edse",
-        b'n' | b'm' => b"nmn",
+        b'r' | b'n' | b'm' => b"nmn",
         _ => b"",
     }
 }
