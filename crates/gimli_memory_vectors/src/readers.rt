@@ -9,7 +9,7 @@ use gimli_base::{
     RunTimeEndian, WholeSlice,
 };
 use gimli_headers::DebugInfo;
-use gimli_units::{DebugInfoOffset, UnitHeader};
+use gimli_units::{DebugInfoOffset, UnitHeader, UnitOffset};
 use std::alloc::Global;
 use std::io::{self, Write};
 use test_tables::{Case, write_refusal};
@@ -87,6 +87,11 @@ impl<'a, R: Reader> Call for Sections<'a, R> {
                 case,
                 unit: &unit,
                 table: &table,
+                start: match case.number(1) {
+                    Some(number) => R::Offset::from_u64(number).ok().map(UnitOffset),
+                    None => None,
+                },
+                letters: case.word(1).unwrap_or("").as_bytes(),
             }
             .write(out),
             Err(error) => {

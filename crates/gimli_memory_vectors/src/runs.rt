@@ -28,12 +28,11 @@ fn run_of<'h, R: Reader>(
         table,
         ..
     } = stage;
-    let start = stage.start()?;
     let (steps, _) = steps_of(trial.alloc, stage.case.word(2))?;
     if follows {
-        run_cursor(trial.heap, unit, table, start, &steps)
+        run_cursor(trial.heap, unit, table, stage.start, &steps)
     } else {
-        run_cursor_plain(trial.heap, unit, table, start, &steps)
+        run_cursor_plain(trial.heap, unit, table, stage.start, &steps)
     }
 }
 
@@ -72,9 +71,8 @@ fn tree_run_of<'h, R: Reader>(
         table,
         ..
     } = stage;
-    let start = stage.start()?;
     let (_, steps) = steps_of(trial.alloc, stage.case.word(2))?;
-    run_tree(trial.heap, unit, table, start, &steps)
+    run_tree(trial.heap, unit, table, stage.start, &steps)
 }
 
 /// Writes what the run of a tree holds.

@@ -6,7 +6,7 @@ use crate::runs::{write_cursor_run, write_tree_run};
 use crate::trees::{Tree, write_nodes};
 use crate::trial::{Heap, Trial};
 use crate::walks::write_walk;
-use gimli_base::{Abbreviations, Reader, ReaderOffset, Result as Answer};
+use gimli_base::{Abbreviations, Reader, ReaderOffset};
 use gimli_headers::first_false_sibling;
 use gimli_units::{DebuggingInformationEntry, UnitHeader, UnitOffset};
 use std::io::{self, Write};
@@ -19,22 +19,13 @@ pub(crate) struct Stage<'s, 'h, R: Reader> {
     pub(crate) case: &'s Case,
     pub(crate) unit: &'s UnitHeader<R>,
     pub(crate) table: &'s Abbreviations<Heap<'h>>,
+    /// The offset that is the first word behind the call, or none where that is no number.
+    pub(crate) start: Option<UnitOffset<R::Offset>>,
+    /// The letters that are this word.
+    pub(crate) letters: &'s [u8],
 }
 
 impl<'s, 'h, R: Reader> Stage<'s, 'h, R> {
-    /// The offset that is the first word behind the call, or none where that is no number.
-    pub(crate) fn start(&self) -> Answer<Option<UnitOffset<R::Offset>>> {
-        match self.case.number(1) {
-            Some(number) => Ok(Some(UnitOffset(R::Offset::from_u64(number)?))),
-            None => Ok(None),
-        }
-    }
-
-    // The letters that are the first word behind the call.
-    fn letters(&self) -> &[u8] {
-        self.case.word(1).unwrap_or("").as_bytes()
-    }
-
     /// Makes the call of the case, and writes what it answers.
     pub(crate) fn write(&self, out: &mut Vec<u8>) -> io::Result<()> {
         match self.case.word(0) {
@@ -54,7 +45,7 @@ impl<'s, 'h, R: Reader> Stage<'s, 'h, R> {
 
     // Writes the entry at an offset.
     fn write_entry(&self, out: &mut Vec<u8>) -> io::Result<()> {
-        let Ok(Some(offset)) = self.start() else {
+        let Some(offset) = self.start else {
             return writeln!(out, "no offset");
         };
         match self.unit.entry(self.trial.heap, self.table, offset) {
@@ -94,7 +85,7 @@ impl<'s, 'h, R: Reader> Stage<'s, 'h, R> {
                     table: self.table,
                     heap,
                 };
-                write_walk(self.trial, &mut walk, self.letters(), out)
+                write_walk(self.trial, &mut walk, self.letters, out)
             }
             Err(error) => write_refusal(out, error),
         }
@@ -110,7 +101,7 @@ impl<'s, 'h, R: Reader> Stage<'s, 'h, R> {
             },
             heap: self.trial.heap,
         };
-        write_walk(self.trial, &mut walk, self.letters(), out)
+        write_walk(self.trial, &mut walk, self.letters, out)
     }
 
     // Writes the steps of a tree that is made with an allocator, and cloned with the one that refuses; or what it
@@ -123,9 +114,9 @@ impl<'s, 'h, R: Reader> Stage<'s, 'h, R> {
         ) {
             (Ok(mut tree), Some("nodes")) => write_nodes(self.trial, &mut tree, out),
             (Ok(tree), Some("walker")) => {
-                write_walk(self.trial, &mut tree.walk(heap), self.letters(), out)
+                write_walk(self.trial, &mut tree.walk(heap), self.letters, out)
             }
-            (Ok(tree), _) => write_walk(self.trial, &mut Tree { tree, heap }, self.letters(), out),
+            (Ok(tree), _) => write_walk(self.trial, &mut Tree { tree, heap }, self.letters, out),
             (Err(error), _) => write_refusal(out, error),
         }
     }

@@ -45,7 +45,7 @@ fn ended_by(letter: u8) -> &'static [u8] {
 }
 
 /// Takes the steps of a walk, and writes a line for each. Behind a refusal of memory a walk that is not ended takes
-/// the same step again and goes on, and one that begins with the root begins anew.
+/// the same step again and goes on, one that begins with the root begins anew, and any other stays where it stands.
 pub(crate) fn write_walk<T: Walk>(
     trial: Trial<'_>,
     walk: &mut T,
@@ -57,22 +57,27 @@ pub(crate) fn write_walk<T: Walk>(
         return Ok(());
     };
     let ended = ended_by(*letter);
-    let asked = trial.heap.requests();
-    if asked != trial.number {
+    if trial.heap.requests() != trial.number {
         writeln!(out, "asked on")?;
     }
+    let mut stood = Vec::new(trial.alloc);
+    walk.show(&mut stood)?;
     for step in ended {
         if walk.take(*step) != Ok(false) {
             writeln!(out, "goes on")?;
         }
     }
-    if trial.heap.requests() != asked {
+    let mut stands = Vec::new(trial.alloc);
+    walk.show(&mut stands)?;
+    if trial.heap.requests() != trial.number {
         writeln!(out, "asks on")?;
     }
     if ended.is_empty() {
         take_steps(walk, left, out)?;
     } else if letters.starts_with(b"r") {
         take_steps(walk, letters, out)?;
+    } else if stood.as_slice() != stands.as_slice() {
+        writeln!(out, "moves")?;
     }
     Ok(())
 }
