@@ -38,7 +38,8 @@ pub(crate) fn write_values<R: Reader>(
 ) -> io::Result<()> {
     write!(out, " has")?;
     for attribute in attributes {
-        match attribute.raw_value() {
+        let value = attribute.raw_value();
+        match &value {
             AttributeValue::Data1(byte) => write!(out, " {byte:x}")?,
             AttributeValue::UnitRef(offset) => {
                 let offset = offset.0.into_u64();

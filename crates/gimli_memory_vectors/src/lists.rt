@@ -36,11 +36,11 @@ pub(crate) fn write_list<R: Reader>(
     match case.word(0) {
         Some("units") => {
             let section = DebugInfo::from(section.copy());
-            write_units(out, &run_units(trial.heap, &section))?;
+            write_units(out, &run_units(&trial.heaps.failing, &section))?;
         }
         Some("type_units") => {
             let section = DebugTypes::from(section.copy());
-            write_units(out, &run_type_units(trial.heap, &section))?;
+            write_units(out, &run_type_units(&trial.heaps.failing, &section))?;
         }
         Some("ranges") => write_ranges(trial, section, out)?,
         Some("locations") => write_locations(trial, section, out)?,
@@ -89,7 +89,15 @@ fn write_ranges<R: Reader>(trial: Trial<'_>, section: &R, out: &mut Vec<u8>) -> 
     let zero = R::Offset::from_u8(0);
     let (offset, addr_base) = (RangeListsOffset(zero), DebugAddrBase(zero));
     let addr = no_addresses(section);
-    let run = match run_ranges(trial.heap, &lists, offset, ENCODING, BASE, &addr, addr_base) {
+    let run = match run_ranges(
+        &trial.heaps.failing,
+        &lists,
+        offset,
+        ENCODING,
+        BASE,
+        &addr,
+        addr_base,
+    ) {
         Ok(run) => run,
         Err(error) => return write_refusal(out, error),
     };
@@ -111,7 +119,14 @@ fn write_locations<R: Reader>(trial: Trial<'_>, section: &R, out: &mut Vec<u8>) 
     let (offset, addr_base) = (LocationListsOffset(zero), DebugAddrBase(zero));
     let addr = no_addresses(section);
     let run = match run_locations(
-        trial.heap, &lists, offset, ENCODING, BASE, &addr, addr_base, false,
+        &trial.heaps.failing,
+        &lists,
+        offset,
+        ENCODING,
+        BASE,
+        &addr,
+        addr_base,
+        false,
     ) {
         Ok(run) => run,
         Err(error) => return write_refusal(out, error),

@@ -16,7 +16,7 @@ mod wanted;
 use crate::readers::try_readers;
 use crate::texts::{Texts, write_short};
 use crate::trial::try_each;
-use crate::wanted::{Wanted, mark_of};
+use crate::wanted::Wanted;
 use std::io::{self, BufWriter, Write};
 use std::{env, fs};
 use test_tables::{Case, Names, Tally, parse_case};
@@ -57,8 +57,7 @@ fn try_case(rt: &HostRuntime, case: &Case, out: &mut Vec<u8>) -> io::Result<()> 
     match case.word(0) {
         Some("short") => write_short(alloc, case, out),
         Some("text" | "words") => {
-            let mark = mark_of(case.word(0));
-            let wanted = Wanted::new(alloc, &case.wide, mark)?;
+            let wanted = Wanted::new(alloc, &case.wide, case.word(0))?;
             try_each(alloc, &Texts { case }, &wanted, out)
         }
         _ => try_readers(alloc, case, out),

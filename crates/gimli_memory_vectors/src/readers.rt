@@ -3,7 +3,7 @@
 use crate::lists::write_list;
 use crate::trial::{Call, Heap, Trial, try_each};
 use crate::units::Stage;
-use crate::wanted::{Wanted, mark_of};
+use crate::wanted::Wanted;
 use gimli_base::{
     Abbreviations, DebugAbbrev, EndianSlice, LittleEndian, Reader, ReaderOffset, Result as Answer,
     RunTimeEndian, WholeSlice,
@@ -24,7 +24,6 @@ struct Sections<'a, R> {
 
 /// Tries a case by both readers.
 pub(crate) fn try_readers(alloc: Global, case: &Case, out: &mut Vec<u8>) -> io::Result<()> {
-    let mark = mark_of(case.word(0));
     let info = case.section(0).unwrap_or(&[]);
     let abbrev = case.section(1).unwrap_or(&[]);
     let parts = Sections {
@@ -32,7 +31,12 @@ pub(crate) fn try_readers(alloc: Global, case: &Case, out: &mut Vec<u8>) -> io::
         first: EndianSlice::new(info, LittleEndian),
         second: EndianSlice::new(abbrev, LittleEndian),
     };
-    try_each(alloc, &parts, &Wanted::new(alloc, &case.wide, mark)?, out)?;
+    try_each(
+        alloc,
+        &parts,
+        &Wanted::new(alloc, &case.wide, case.word(0))?,
+        out,
+    )?;
     if u32::try_from(info.len()).is_err() || u32::try_from(abbrev.len()).is_err() {
         return writeln!(out, "too long");
     }
@@ -44,7 +48,7 @@ pub(crate) fn try_readers(alloc: Global, case: &Case, out: &mut Vec<u8>) -> io::
     try_each(
         alloc,
         &wholes,
-        &Wanted::new(alloc, &case.narrow, mark)?,
+        &Wanted::new(alloc, &case.narrow, case.word(0))?,
         out,
     )
 }
@@ -79,7 +83,11 @@ impl<'a, R: Reader> Call for Sections<'a, R> {
             return Ok(());
         }
         let is_table = case.word(0) == Some("table");
-        let heap = if is_table { trial.heap } else { trial.ample };
+        let heap = if is_table {
+            &trial.heaps.failing
+        } else {
+            &trial.heaps.ample
+        };
         match self.unit(heap) {
             Ok((_, table)) if is_table => write_table(out, &table),
             Ok((unit, table)) => Stage {

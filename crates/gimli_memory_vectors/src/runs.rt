@@ -30,9 +30,9 @@ fn run_of<'h, R: Reader>(
     } = stage;
     let (steps, _) = steps_of(trial.alloc, stage.case.word(2))?;
     if follows {
-        run_cursor(trial.heap, unit, table, stage.start, &steps)
+        run_cursor(&trial.heaps.failing, unit, table, stage.start, &steps)
     } else {
-        run_cursor_plain(trial.heap, unit, table, stage.start, &steps)
+        run_cursor_plain(&trial.heaps.failing, unit, table, stage.start, &steps)
     }
 }
 
@@ -72,7 +72,7 @@ fn tree_run_of<'h, R: Reader>(
         ..
     } = stage;
     let (_, steps) = steps_of(trial.alloc, stage.case.word(2))?;
-    run_tree(trial.heap, unit, table, stage.start, &steps)
+    run_tree(&trial.heaps.failing, unit, table, stage.start, &steps)
 }
 
 /// Writes what the run of a tree holds.

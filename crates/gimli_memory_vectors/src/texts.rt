@@ -1,7 +1,7 @@
 //! Texts.
 
 use crate::trial::{Call, Heap, Trial};
-use crate::wanted::{Wanted, mark_of};
+use crate::wanted::Wanted;
 use failing::{Failing, Refusal};
 use gimli_walk::{
     CursorStep, Mode, TreeStep, WriteFault, dump_text, find_text, run_words, walk_text,
@@ -38,7 +38,7 @@ pub(crate) struct Texts<'a> {
     pub(crate) case: &'a Case,
 }
 
-// Writes the text that the words behind the first name.
+// Writes the text that the words after the first name.
 fn write_text<W: Write>(
     alloc: Global,
     heap: Heap<'_>,
@@ -60,7 +60,7 @@ fn write_text<W: Write>(
     Ok(walk_text(heap, mode, info, abbrev, out))
 }
 
-// Writes what the words behind the first make the program write, and answers its status.
+// Writes what the words after the first make the program write, and answers its status.
 fn write_words(trial: Trial<'_>, case: &Case, out: &mut Vec<u8>) -> io::Result<u8> {
     let alloc = trial.alloc;
     let mut words = Vec::new(alloc);
@@ -69,7 +69,7 @@ fn write_words(trial: Trial<'_>, case: &Case, out: &mut Vec<u8>) -> io::Result<u
     }
     let mut err = Vec::new(alloc);
     let status = run_words(
-        trial.heap,
+        &trial.heaps.failing,
         &words,
         |name: &str| -> Option<Vec<u8>> {
             let index = usize::from(name != "info");
@@ -89,7 +89,7 @@ impl<'a> Call for Texts<'a> {
         let status = if self.case.word(0) == Some("words") {
             Ok(write_words(trial, self.case, out)?)
         } else {
-            write_text(trial.alloc, trial.heap, self.case, out)?
+            write_text(trial.alloc, &trial.heaps.failing, self.case, out)?
         };
         match status {
             Ok(status) => writeln!(out, "status {status}"),
@@ -105,7 +105,7 @@ pub(crate) fn write_short(alloc: Global, case: &Case, out: &mut Vec<u8>) -> io::
     let status = write_text(alloc, &heap, case, &mut text)?;
     let mut whole = Vec::from_slice(alloc, &text)?;
     writeln!(whole, "status {}", status.unwrap_or(0xff))?;
-    let wanted = Wanted::new(alloc, &case.wide, mark_of(case.word(0)))?;
+    let wanted = Wanted::new(alloc, &case.wide, case.word(0))?;
     if whole.as_slice() != wanted.text.as_bytes() {
         out.write_all(&whole)?;
     }

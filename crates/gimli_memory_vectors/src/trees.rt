@@ -70,7 +70,7 @@ impl<'table, 'h, R: Reader> Walk for EntriesTreeWalker<'table, R, Heap<'h>> {
     }
 }
 
-// Writes the next child of a list, which it lends, or that there is none, or a refusal; behind those a list has no
+// Writes the next child of a list, which it lends, or that there is none, or a refusal; after those a list has no
 // child any more. Answers whether there was a child.
 fn write_child<R: Reader>(
     list: &mut EntriesTreeIter<'_, '_, R, Heap<'_>>,
@@ -86,10 +86,10 @@ fn write_child<R: Reader>(
         Ok(None) => write_outcome(out, Ok(false))?,
         Err(error) => write_refusal(out, error)?,
     }
-    if !matches!(list.next(), Ok(None)) {
-        write!(out, " goes on")?;
-    }
     writeln!(out)?;
+    if !matches!(list.next(), Ok(None)) {
+        writeln!(out, "goes on")?;
+    }
     Ok(false)
 }
 
@@ -117,7 +117,7 @@ pub(crate) fn write_nodes<R: Reader>(
                 writeln!(out)?;
             }
         }
-        if trial.heap.requests() < trial.number {
+        if trial.heaps.failing.requests() < trial.number {
             break;
         }
     }

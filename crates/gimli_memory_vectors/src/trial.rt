@@ -8,13 +8,18 @@ use std::io::{self, Write};
 /// The allocator of what is tried.
 pub(crate) type Heap<'h> = &'h Failing<Global>;
 
-/// What a call is tried with: the allocator that refuses, one that refuses nothing, and the number of the request that
-/// is the first to be refused.
+/// An allocator that refuses, and one that refuses nothing.
+#[derive(Drop)]
+pub(crate) struct Heaps {
+    pub(crate) failing: Failing<Global>,
+    pub(crate) ample: Failing<Global>,
+}
+
+/// What a call is tried with: the allocators, and the number of the request that is the first to be refused.
 #[derive(Clone, Copy)]
 pub(crate) struct Trial<'h> {
     pub(crate) alloc: Global,
-    pub(crate) heap: Heap<'h>,
-    pub(crate) ample: Heap<'h>,
+    pub(crate) heaps: &'h Heaps,
     pub(crate) number: u64,
 }
 
@@ -27,7 +32,7 @@ pub(crate) trait Call {
 // More requests than any call of a table makes.
 const MANY: u64 = 1000;
 
-/// Makes a call with each of its requests refused in turn, alone and with all behind it, and writes what differs.
+/// Makes a call with each of its requests refused in turn, alone and with all after it, and writes what differs.
 pub(crate) fn try_each<C: Call>(
     alloc: Global,
     call: &C,
@@ -35,7 +40,7 @@ pub(crate) fn try_each<C: Call>(
     out: &mut Vec<u8>,
 ) -> io::Result<()> {
     for number in 1..MANY {
-        let alone = wanted.mark.alone
+        let alone = wanted.alone
             && try_refusal(alloc, call, wanted, (number, Refusal::Nth(number)), out)?;
         let all = try_refusal(alloc, call, wanted, (number, Refusal::From(number)), out)?;
         if !alone && !all {
@@ -53,17 +58,18 @@ fn try_refusal<C: Call>(
     (number, refusal): (u64, Refusal),
     out: &mut Vec<u8>,
 ) -> io::Result<bool> {
-    let ample = Failing::new(alloc, Refusal::Never);
-    let heap = Failing::new(alloc, refusal);
+    let heaps = Heaps {
+        failing: Failing::new(alloc, refusal),
+        ample: Failing::new(alloc, Refusal::Never),
+    };
     let trial = Trial {
         alloc,
-        heap: &heap,
-        ample: &ample,
+        heaps: &heaps,
         number,
     };
     let mut first = Vec::new(alloc);
     call.write(trial, &mut first)?;
-    let asked = heap.requests();
+    let asked = heaps.failing.requests();
     let is_refused = number <= asked;
     let mut second = Vec::new(alloc);
     if is_refused {
@@ -77,7 +83,7 @@ fn try_refusal<C: Call>(
     let found = str::from_utf8(&first).unwrap_or("no text");
     let again = str::from_utf8(&second).unwrap_or("no text");
     let is_right = if is_refused {
-        (wanted.mark.goes_on || asked == number)
+        (wanted.goes_on || asked == number)
             && is_refused_right(wanted, number, refusal, (found, again))
     } else {
         let must = matches!(wanted.told_at(number), Some((_, true)));
@@ -92,7 +98,7 @@ fn try_refusal<C: Call>(
     Ok(is_refused)
 }
 
-// Whether a refused call, and the one behind it, answer as is wanted.
+// Whether a refused call, and the one after it, answer as is wanted.
 fn is_refused_right(
     wanted: &Wanted,
     number: u64,

@@ -19,7 +19,7 @@ pub(crate) struct Stage<'s, 'h, R: Reader> {
     pub(crate) case: &'s Case,
     pub(crate) unit: &'s UnitHeader<R>,
     pub(crate) table: &'s Abbreviations<Heap<'h>>,
-    /// The offset that is the first word behind the call, or none where that is no number.
+    /// The offset that is the first word after the call, or none where that is no number.
     pub(crate) start: Option<UnitOffset<R::Offset>>,
     /// The letters that are this word.
     pub(crate) letters: &'s [u8],
@@ -32,14 +32,14 @@ impl<'s, 'h, R: Reader> Stage<'s, 'h, R> {
             Some("entry") => self.write_entry(out),
             Some("check") => self.write_check(out),
             Some("raw") => self.write_raw(out),
-            Some("cursor") => self.write_cursor(self.trial.heap, true, out),
-            Some("plain") => self.write_cursor(self.trial.heap, false, out),
-            Some("clone") => self.write_cursor(self.trial.ample, true, out),
+            Some("cursor") => self.write_cursor(&self.trial.heaps.failing, true, out),
+            Some("plain") => self.write_cursor(&self.trial.heaps.failing, false, out),
+            Some("clone") => self.write_cursor(&self.trial.heaps.ample, true, out),
             Some("run_cursor") => write_cursor_run(self, true, out),
             Some("run_plain") => write_cursor_run(self, false, out),
             Some("run_tree") => write_tree_run(self, out),
-            Some("clone_tree") => self.write_tree(self.trial.ample, out),
-            _ => self.write_tree(self.trial.heap, out),
+            Some("clone_tree") => self.write_tree(&self.trial.heaps.ample, out),
+            _ => self.write_tree(&self.trial.heaps.failing, out),
         }
     }
 
@@ -48,7 +48,10 @@ impl<'s, 'h, R: Reader> Stage<'s, 'h, R> {
         let Some(offset) = self.start else {
             return writeln!(out, "no offset");
         };
-        match self.unit.entry(self.trial.heap, self.table, offset) {
+        match self
+            .unit
+            .entry(&self.trial.heaps.failing, self.table, offset)
+        {
             Ok(entry) => {
                 write_outcome(out, Ok(true))?;
                 write_entry(out, Some(&entry))?;
@@ -61,7 +64,7 @@ impl<'s, 'h, R: Reader> Stage<'s, 'h, R> {
 
     // Writes the first entry whose sibling reference is false.
     fn write_check(&self, out: &mut Vec<u8>) -> io::Result<()> {
-        match first_false_sibling(self.trial.heap, self.unit, self.table) {
+        match first_false_sibling(&self.trial.heaps.failing, self.unit, self.table) {
             Ok(None) => writeln!(out, "honest"),
             Ok(Some(offset)) => {
                 let offset = offset.0.into_u64();
@@ -74,9 +77,9 @@ impl<'s, 'h, R: Reader> Stage<'s, 'h, R> {
         }
     }
 
-    // Writes what is read one behind the other.
+    // Writes what is read one after the other.
     fn write_raw(&self, out: &mut Vec<u8>) -> io::Result<()> {
-        let heap = self.trial.heap;
+        let heap = &self.trial.heaps.failing;
         match self.unit.entries_raw(self.table, None) {
             Ok(raw) => {
                 let mut walk = Raw {
@@ -99,7 +102,7 @@ impl<'s, 'h, R: Reader> Stage<'s, 'h, R> {
             } else {
                 self.unit.entries_plain(made, self.table)
             },
-            heap: self.trial.heap,
+            heap: &self.trial.heaps.failing,
         };
         write_walk(self.trial, &mut walk, self.letters, out)
     }
@@ -107,7 +110,7 @@ impl<'s, 'h, R: Reader> Stage<'s, 'h, R> {
     // Writes the steps of a tree that is made with an allocator, and cloned with the one that refuses; or what it
     // lends; or those of its walker.
     fn write_tree(&self, made: Heap<'h>, out: &mut Vec<u8>) -> io::Result<()> {
-        let heap = self.trial.heap;
+        let heap = &self.trial.heaps.failing;
         match (
             self.unit.entries_tree(made, self.table, None),
             self.case.word(0),

@@ -21,18 +21,16 @@ fn take_steps<'a, T: Walk>(
     letters: &'a [u8],
     out: &mut Vec<u8>,
 ) -> io::Result<&'a [u8]> {
-    let mut left = letters;
-    while let [letter, rest @ ..] = left {
+    for (at, letter) in letters.iter().enumerate() {
         let outcome = walk.take(*letter);
         write_outcome(out, outcome)?;
         walk.show(out)?;
         writeln!(out)?;
         if outcome == Err(Error::OutOfMemory) {
-            break;
+            return Ok(letters.get(at..).unwrap_or(b""));
         }
-        left = rest;
     }
-    Ok(left)
+    Ok(b"")
 }
 
 // The steps that find nothing behind one that memory was refused for, since it ends the walk or all lists.
@@ -57,7 +55,7 @@ pub(crate) fn write_walk<T: Walk>(
         return Ok(());
     };
     let ended = ended_by(*letter);
-    if trial.heap.requests() != trial.number {
+    if trial.heaps.failing.requests() != trial.number {
         writeln!(out, "asked on")?;
     }
     let mut stood = Vec::new(trial.alloc);
@@ -69,7 +67,7 @@ pub(crate) fn write_walk<T: Walk>(
     }
     let mut stands = Vec::new(trial.alloc);
     walk.show(&mut stands)?;
-    if trial.heap.requests() != trial.number {
+    if trial.heaps.failing.requests() != trial.number {
         writeln!(out, "asks on")?;
     }
     if ended.is_empty() {

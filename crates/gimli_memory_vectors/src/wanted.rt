@@ -2,32 +2,17 @@
 
 use std::alloc::{AllocError, Global};
 
-/// How a refused call is told.
-#[derive(Clone, Copy)]
-pub(crate) struct Mark {
-    /// What stands behind its whole lines.
-    pub(crate) words: &'static str,
-    /// Whether the case itself makes the call again, so that more may be asked for.
-    pub(crate) goes_on: bool,
-    /// Whether a request is refused alone too. The words of the program ask for less room where room for the steps is
-    /// refused, and go on with that.
-    pub(crate) alone: bool,
-}
-
-/// How a call tells that memory was refused.
-pub(crate) fn mark_of(call: Option<&str>) -> Mark {
-    let (words, goes_on, alone) = match call {
+// How a call tells that memory was refused; whether the case itself makes the call again, so that more may be asked
+// for; and whether a request is refused alone too: the words of the program ask for less room where room for the steps
+// is refused, and go on with that.
+fn mark_of(call: Option<&str>) -> (&'static str, bool, bool) {
+    match call {
         Some("words") => ("error 24\nstatus 1", true, false),
         Some("text") => ("error 24\nstatus 1", false, true),
         Some("units" | "type_units" | "ranges" | "locations") => ("stopped", false, true),
         Some("run_cursor" | "run_plain" | "run_tree") => ("stopped", false, true),
         Some("table" | "entry" | "check") => ("refused 24", false, true),
         _ => ("refused 24", true, true),
-    };
-    Mark {
-        words,
-        goes_on,
-        alone,
     }
 }
 
@@ -36,14 +21,24 @@ pub(crate) fn mark_of(call: Option<&str>) -> Mark {
 pub(crate) struct Wanted {
     /// The lines, each with its end.
     pub(crate) text: String,
-    /// What is told where each request is refused: `0` where there are none, and `..` for any that follow.
+    /// What is told where each request is refused: `0` where there are none, and `..` for the usual words, and for any
+    /// that follow.
     pub(crate) asks: String,
-    pub(crate) mark: Mark,
+    /// The usual words, which stand after whole lines.
+    pub(crate) words: String,
+    /// Whether the case itself makes the call again.
+    pub(crate) goes_on: bool,
+    /// Whether a request is refused alone too.
+    pub(crate) alone: bool,
 }
 
 impl Wanted {
-    /// The answer that a table writes: lines joined by `; `, and behind `asks ` what is told of each request.
-    pub(crate) fn new(alloc: Global, answer: &str, mark: Mark) -> Result<Wanted, AllocError> {
+    /// The answer of a call that a table writes: lines joined by `; `, and after `asks ` what is told of each request.
+    pub(crate) fn new(
+        alloc: Global,
+        answer: &str,
+        call: Option<&str>,
+    ) -> Result<Wanted, AllocError> {
         let (lines, asks) = answer.split_once("asks ").unwrap_or((answer, ".."));
         let mut text = String::new(alloc);
         for line in lines.split("; ") {
@@ -53,27 +48,34 @@ impl Wanted {
             }
         }
         let asks = String::from_str(alloc, asks)?;
-        Ok(Wanted { text, asks, mark })
+        let (words, goes_on, alone) = mark_of(call);
+        let words = String::from_str(alloc, words)?;
+        Ok(Wanted {
+            text,
+            asks,
+            words,
+            goes_on,
+            alone,
+        })
     }
 
     /// What is told where the request of a number is refused, and whether so many are made at least; or none where
     /// so many are not made.
     pub(crate) fn told_at(&self, number: u64) -> Option<(&str, bool)> {
         let mut left = number;
-        let mut behind = None;
         for told in self.asks.split(", ") {
             left = left.saturating_sub(1);
-            behind = match told {
-                "0" => None,
-                ".." => Some((self.mark.words, left == 0)),
-                _ if left == 0 => Some((told, true)),
-                _ => None,
-            };
-            if left == 0 {
-                break;
+            if left == 0 && told != "0" {
+                if told == ".." {
+                    return Some((&self.words, true));
+                }
+                return Some((told, true));
             }
         }
-        behind
+        if self.asks.ends_with("..") {
+            return Some((&self.words, false));
+        }
+        None
     }
 
     /// Whether a text is whole lines from the front of the answer, and not all of them.
@@ -88,7 +90,7 @@ impl Wanted {
         }
     }
 
-    /// Whether a text is that of a refused call: whole lines from the front, what is told, and behind that nothing, or
+    /// Whether a text is that of a refused call: whole lines from the front, what is told, and after that nothing, or
     /// the lines that the call answers when it is made again.
     pub(crate) fn is_cut(&self, told: &str, found: &str, alone: bool) -> bool {
         let Some((front, rest)) = found.split_once(told) else {
@@ -97,7 +99,7 @@ impl Wanted {
         let Some((tail, behind)) = rest.split_once("\n") else {
             return false;
         };
-        let is_told = tail.is_empty() || told == self.mark.words;
+        let is_told = tail.is_empty() || told == self.words.as_str();
         let is_whole = behind == self.text.as_str()
             || self.text.strip_prefix(front) == Some(behind);
         is_told
@@ -107,9 +109,9 @@ impl Wanted {
 
     // Whether a text is that of a call that was refused once more.
     fn is_cut_again(&self, found: &str) -> bool {
-        match found.split_once(self.mark.words) {
+        match found.split_once(self.words.as_str()) {
             Some((front, rest)) => {
-                self.has_front(front) && rest.split_once(self.mark.words).is_none()
+                self.has_front(front) && rest.split_once(self.words.as_str()).is_none()
             }
             None => false,
         }
