@@ -8,8 +8,6 @@ mod clones;
 #[cfg(test)]
 mod long;
 #[cfg(test)]
-mod memory;
-#[cfg(test)]
 mod samples;
 #[cfg(test)]
 mod walked;

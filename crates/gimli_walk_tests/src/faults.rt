@@ -1,7 +1,7 @@
 ghost use Rattle.std.specs.Prelude.{None};
 
-use crate::samples::{NO_ENTRIES, TABLE_NESTED_STRINGS, THREE_NESTED, THREE_NESTED_TEXT};
-use gimli_walk::{Mode, WriteFault, run_words, walk_text};
+use crate::samples::{TABLE_NESTED_STRINGS, THREE_NESTED};
+use gimli_walk::run_words;
 use std::alloc::Global;
 use std::io::{Error, ErrorKind, Write};
 use std::process::Abort;
@@ -12,43 +12,6 @@ fn file(alloc: Global, name: &str) -> Option<Vec<u8>> {
         "info" => Vec::from_slice(alloc, &THREE_NESTED).ok(),
         "abbrev" => Vec::from_slice(alloc, &TABLE_NESTED_STRINGS).ok(),
         _ => None,
-    }
-}
-
-#[test]
-fn fails_where_the_writer_is_too_short(rt: HostRuntime) {
-    let mut space = [0u8; 128];
-    let length = THREE_NESTED_TEXT.len();
-    assert!(rt; length < space.len());
-    for size in 0..=length {
-        let mut out: &mut [u8] = &mut space[..size];
-        let answer = walk_text(
-            rt.alloc(),
-            Mode::Rows,
-            &THREE_NESTED,
-            &TABLE_NESTED_STRINGS,
-            &mut out,
-        );
-        let wanted = if size == length {
-            Ok(0)
-        } else {
-            Err(WriteFault)
-        };
-        assert_eq!(rt; answer, wanted, "at {size}");
-    }
-    assert!(rt; space.starts_with(THREE_NESTED_TEXT.as_bytes()));
-    // the one line of an empty section, of a refusal and of a unit without entries
-    let cases: [&[u8]; 3] = [&[], &[0x01, 0, 0, 0, 0x04], &NO_ENTRIES];
-    for info in cases {
-        let mut out: &mut [u8] = &mut space[..3];
-        let answer = walk_text(
-            rt.alloc(),
-            Mode::Rows,
-            info,
-            &TABLE_NESTED_STRINGS,
-            &mut out,
-        );
-        assert_eq!(rt; answer, Err(WriteFault));
     }
 }
 

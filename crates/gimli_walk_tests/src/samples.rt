@@ -5,30 +5,13 @@ use gimli_headers::DebugInfo;
 use gimli_units::UnitHeader;
 use std::process::Abort;
 
-/// More requests than any walk or run of these tests makes.
-pub(crate) const MANY: u64 = 100;
-
 /// One declaration, of code 1: tag 0x2e, children, and a name that is a string.
 pub(crate) const TABLE_NESTED_STRINGS: [u8; 8] = [0x01, 0x2e, 0x01, 0x03, 0x08, 0x00, 0x00, 0x00];
-
-/// Two declarations, of codes 1 and 2: tag 0x2e, children, and a sibling in one byte; tag 0x34, and nothing else.
-pub(crate) const TABLE_WITH_SIBLINGS: [u8; 13] = [
-    0x01, 0x2e, 0x01, 0x01, 0x11, 0x00, 0x00, 0x02, 0x34, 0x00, 0x00, 0x00, 0x00,
-];
 
 /// A unit of three entries, each below the one before it, and the three nulls that close their lists.
 pub(crate) const THREE_NESTED: [u8; 29] = [
     0x19, 0x00, 0x00, 0x00, 0x04, 0x00, 0x00, 0x00, 0x00, 0x00, 0x04, 0x01, 0x66, 0x6f, 0x6f, 0x00,
     0x01, 0x66, 0x6f, 0x6f, 0x00, 0x01, 0x66, 0x6f, 0x6f, 0x00, 0x00, 0x00, 0x00,
-];
-
-/// The text of their rows.
-pub(crate) const THREE_NESTED_TEXT: &str =
-    "b 0 2e 1\n10 1 2e 1\n15 2 2e 1\n1a 3 0 0\n1b 2 0 0\n1c 1 0 0\nend\n";
-
-/// A unit without bytes of entries.
-pub(crate) const NO_ENTRIES: [u8; 11] = [
-    0x07, 0x00, 0x00, 0x00, 0x04, 0x00, 0x00, 0x00, 0x00, 0x00, 0x04,
 ];
 
 /// A reader that keeps what is left of these bytes.

@@ -1,0 +1,125 @@
+//! Walks of trees.
+
+use crate::lines::{write_entry, write_outcome};
+use crate::trial::{Heap, Trial};
+use crate::walks::Walk;
+use gimli_base::{Reader, ReaderOffset, Result as Answer};
+use gimli_units::{EntriesTree, EntriesTreeIter, EntriesTreeWalker};
+use std::io::{self, Write};
+use test_tables::write_refusal;
+
+/// A tree, and the allocator that a clone of it is made with.
+#[derive(Drop)]
+pub(crate) struct Tree<'table, 'h, R: Reader> {
+    pub(crate) tree: EntriesTree<'table, R, Heap<'h>>,
+    pub(crate) heap: Heap<'h>,
+}
+
+impl<'table, 'h, R: Reader> Walk for Tree<'table, 'h, R> {
+    // `r` goes to the root, `n` to the next entry of depth 1, `m` to that of depth 2; `c` puts a clone in the tree's
+    // place.
+    fn take(&mut self, letter: u8) -> Answer<bool> {
+        match letter {
+            b'r' => {
+                self.tree.go_to_root()?;
+                Ok(true)
+            }
+            b'n' => self.tree.go_to_next(1),
+            b'm' => self.tree.go_to_next(2),
+            b'c' => {
+                self.tree = self.tree.try_clone(self.heap)?;
+                Ok(true)
+            }
+            _ => Ok(false),
+        }
+    }
+
+    fn show(&self, out: &mut Vec<u8>) -> io::Result<()> {
+        let entry = self.tree.entry();
+        if !entry.is_null() {
+            write_entry(out, Some(entry))?;
+        }
+        let offset = entry.offset().0.into_u64();
+        let depth = entry.depth();
+        let next_depth = self.tree.next_depth();
+        let reads = self.tree.reads();
+        write!(out, " at {offset:x} {depth} > {next_depth} reads {reads}")
+    }
+}
+
+impl<'table, 'h, R: Reader> Walk for EntriesTreeWalker<'table, R, Heap<'h>> {
+    // `r` asks for the root, `n` for the next node; `i` enters a node, and `o` leaves a list.
+    fn take(&mut self, letter: u8) -> Answer<bool> {
+        match letter {
+            b'r' => {
+                self.root()?;
+                Ok(true)
+            }
+            b'n' => self.next(),
+            b'i' => self.enter(),
+            b'o' => Ok(self.leave()),
+            _ => Ok(false),
+        }
+    }
+
+    fn show(&self, out: &mut Vec<u8>) -> io::Result<()> {
+        write_entry(out, self.entry())?;
+        let lists = self.entered();
+        let reads = self.reads();
+        write!(out, " in {lists} reads {reads}")
+    }
+}
+
+// Writes the next child of a list, which it lends, or that there is none, or a refusal; after those a list has no
+// child any more. Answers whether there was a child.
+fn write_child<R: Reader>(
+    list: &mut EntriesTreeIter<'_, '_, R, Heap<'_>>,
+    out: &mut Vec<u8>,
+) -> io::Result<bool> {
+    match list.next() {
+        Ok(Some(child)) => {
+            write_outcome(out, Ok(true))?;
+            write_entry(out, Some(child.entry()))?;
+            writeln!(out)?;
+            return Ok(true);
+        }
+        Ok(None) => write_outcome(out, Ok(false))?,
+        Err(error) => write_refusal(out, error)?,
+    }
+    writeln!(out)?;
+    if !matches!(list.next(), Ok(None)) {
+        writeln!(out, "goes on")?;
+    }
+    Ok(false)
+}
+
+/// Writes the root of a tree and its children, as the tree lends them. Where memory is refused, the tree begins anew.
+pub(crate) fn write_nodes<R: Reader>(
+    trial: Trial<'_>,
+    tree: &mut EntriesTree<'_, R, Heap<'_>>,
+    out: &mut Vec<u8>,
+) -> io::Result<()> {
+    for _ in 0..2u8 {
+        match tree.root() {
+            Ok(root) => {
+                write!(out, "root")?;
+                write_entry(out, Some(root.entry()))?;
+                writeln!(out)?;
+                let mut list = root.children();
+                for _ in 0..u64::MAX {
+                    if !write_child(&mut list, out)? {
+                        break;
+                    }
+                }
+            }
+            Err(error) => {
+                write_refusal(out, error)?;
+                writeln!(out)?;
+            }
+        }
+        if trial.heaps.failing.requests() < trial.number {
+            break;
+        }
+    }
+    Ok(())
+}

@@ -1,0 +1,119 @@
+//! A call whose requests for memory are refused, one after the other.
+
+use crate::wanted::Wanted;
+use failing::{Failing, Refusal};
+use std::alloc::Global;
+use std::io::{self, Write};
+
+/// The allocator of what is tried.
+pub(crate) type Heap<'h> = &'h Failing<Global>;
+
+/// An allocator that refuses, and one that refuses nothing.
+#[derive(Drop)]
+pub(crate) struct Heaps {
+    pub(crate) failing: Failing<Global>,
+    pub(crate) ample: Failing<Global>,
+}
+
+/// What a call is tried with: the allocators, and the number of the request that is the first to be refused.
+#[derive(Clone, Copy)]
+pub(crate) struct Trial<'h> {
+    pub(crate) alloc: Global,
+    pub(crate) heaps: &'h Heaps,
+    pub(crate) number: u64,
+}
+
+/// A call that is tried.
+pub(crate) trait Call {
+    /// Makes the call, and writes what it answers.
+    fn write(&self, trial: Trial<'_>, out: &mut Vec<u8>) -> io::Result<()>;
+}
+
+// More requests than any call of a table makes.
+const MANY: u64 = 1000;
+
+/// Makes a call with each of its requests refused in turn, alone and with all after it, and writes what differs.
+pub(crate) fn try_each<C: Call>(
+    alloc: Global,
+    call: &C,
+    wanted: &Wanted,
+    out: &mut Vec<u8>,
+) -> io::Result<()> {
+    for number in 1..MANY {
+        let alone = wanted.alone
+            && try_refusal(alloc, call, wanted, (number, Refusal::Nth(number)), out)?;
+        let all = try_refusal(alloc, call, wanted, (number, Refusal::From(number)), out)?;
+        if !alone && !all {
+            return Ok(());
+        }
+    }
+    writeln!(out, "  no end of its requests")
+}
+
+// Makes a call with a request refused, and where it was makes it again. Writes what differs, and answers whether it was.
+fn try_refusal<C: Call>(
+    alloc: Global,
+    call: &C,
+    wanted: &Wanted,
+    (number, refusal): (u64, Refusal),
+    out: &mut Vec<u8>,
+) -> io::Result<bool> {
+    let heaps = Heaps {
+        failing: Failing::new(alloc, refusal),
+        ample: Failing::new(alloc, Refusal::Never),
+    };
+    let trial = Trial {
+        alloc,
+        heaps: &heaps,
+        number,
+    };
+    let mut first = Vec::new(alloc);
+    call.write(trial, &mut first)?;
+    let asked = heaps.failing.requests();
+    let is_refused = number <= asked;
+    let mut second = Vec::new(alloc);
+    if is_refused {
+        // where one request alone was refused, none of these is
+        let number = match refusal {
+            Refusal::From(_) => asked.saturating_add(1),
+            _ => u64::MAX,
+        };
+        call.write(Trial { number, ..trial }, &mut second)?;
+    }
+    let found = str::from_utf8(&first).unwrap_or("no text");
+    let again = str::from_utf8(&second).unwrap_or("no text");
+    let is_right = if is_refused {
+        (wanted.goes_on || asked == number)
+            && is_refused_right(wanted, number, refusal, (found, again))
+    } else {
+        let must = matches!(wanted.told_at(number), Some((_, true)));
+        found == wanted.text.as_str() && !must
+    };
+    if !is_right {
+        writeln!(
+            out,
+            "{refusal:?}, {asked} requests:\n{found}again:\n{again}"
+        )?;
+    }
+    Ok(is_refused)
+}
+
+// Whether a refused call, and the one after it, answer as is wanted.
+fn is_refused_right(
+    wanted: &Wanted,
+    number: u64,
+    refusal: Refusal,
+    (found, again): (&str, &str),
+) -> bool {
+    let (Some((told, _)), Some((first, _))) = (wanted.told_at(number), wanted.told_at(1)) else {
+        return false;
+    };
+    let alone = refusal == Refusal::Nth(number);
+    let is_again = if alone {
+        again == wanted.text.as_str()
+    } else {
+        // each of its requests is refused, and so the first
+        wanted.is_cut(first, again, false)
+    };
+    wanted.is_cut(told, found, alone) && is_again
+}

@@ -1,0 +1,119 @@
+//! What a case wants.
+
+use std::alloc::{AllocError, Global};
+
+// How a call tells that memory was refused; whether the case itself makes the call again, so that more may be asked
+// for; and whether a request is refused alone too: the words of the program ask for less room where room for the steps
+// is refused, and go on with that.
+fn mark_of(call: Option<&str>) -> (&'static str, bool, bool) {
+    match call {
+        Some("words") => ("error 24\nstatus 1", true, false),
+        Some("text") => ("error 24\nstatus 1", false, true),
+        Some("units" | "type_units" | "ranges" | "locations") => ("stopped", false, true),
+        Some("run_cursor" | "run_plain" | "run_tree") => ("stopped", false, true),
+        Some("table" | "entry" | "check") => ("refused 24", false, true),
+        _ => ("refused 24", true, true),
+    }
+}
+
+/// The answer of a case: all lines of the call, and what it says of its requests for memory.
+#[derive(Drop)]
+pub(crate) struct Wanted {
+    /// The lines, each with its end.
+    pub(crate) text: String,
+    /// What is told where each request is refused: `0` where there are none, and `..` for the usual words, and for any
+    /// that follow.
+    pub(crate) asks: String,
+    /// The usual words, which stand after whole lines.
+    pub(crate) words: String,
+    /// Whether the case itself makes the call again.
+    pub(crate) goes_on: bool,
+    /// Whether a request is refused alone too.
+    pub(crate) alone: bool,
+}
+
+impl Wanted {
+    /// The answer of a call that a table writes: lines joined by `; `, and after `asks ` what is told of each request.
+    pub(crate) fn new(
+        alloc: Global,
+        answer: &str,
+        call: Option<&str>,
+    ) -> Result<Wanted, AllocError> {
+        let (lines, asks) = answer.split_once("asks ").unwrap_or((answer, ".."));
+        let mut text = String::new(alloc);
+        for line in lines.split("; ") {
+            if !line.is_empty() {
+                text.push_str(line)?;
+                text.push_str("\n")?;
+            }
+        }
+        let asks = String::from_str(alloc, asks)?;
+        let (words, goes_on, alone) = mark_of(call);
+        let words = String::from_str(alloc, words)?;
+        Ok(Wanted {
+            text,
+            asks,
+            words,
+            goes_on,
+            alone,
+        })
+    }
+
+    /// What is told where the request of a number is refused, and whether so many are made at least; or none where
+    /// so many are not made.
+    pub(crate) fn told_at(&self, number: u64) -> Option<(&str, bool)> {
+        let mut left = number;
+        for told in self.asks.split(", ") {
+            left = left.saturating_sub(1);
+            if left == 0 && told != "0" {
+                if told == ".." {
+                    return Some((&self.words, true));
+                }
+                return Some((told, true));
+            }
+        }
+        if self.asks.ends_with("..") {
+            return Some((&self.words, false));
+        }
+        None
+    }
+
+    /// Whether a text is whole lines from the front of the answer, and not all of them.
+    pub(crate) fn has_front(&self, front: &str) -> bool {
+        match self.text.strip_prefix(front) {
+            Some(left) => {
+                (front.is_empty() || front.ends_with("\n"))
+                    && !left.is_empty()
+                    && !left.starts_with("status")
+            }
+            None => false,
+        }
+    }
+
+    /// Whether a text is that of a refused call: whole lines from the front, what is told, and after that nothing, or
+    /// the lines that the call answers when it is made again.
+    pub(crate) fn is_cut(&self, told: &str, found: &str, alone: bool) -> bool {
+        let Some((front, rest)) = found.split_once(told) else {
+            return false;
+        };
+        let Some((tail, behind)) = rest.split_once("\n") else {
+            return false;
+        };
+        let is_told = tail.is_empty() || told == self.words.as_str();
+        let is_whole = behind == self.text.as_str()
+            || self.text.strip_prefix(front) == Some(behind);
+        is_told
+            && self.has_front(front)
+            && (behind.is_empty() || is_whole || !alone && self.is_cut_again(behind))
+    }
+
+    // Whether a text is that of a call that was refused once more.
+    fn is_cut_again(&self, found: &str) -> bool {
+        match found.split_once(self.words.as_str()) {
+            Some((front, rest)) => {
+                self.has_front(front) && rest.split_once(self.words.as_str()).is_none()
+            }
+            None => false,
+        }
+    }
+}
