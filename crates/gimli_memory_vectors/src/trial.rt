@@ -50,7 +50,7 @@ pub(crate) fn try_each<C: Call>(
     writeln!(out, "  no end of its requests")
 }
 
-// Makes a call with a request refused, and where it was makes it again. Writes what differs, and answers whether it was.
+// Makes a call with a request refused, and where it was makes it again. Answers whether it was.
 fn try_refusal<C: Call>(
     alloc: Global,
     call: &C,
@@ -80,22 +80,35 @@ fn try_refusal<C: Call>(
         };
         call.write(Trial { number, ..trial }, &mut second)?;
     }
-    let found = str::from_utf8(&first).unwrap_or("no text");
-    let again = str::from_utf8(&second).unwrap_or("no text");
-    let is_right = if is_refused {
+    judge(wanted, (number, refusal), asked, &first, &second, out)?;
+    Ok(is_refused)
+}
+
+// Writes what a call answered, and what it answered again, where that is not what is wanted.
+fn judge(
+    wanted: &Wanted,
+    (number, refusal): (u64, Refusal),
+    asked: u64,
+    found: &[u8],
+    again: &[u8],
+    out: &mut Vec<u8>,
+) -> io::Result<()> {
+    let found = str::from_utf8(found).unwrap_or("no text");
+    let again = str::from_utf8(again).unwrap_or("no text");
+    let is_right = if number <= asked {
         (wanted.goes_on || asked == number)
-            && is_refused_right(wanted, number, refusal, (found, again))
+            && is_refused_right(wanted, number, refusal, found, again)
     } else {
         let must = matches!(wanted.told_at(number), Some((_, true)));
         found == wanted.text.as_str() && !must
     };
-    if !is_right {
-        writeln!(
-            out,
-            "{refusal:?}, {asked} requests:\n{found}again:\n{again}"
-        )?;
+    if is_right {
+        return Ok(());
     }
-    Ok(is_refused)
+    writeln!(
+        out,
+        "{refusal:?}, {asked} requests:\n{found}again:\n{again}"
+    )
 }
 
 // Whether a refused call, and the one after it, answer as is wanted.
@@ -103,7 +116,8 @@ fn is_refused_right(
     wanted: &Wanted,
     number: u64,
     refusal: Refusal,
-    (found, again): (&str, &str),
+    found: &str,
+    again: &str,
 ) -> bool {
     let (Some((told, _)), Some((first, _))) = (wanted.told_at(number), wanted.told_at(1)) else {
         return false;
