@@ -1,6 +1,8 @@
-use crate::samples::{Input, TABLE_NESTED_STRINGS, first_of, has_bytes, reads};
-use gimli_base::{EndianSlice, LittleEndian, Reader, ReaderOffsetId};
-use gimli_units::{Attribute, AttributeValue};
+use crate::samples::{
+    Input, TABLE_NESTED_STRINGS, first_of, has_bytes, raw_of, reads, table_of, unit_of,
+};
+use gimli_base::{EndianSlice, Error, LittleEndian, Reader, ReaderOffsetId};
+use gimli_units::{Attribute, AttributeValue, DebuggingInformationEntry};
 use std::process::Abort;
 use std::test::Fail;
 
@@ -62,6 +64,19 @@ fn places_go_on_to_the_last(rt: HostRuntime) -> Result<(), Fail> {
         let reader = EndianSlice::new_at(&[0x66, 0x00], LittleEndian, place);
         let text = reads(&rt, rt.alloc(), (0x03, 0x08), reader)?;
         tries_text(&rt, &text, &[0x66], place);
+    }
+    Ok(())
+}
+
+#[test]
+fn a_text_that_is_cut_off_is_missing_at_its_place(rt: HostRuntime) -> Result<(), Fail> {
+    let table = table_of(rt.alloc(), &TABLE_NESTED_STRINGS)?;
+    for (first, place) in [(11, 12), (1011, 1012)] {
+        let unit = unit_of(&rt, EndianSlice::new_at(&[0x01], LittleEndian, first));
+        let mut raw = raw_of(&unit, &table)?;
+        let mut entry = DebuggingInformationEntry::null(rt.alloc());
+        let refused = raw.read_entry(&mut entry);
+        assert_eq!(rt; refused, Err(Error::UnexpectedEof(ReaderOffsetId(place))));
     }
     Ok(())
 }
