@@ -39,7 +39,8 @@ impl<'abbrev, R: Reader, A: Allocator> EntriesCursor<'abbrev, R, A> {
     ///
     /// Where the cursor follows references, an entry whose `DW_AT_sibling` leads on in the unit is
     /// left for where it leads, with its children unread. So it answers as plain walking does where
-    /// those references are honest; any others lead to an entry of the unit, too.
+    /// those references are honest. Whatever they are, an answered entry is what decoding at the
+    /// cursor's offset gives, which need not be where a row of the unit begins.
     ///
     /// Refusals: those of `next_entry`.
     pub fn next_sibling(&mut self) -> Result<Option<&DebuggingInformationEntry<R, A>>>

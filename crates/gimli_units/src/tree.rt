@@ -322,7 +322,8 @@ impl<'abbrev, 'tree, R: Reader, A: Allocator> EntriesTreeIter<'abbrev, 'tree, R,
     ///
     /// An entry whose `DW_AT_sibling` leads on in the unit is left for where it leads, with what is
     /// below it unread. So the children are those of plain walking where these references are
-    /// honest; where they are not, a child is still an entry of the unit, of the list's depth.
+    /// honest; where they are not, a child is still what decoding at its offset gives, told with
+    /// the list's depth.
     ///
     /// Refusals: those of `EntriesRaw::read_entry`. Every list of the tree is then at its end,
     /// until `root` is asked for.
