@@ -56,7 +56,7 @@ fn number(bytes: &[u8], mut place: usize) -> (u64, usize) {
     }
 }
 
-// The offsets of the tables of a section, which stand one after another, each up to a code 0.
+// The offsets of the tables of a section, which stand one after the other, each up to a code 0.
 pub fn tables(section: &[u8]) -> Vec<u64> {
     let mut offsets = vec![];
     let mut place = 0;

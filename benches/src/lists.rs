@@ -264,7 +264,7 @@ fn lists_of_unit(
     Ok(named)
 }
 
-// The two sections of lists of a kind one behind the other, and what names the lists: their number, where the section of
+// The two sections of lists of a kind one after the other, and what names the lists: their number, where the section of
 // addresses begins in it, and each list, in words of 8 bytes; then the section of addresses. Each list is named several
 // times, so that a round is not too short.
 pub fn named(

@@ -27,7 +27,7 @@ const ORDERS: [&str; 5] = [
     "whole slice",
 ];
 
-// The task of this number and those behind it read sections of the corpus with words in them, which is little endian.
+// The task of this number and those after it read sections of the corpus with words in them, which is little endian.
 const FIRST_OF_ENTRIES: u64 = 8;
 
 // Whether the peer's side of a task is built.

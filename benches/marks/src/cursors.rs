@@ -146,7 +146,7 @@ fn next_sibling<R: Reader>(
     }
 }
 
-// The first child of the root, and the sibling behind it.
+// The first child of the root, and the sibling after it.
 fn first_siblings<R: Reader>(
     sum: u64,
     cursor: &mut EntriesCursor<'_, R, Global>,

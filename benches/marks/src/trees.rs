@@ -20,7 +20,7 @@ fn with_node<R: Reader>(sum: u64, walker: &mut EntriesTreeWalker<'_, R, Global>)
     Ok(all)
 }
 
-// The next node of the innermost list; behind its last the walk goes on in the list around it.
+// The next node of the innermost list; after its last the walk goes on in the list around it.
 #[inline(always)]
 fn next_node<R: Reader>(sum: u64, walker: &mut EntriesTreeWalker<'_, R, Global>) -> Result<u64> {
     if walker.next()? {

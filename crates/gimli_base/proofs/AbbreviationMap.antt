@@ -10,7 +10,7 @@ if_same : (t : Bool) (x y z : Option Declaration) → y ≡ z
 if_same true x y z e = refl
 if_same false x y z e = e
 
--- behind the others a declaration is found where they have none of its code
+-- after the others a declaration is found where they have none of its code
 pub declaration_of-append : (xs : List Declaration) (d : Declaration) (ys : List Declaration)
     → declaration_of xs d.code ≡ None
     → declaration_of (xs ++ d ∷ ys) d.code ≡ Some d

@@ -4,10 +4,10 @@ use Rattle.std.proofs.Common.{arith}
 use Rattle.gimli_base.specs.declared.constants.DwTag.{DwTag}
 use Rattle.gimli_base.specs.View.{View}
 use Rattle.gimli_base.specs.Reading.{byte_at, uleb_at, uleb16_at, sleb_at}
-use Rattle.gimli_base.specs.Later.{LeavesLater, IsLater-none, IsLater-length, then_leaves_later}
-use Rattle.gimli_base.specs.Later.{made_leaves_later, if_leaves_later, ok_leaves_later}
-use Rattle.gimli_base.specs.Later.{err_leaves_later, weaker_leaves_later, byte_at-later}
-use Rattle.gimli_base.specs.Later.{uleb_at-later, uleb16_at-later, sleb_at-later}
+use Rattle.gimli_base.proofs.Later.{LeavesLater, IsLater-none, IsLater-length, then_leaves_later}
+use Rattle.gimli_base.proofs.Later.{made_leaves_later, if_leaves_later, ok_leaves_later}
+use Rattle.gimli_base.proofs.Later.{err_leaves_later, weaker_leaves_later, byte_at-later}
+use Rattle.gimli_base.proofs.Later.{uleb_at-later, uleb16_at-later, sleb_at-later}
 use Rattle.gimli_base.proofs.ItemTurns.{whole-later}
 use Rattle.gimli_base.specs.Abbreviations.{Specification, Declaration, specification_at}
 use Rattle.gimli_base.specs.Abbreviations.{specifications_at, children_at, tag_at, declared_at}

@@ -1,4 +1,4 @@
--- A turn of a loop that reads items one behind the other.
+-- A turn of a loop that reads items one after the other.
 use Rattle.std.specs.Prelude.{◌≡◌, ℕ, zero, suc, ◌<◌, List, [], ◌∷◌, ◌++◌, length, Option, Some}
 use Rattle.std.specs.Prelude.{None, Result, Ok, Err}
 use Rattle.std.proofs.Common.{refl, sym, ap, ◌∙◌, arith, append_assoc}
@@ -7,10 +7,11 @@ use Rattle.gimli_base.specs.declared.error.Error.{Error}
 use Rattle.gimli_base.specs.View.{View}
 use Rattle.gimli_base.specs.Reading.{Reads}
 use Rattle.gimli_base.specs.Items.{Items, before, then_items, items_within, items_at, whole}
-use Rattle.gimli_base.specs.Later.{IsLater, LeavesLater, IsLater-trans, ok_leaves_later}
-use Rattle.gimli_base.specs.Later.{err_leaves_later}
+use Rattle.gimli_base.specs.View.{IsLater}
+use Rattle.gimli_base.proofs.Later.{LeavesLater, IsLater-trans, ok_leaves_later}
+use Rattle.gimli_base.proofs.Later.{err_leaves_later}
 
--- behind the items xs the view v is left, and the rest of the items is read there
+-- after the items xs the view v is left, and the rest of the items is read there
 pub record ItemsSoFar {A : Type 0} (next : View → Reads (Option A)) (all : Items A) (xs : List A)
     (v : View) : Type 0 where
   pub fuel : ℕ

@@ -12,3 +12,6 @@ pub mod AbbreviationReads
 pub mod AbbreviationTable
 pub mod AbbreviationMap
 pub mod TableTurns
+pub mod Later
+pub mod Taken
+pub mod Passed

@@ -17,7 +17,7 @@ before_big : (n : ℕ) (xs : List ℕ) → number true (replicate n 0 ++ xs) ≡
 before_big zero xs = refl
 before_big (suc n) xs = before_big n xs
 
--- a zero behind a number in little endian
+-- a zero after a number in little endian
 behind_one : (xs : List ℕ) → number false (xs ++ 0 ∷ []) ≡ number false xs
 behind_one xs = rw (reverse-append xs (0 ∷ [])) refl
 

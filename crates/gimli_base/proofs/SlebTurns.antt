@@ -51,7 +51,7 @@ module _ (b : ℕ) (z : ℤ) (below : b < 128) (low : b < 64 → z ≡ pos b)
 pub sleb_first : (r : Reads ℤ) → r ≡ made (λ z. pos 0 +ℤ (pos 1 *ℤ z)) r
 sleb_first r = made_same (λ z. pos 0 +ℤ (pos 1 *ℤ z)) r (λ z. omega (arith, ints))
 
--- bits behind bits
+-- bits after bits
 behind_bits : (a b s : ℕ) (z : ℤ)
     → pos a +ℤ (pos s *ℤ (pos b +ℤ (pos 128 *ℤ z))) ≡ pos (a + b * s) +ℤ (pos (s * 128) *ℤ z)
 behind_bits a b s z =

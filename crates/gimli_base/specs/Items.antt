@@ -1,4 +1,4 @@
--- Items that are read one behind the other, up to a mark that ends them, as tables and lists of
+-- Items that are read one after the other, up to a mark that ends them, as tables and lists of
 -- DWARF are laid out.
 use Rattle.std.specs.Prelude.{ℕ, zero, suc, List, [], ◌∷◌, ◌++◌, length, Option, Some, None, Result}
 use Rattle.std.specs.Prelude.{Ok, Err}
@@ -6,7 +6,7 @@ use Rattle.gimli_base.specs.declared.error.Error.{Error}
 use Rattle.gimli_base.specs.View.{View}
 use Rattle.gimli_base.specs.Reading.{Reads, eof}
 
--- the items, and what is left behind the mark that ends them, or the refusal in its place
+-- the items, and what is left after the mark that ends them, or the refusal in its place
 pub record Items (A : Type 0) : Type 0 where
   pub items : List A
   pub ending : Result View Error
@@ -31,6 +31,6 @@ items_within next (suc n) v = then_items (next v) (items_within next n)
 unfoldable pub items_at : {A : Type 0} → (View → Reads (Option A)) → View → Items A
 items_at next v = items_within next (suc (length v.bytes)) v
 
--- the items, where nothing was refused, and what is left behind their mark
+-- the items, where nothing was refused, and what is left after their mark
 abbrev pub whole : {A : Type 0} → Items A → Reads (List A)
 whole r = elim r.ending [ Ok w ↦ Ok (r.items, w) | Err e ↦ Err e ]

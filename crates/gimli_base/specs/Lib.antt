@@ -5,9 +5,6 @@ pub mod Range
 pub mod Reading
 pub mod Refusal
 pub mod Items
-pub mod Later
-pub mod Taken
-pub mod Passed
 pub mod Abbreviations
 pub mod Table
 pub mod Width

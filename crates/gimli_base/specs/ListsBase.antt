@@ -12,7 +12,7 @@ use Rattle.gimli_base.specs.Reading.{initial_length_size_of}
 abbrev pub lists_header_size : Format → ℕ
 lists_header_size format = initial_length_size_of format + 2 + 1 + 1 + 4
 
--- in a split file of version 5 or later the table is the first of its section, behind the header;
+-- in a split file of version 5 or later the table is the first of its section, after the header;
 -- else the base is 0
 abbrev pub default_base : Encoding → DwarfFileType → ℕ
 default_base encoding Main = 0

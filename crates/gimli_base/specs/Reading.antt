@@ -189,3 +189,15 @@ UnlessMemory (Err e) p = (e ≡ OutOfMemory → ⊥) → p
 -- a pair, with another first part
 abbrev pub map_first : {A B C : Type 0} → (A → B) → A × C → B × C
 map_first f p = (f p.0, p.1)
+
+-- what a pass leaves, where the read of the same bytes succeeds
+abbrev pub PassesAs : {A : Type 0} → Reads (Unit {0}) → Reads A → Type 0
+PassesAs {A} pass r =
+    (a : A) (w : View) → ◌≡◌ {A = Reads A} (Ok (a, w)) r
+    → ◌≡◌ {A = Reads (Unit {0})} pass (Ok (tt, w))
+
+-- the answer of an iterator as that of a call that may be refused
+abbrev pub transposed : {A : Type 0} → Option (Result A Error) → Result (Option A) Error
+transposed None = Ok None
+transposed (Some (Ok a)) = Ok (Some a)
+transposed (Some (Err e)) = Err e

@@ -397,7 +397,7 @@ impl<R: Reader> DebugAbbrev<R> {
     /// The table of the declarations at an offset of the section, up to the code 0 (DWARF 5,
     /// 7.5.3).
     ///
-    /// Refusals: `UnexpectedEof`, also where the offset lies behind the section's end,
+    /// Refusals: `UnexpectedEof`, also where the offset lies after the section's end,
     /// `BadUnsignedLeb128`, `BadSignedLeb128`, `AbbreviationTagZero`,
     /// `InvalidAbbreviationChildren`, `AttributeNameZero`, `AttributeFormZero`,
     /// `DuplicateAbbreviationCode`, `OutOfMemory`.

@@ -51,7 +51,7 @@ impl<R: Reader> DebugAddr<R> {
     /// addresses of `address_size` bytes.
     ///
     /// Refusals: `UnexpectedEof`, where the base, the number of bytes before the address or the
-    /// address itself lies behind the section's end, with the section's first place, the table's or
+    /// address itself lies after the section's end, with the section's first place, the table's or
     /// the address's; `UnsupportedOffset`, where the number of bytes before the address does not
     /// fit the reader's offsets; `UnsupportedAddressSize`, where the size is not 1, 2, 4 or 8.
     #[tactic(auto, unfolding(crate::specs::Address::table_address))]

@@ -116,7 +116,7 @@ pub struct DebugLineStrOffset<Offset>(pub Offset);
 pub struct DebugLocListsBase<Offset>(pub Offset);
 
 impl<Offset: ReaderOffset> DebugLocListsBase<Offset> {
-    /// The base of a unit that names none: behind the section's header, 12 or 20 bytes by the
+    /// The base of a unit that names none: after the section's header, 12 or 20 bytes by the
     /// format, in a split file of version 5 or later, else 0 (DWARF 5, 7.29).
     pub fn default_for_encoding_and_file(encoding: Encoding, file_type: DwarfFileType) -> Self
         ensures { Offset.number result.0 ≡ default_base encoding file_type }
@@ -142,7 +142,7 @@ pub struct DebugMacroOffset<Offset>(pub Offset);
 pub struct DebugRngListsBase<Offset>(pub Offset);
 
 impl<Offset: ReaderOffset> DebugRngListsBase<Offset> {
-    /// The base of a unit that names none: behind the section's header, 12 or 20 bytes by the
+    /// The base of a unit that names none: after the section's header, 12 or 20 bytes by the
     /// format, in a split file of version 5 or later, else 0 (DWARF 5, 7.28).
     pub fn default_for_encoding_and_file(encoding: Encoding, file_type: DwarfFileType) -> Self
         ensures { Offset.number result.0 ≡ default_base encoding file_type }

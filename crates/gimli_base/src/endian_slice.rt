@@ -23,7 +23,7 @@ pub struct EndianSlice<'a, E, K = <E as Endianity>::Kept> {
     bytes: &'a [u8],
     // the byte order, as `E` has it kept
     kept: K,
-    // the place behind the last byte, which stays where bytes are passed
+    // the place after the last byte, which stays where bytes are passed
     end: u64,
     order: PhantomData<E>,
     ghost length_fits: { length bytes.now < 2 ^ 63 },

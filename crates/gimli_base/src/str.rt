@@ -60,7 +60,7 @@ impl<R: Reader> DebugStr<R> {
 
     /// The string at an offset of the section: its bytes before the first zero.
     ///
-    /// Refusal: `UnexpectedEof`, where the offset lies behind the section's end, with the section's
+    /// Refusal: `UnexpectedEof`, where the offset lies after the section's end, with the section's
     /// first place, and where no zero follows, with the place where the string begins.
     #[tactic(auto, unfolding(crate::specs::Reading::text_from))]
     pub fn get_str(&self, offset: DebugStrOffset<R::Offset>) -> Result<R>

@@ -169,7 +169,7 @@ impl<'a, E: Endianity> WholeSlice<'a, E> {
         }
     }
 
-    // The reader of the bytes behind the first `n`
+    // The reader of the bytes after the first `n`
     #[inline]
     #[tactic(auto, using(crate::proofs::Ranges::drop_range))]
     fn behind(&self, n: u32) -> Self

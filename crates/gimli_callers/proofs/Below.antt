@@ -7,11 +7,11 @@ use Rattle.gimli_base.specs.declared.error.Error.{Error}
 use Rattle.gimli_base.specs.declared.error.Error.TheVariants.{OutOfMemory}
 use Rattle.gimli_base.specs.Reading.{UnlessMemory}
 use Rattle.gimli_base.specs.Table.{found}
-use Rattle.gimli_base.specs.Later.{IsLater-length}
+use Rattle.gimli_base.proofs.Later.{IsLater-length}
 use Rattle.gimli_units.specs.Entry.{Entry, is_null}
 use Rattle.gimli_units.specs.RawPlace.{RawPlace, below_flag}
 use Rattle.gimli_units.specs.Rows.{Row, Ahead}
-use Rattle.gimli_units.specs.RowSteps.{ahead_ended}
+use Rattle.gimli_units.proofs.RowSteps.{ahead_ended}
 use Rattle.gimli_units.specs.Honest.{usable, IsHonest, AreHonestUntil}
 use Rattle.gimli_units.specs.CursorPlace.{Place, Moved, some_of, is_entry, has_depth, arrive, skip_until, seek}
 use Rattle.gimli_units.specs.CursorMoves.{CursorView, next_of, rows_of, place_of, last_row, view_from, IsHonestFor, IsOver, IsSound, IsTrueEntry}
@@ -68,7 +68,7 @@ none_below : (k n : ℕ) → counted_below k None n [] ≡ Ok n
 none_below zero n = refl
 none_below (suc k) n = refl
 
--- what is counted behind the first row
+-- what is counted after the first row
 abbrev pub below_after : ℕ → ℕ → Result Bool Error → Ahead → Option Entry → Result ℕ Error
 below_after k n (Ok true) a None = Ok n
 below_after k n (Ok true) a (Some e) = counted_below (if e.has_children then suc (suc k) else suc k) a.refusal (n + 1) a.rows

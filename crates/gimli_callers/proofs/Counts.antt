@@ -15,7 +15,7 @@ use Rattle.gimli_units.specs.TreeMoves.{TreeView, node_at, list_of, HasGoneOn, H
 use Rattle.gimli_units.specs.TreePlace.{TreeMoved, children_of}
 use Rattle.gimli_callers.specs.Children.{counted, count_in, count_below, children_counted}
 
--- what is counted behind a step
+-- what is counted after a step
 abbrev pub counted_after : ℤ → ℕ → Result Bool Error → Ahead → Result ℕ Error
 counted_after depth n (Ok true) a = counted depth a.refusal (n + 1) a.rows
 counted_after depth n (Ok false) a = Ok n

@@ -10,10 +10,10 @@ use Rattle.gimli_base.specs.View.{View}
 use Rattle.gimli_base.specs.Reading.{Reads, UnlessMemory}
 use Rattle.gimli_base.specs.Table.{found}
 use Rattle.gimli_units.specs.Entry.{Entry, is_null}
-use Rattle.gimli_units.specs.EntryReads.{entry_at-shorter}
+use Rattle.gimli_units.proofs.EntryReads.{entry_at-shorter}
 use Rattle.gimli_units.specs.RawPlace.{RawPlace, below_flag, depth_after}
 use Rattle.gimli_units.specs.Rows.{Row, Ahead}
-use Rattle.gimli_units.specs.RowChain.{AreRows, AreAhead, exist_rows}
+use Rattle.gimli_units.proofs.RowChain.{AreRows, AreAhead, exist_rows}
 use Rattle.gimli_units.specs.CursorPlace.{Place, Moved, is_entry, has_depth, arrive, skip_until, seek}
 use Rattle.gimli_units.specs.CursorMoves.{next_of, rows_of, place_of}
 use Rattle.gimli_units.proofs.PlaceLaw.{IsHonestCursor}
@@ -36,7 +36,7 @@ elsewhere a b h = cases (int_eq a b) refl
 differs : (a b : ℤ) → int_eq a b ≡ false → a ≡ b → ⊥
 differs a b h e = clash (sym h ∙ (Decides-int_eq a b).1 e)
 
--- what is counted behind a step of the inner list
+-- what is counted after a step of the inner list
 abbrev pub counted_then : ℤ → ℕ → Result Bool Error → Ahead → Result ℕ Error
 counted_then depth n (Ok b) a = counted depth a.refusal n a.rows
 counted_then depth n (Err e) a = Err e

@@ -1,4 +1,4 @@
--- The row of the first row's depth behind it, if there is one that is no null before a null of that depth (DWARF 5, 2.3).
+-- The row of the first row's depth after it, if there is one that is no null before a null of that depth (DWARF 5, 2.3).
 use Rattle.std.specs.Prelude.{ℕ, pos, true, false, Option, Some, None, Ok, Err}
 use Rattle.gimli_units.specs.Rows.{Ahead}
 use Rattle.gimli_units.specs.CursorPlace.{Place, Moved, next_row, next_of_depth}

@@ -14,11 +14,11 @@ use std::alloc::Allocator;
 
 // How many children a list still has.
 fn count<R: Reader, A: Allocator>(children: &mut EntriesTreeIter<'_, '_, R, A>) -> Result<usize>
-    requires shallow { children.old.open ≡ true → unsigned_abs children.old.depth < 2 ^ 63 }
+    requires shallow { children.old.is_open ≡ true → unsigned_abs children.old.depth < 2 ^ 63 }
     requires few { let cursor = children.old.tree.now.cursor in
         cursor.reads + length cursor.raw.rest.bytes < 2 ^ 63 }
     ensures counted { let cursor = children.old.tree.now.cursor in
-        let list = list_of children.old.open children.old.depth in
+        let list = list_of children.old.is_open children.old.depth in
         IsHonestCursor R.Offset.limit cursor → UnlessMemory result
         (result ≡ count_in list 0 (rows_of R.Offset.limit cursor.raw)) }
 {

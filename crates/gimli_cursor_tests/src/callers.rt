@@ -91,7 +91,7 @@ fn goes_over_the_children_of_the_root(rt: HostRuntime) -> Result<(), Fail> {
     Ok(())
 }
 
-// A root with a leaf behind an entry that has a child.
+// A root with a leaf after an entry that has a child.
 const BRANCHES: [u8; 8] = [0x01, 0x00, 0x01, 0x11, 0x02, 0x00, 0x02, 0x00];
 
 #[test]

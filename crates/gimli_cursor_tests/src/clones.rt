@@ -32,7 +32,7 @@ fn tries_clone<R: Reader>(
     Ok(())
 }
 
-// Tries a clone before each step: on entries, on nulls, at the end, and behind a refusal.
+// Tries a clone before each step: on entries, on nulls, at the end, and after a refusal.
 fn tries_clones<R: Reader>(
     rt: &impl Abort,
     alloc: Global,

@@ -8,7 +8,7 @@ use std::process::Abort;
 /// A step of a cursor.
 #[derive(Clone, Copy, Debug)]
 pub(crate) enum Step {
-    /// The next entry, or the null behind it.
+    /// The next entry, or the null after it.
     Entry,
     /// The next entry that is no null.
     Dfs,

@@ -42,7 +42,7 @@ pub(crate) fn write_reads<R: Reader, W: Write>(
     write_bytes(out, &reader)
 }
 
-/// Writes what a call answers for each size from 0 to 255, and the place behind it, and leaves out the sizes that it
+/// Writes what a call answers for each size from 0 to 255, and the place after it, and leaves out the sizes that it
 /// refuses as such, at the place where it began.
 pub(crate) fn write_sizes<R: Reader, W: Write>(
     out: &mut W,

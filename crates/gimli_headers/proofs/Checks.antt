@@ -11,8 +11,10 @@ use Rattle.gimli_units.specs.Rows.{Row}
 use Rattle.gimli_units.specs.CursorMoves.{rows_of}
 use Rattle.gimli_units.specs.Unit.{UnitView, whole_length, entries_of}
 use Rattle.gimli_units.specs.UnitRows.{unit_rows, start_view, IsHonestAt, IsHonestFrom, StandsAt}
-use Rattle.gimli_units.specs.FirstFalse.{first_false, none_false, honest_none}
-use Rattle.gimli_units.specs.LeastFalse.{IsLeastFalse, least_false}
+use Rattle.gimli_units.specs.FirstFalse.{first_false}
+use Rattle.gimli_units.proofs.LeastFalse.{none_false, honest_none}
+use Rattle.gimli_units.specs.FirstFalse.{IsLeastFalse}
+use Rattle.gimli_units.proofs.LeastFalse.{least_false}
 use Rattle.gimli_units.proofs.RowLaw.{honest_starts}
 
 -- a check from the root on is one of the unit

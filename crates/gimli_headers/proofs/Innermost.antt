@@ -12,7 +12,7 @@ use Rattle.gimli_headers.specs.OpenRows.{OpenRow, open_of, Rise, judged}
 use Rattle.gimli_headers.proofs.OpenTurns.{rise_out, rise_up, rise_on, null_passed, null_closed}
 use Rattle.gimli_headers.proofs.OpenTurns.{null_closed_badly}
 
--- the last of a list, behind the others
+-- the last of a list, after the others
 last_split : {X : Type 0} → (xs : List X) (x : X) → slice_get xs (length xs - 1) ≡ Some x
     → xs ≡ take (length xs - 1) xs ++ x ∷ []
 last_split [] x h = absurd (cc)
@@ -61,7 +61,7 @@ module _ {O : Type 0} (g : O → ℕ) (depth : ℤ) (items : List (Open O))
   pub none_rise : lasts ≡ None → Rise (depth -ℤ pos 1) (map (open_of g) items)
   none_rise h = rw (last_none items h) tt
 
-  -- where the innermost is not closed, each is less deep than what is behind the null
+  -- where the innermost is not closed, each is less deep than what is after the null
   pub other_rise : (x : Open O) → lasts ≡ Some x → ((x.depth +ℤ pos 1) ≡ depth → ⊥)
       → Rise (depth -ℤ pos 1) (map (open_of g) items)
   other_rise x h other =

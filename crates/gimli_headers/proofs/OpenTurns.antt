@@ -40,7 +40,7 @@ rise_up a b [] le h = tt
 rise_up a b (x ∷ xs) le h =
     (omega (arith, ints, h.0, outermost-up a b xs le), rise_up a b xs le h.1)
 
--- where the innermost is not closed at a depth, each is less deep than what is behind it
+-- where the innermost is not closed at a depth, each is less deep than what is after it
 pub rise_on : (depth : ℤ) (xs : List OpenRow) → Rise depth xs
     → ((outer : List OpenRow) (x : OpenRow) → xs ≡ outer ++ x ∷ [] → (x.depth +ℤ pos 1) ≡ depth → ⊥)
     → Rise (depth -ℤ pos 1) xs

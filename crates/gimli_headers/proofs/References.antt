@@ -7,14 +7,14 @@ use Rattle.gimli_units.specs.declared.attribute.Attribute.{Attribute}
 use Rattle.gimli_units.specs.declared.value.AttributeValue.{AttributeValue}
 use Rattle.gimli_units.specs.Value.{Value, map_value}
 use Rattle.gimli_units.specs.Entry.{is_null, entry_of_parts, first_of}
-use Rattle.gimli_units.specs.Kind.{kind_of, reference}
+use Rattle.gimli_units.specs.Kind.{kind_of, unit_reference}
 use Rattle.gimli_units.specs.Honest.{target}
 use Rattle.gimli_units.proofs.Jumps.{leads_to, target_of}
 
 -- where a value leads, if there is one
 abbrev pub value_leads : Option Value → Option ℕ
 value_leads None = None
-value_leads (Some x) = reference x
+value_leads (Some x) = unit_reference x
 
 pub entry_leads : {R O : Type 0}
     → (f : R → View) (g : O → ℕ) (tag : DwTag) (flag : Bool) (attrs : List (Attribute R O))

@@ -10,7 +10,7 @@ use Rattle.gimli_base.specs.Table.{Table, found}
 use Rattle.gimli_units.specs.Entry.{entry_at}
 use Rattle.gimli_units.specs.RawPlace.{RawPlace}
 use Rattle.gimli_units.specs.Rows.{Ahead}
-use Rattle.gimli_units.specs.RowSteps.{ahead_ended}
+use Rattle.gimli_units.proofs.RowSteps.{ahead_ended}
 use Rattle.gimli_units.specs.Unit.{UnitView, whole_length, header_size, range_from, entries_in}
 use Rattle.gimli_units.specs.Unit.{entries_from, entries_of}
 use Rattle.gimli_units.specs.UnitRows.{unit_rows}

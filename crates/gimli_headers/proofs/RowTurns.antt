@@ -8,17 +8,17 @@ use Rattle.std.proofs.lemmas.Int.{ints}
 use Rattle.gimli_base.specs.declared.error.Error.{Error}
 use Rattle.gimli_base.specs.Table.{found}
 use Rattle.gimli_units.specs.Entry.{Entry, is_null}
-use Rattle.gimli_units.specs.EntryReads.{entry_at-shorter}
+use Rattle.gimli_units.proofs.EntryReads.{entry_at-shorter}
 use Rattle.gimli_units.specs.RawPlace.{RawPlace, next_offset_of, below_flag, depth_after}
 use Rattle.gimli_units.specs.Rows.{Row, Ahead}
-use Rattle.gimli_units.specs.RowSteps.{ahead_ended, ahead_refused, ahead_more}
+use Rattle.gimli_units.proofs.RowSteps.{ahead_ended, ahead_refused, ahead_more}
 use Rattle.gimli_units.specs.CursorMoves.{next_of, rows_of}
 use Rattle.gimli_units.specs.Honest.{usable}
 use Rattle.gimli_headers.specs.OpenRows.{OpenRow, Checked, Rise, judged}
 use Rattle.gimli_headers.proofs.OpenTurns.{rise_in, rise_up, entry_found, entry_passed}
 use Rattle.gimli_headers.proofs.OpenTurns.{entry_opened}
 
--- the depth behind a null, and behind an entry
+-- the depth after a null, and after an entry
 null_after : (e : Entry) (d : ℤ) → is_null e ≡ true → (d -ℤ pos 1) ≤ℤ depth_after e d
 null_after e d null = rw null (cases e.has_children)
   where
@@ -73,7 +73,7 @@ if_ok (Err e) f h = tt
 
 module _ (end : ℕ) (opens : List OpenRow) (r : Row) (rest : List Row)
     (entry : is_null r.entry ≡ false) (rise : Rise r.depth opens) where
-  -- an entry behind a false reference that was found
+  -- an entry after a false reference that was found
   pub found_on : (first : Option ℕ) → is_some first ≡ true
       → judged end (record { opens = opens; first = first }) rest
       ≡ judged end (record { opens = opens; first = first }) (r ∷ rest)

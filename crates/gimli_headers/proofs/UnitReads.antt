@@ -12,12 +12,12 @@ use Rattle.gimli_base.specs.View.{View, cut}
 use Rattle.gimli_base.specs.Reading.{Reads, ◌>>=◌, made, byte_at, uint_at, offset_at}
 use Rattle.gimli_base.specs.Reading.{address_size_at, initial_length_at, initial_length_size_of}
 use Rattle.gimli_base.specs.Reading.{split_at, word_size_of}
-use Rattle.gimli_base.specs.Later.{split_at-front}
-use Rattle.gimli_base.specs.Taken.{TakenAfter, TakesAfter, Takes, taken, taken_length}
-use Rattle.gimli_base.specs.Taken.{TakenAfter-none, TakenAfter-trans, behind_takes, then_takes}
-use Rattle.gimli_base.specs.Taken.{made_takes, if_takes, ok_takes, err_takes, byte_at-takes}
-use Rattle.gimli_base.specs.Taken.{uint_at-takes, offset_at-takes, address_size_at-takes}
-use Rattle.gimli_base.specs.Taken.{initial_length_at-takes, split_at-takes}
+use Rattle.gimli_base.proofs.Later.{split_at-front}
+use Rattle.gimli_base.proofs.Taken.{TakenAfter, TakesAfter, Takes, taken, taken_length}
+use Rattle.gimli_base.proofs.Taken.{TakenAfter-none, TakenAfter-trans, behind_takes, then_takes}
+use Rattle.gimli_base.proofs.Taken.{made_takes, if_takes, ok_takes, err_takes, byte_at-takes}
+use Rattle.gimli_base.proofs.Taken.{uint_at-takes, offset_at-takes, address_size_at-takes}
+use Rattle.gimli_base.proofs.Taken.{initial_length_at-takes, split_at-takes}
 use Rattle.gimli_units.specs.Unit.{UnitView, whole_length, header_size, added_size, size_of_header}
 use Rattle.gimli_units.specs.declared.unit_type.UnitType.{UnitType}
 use Rattle.gimli_units.specs.declared.unit_type.UnitType.TheVariants.{Compilation, Partial}
@@ -27,11 +27,11 @@ use Rattle.gimli_headers.specs.Header.{Common, is_old, old_common_at, new_common
 use Rattle.gimli_headers.specs.Header.{signature_at, is_vendor, type_at, fields_at, unit_of}
 use Rattle.gimli_headers.specs.Header.{unit_in, unit_at}
 
--- the number of bytes of the fields that every header has, behind the length field
+-- the number of bytes of the fields that every header has, after the length field
 abbrev pub common_size : Format → Common → ℕ
 common_size format c = 2 + word_size_of format + 1 + (if c.version == 5 then 1 else 0)
 
--- the number of bytes of all fields behind the length field
+-- the number of bytes of all fields after the length field
 abbrev pub fields_size : Format → Common × UnitType ℕ → ℕ
 fields_size format fields = common_size format fields.0 + added_size format fields.1
 
@@ -143,7 +143,7 @@ pub record UnitRead (section : SectionId) (offset : ℕ) (v : View) (u : UnitVie
   pub rest : w ≡ cut (whole_length u) v
   pub size : size_of_header u ≡ header_size u
 
--- the header has the size of its kind, and what is left begins behind the whole length
+-- the header has the size of its kind, and what is left begins after the whole length
 pub unit_at-read : (limit : ℕ) (section : SectionId) (offset : ℕ) (v : View) (u : UnitView)
     (w : View) → Ok (u, w) ≡ unit_at limit section offset v → UnitRead section offset v u w
 unfolding unit_at

@@ -14,13 +14,15 @@ use Rattle.gimli_base.specs.declared.error.Error.{Error}
 use Rattle.gimli_base.specs.Offset.{answer_of}
 use Rattle.gimli_base.specs.View.{View, cut, ended}
 use Rattle.gimli_base.specs.Reading.{Reads, skip_at}
-use Rattle.gimli_base.specs.Later.{cut-cut}
+use Rattle.gimli_base.proofs.Later.{cut-cut}
 use Rattle.gimli_units.specs.Unit.{UnitView, whole_length}
 use Rattle.gimli_headers.specs.Header.{unit_at}
 use Rattle.gimli_headers.proofs.UnitReads.{unit_at-read, unit_at-shorter}
-use Rattle.gimli_headers.specs.Units.{UnitsPlace, Units, behind, no_units, then_unit, units_within}
-use Rattle.gimli_headers.specs.Units.{units_ahead, units_of, answers, next_unit, answered}
-use Rattle.gimli_headers.specs.Units.{transposed, IsNextUnit, unit_alone, header_at, Tile, EndsAt}
+use Rattle.gimli_headers.specs.Units.{UnitsPlace, Units, after_unit, no_units, then_unit}
+use Rattle.gimli_headers.specs.Units.{units_within}
+use Rattle.gimli_headers.specs.Units.{units_ahead, units_of, unit_answers, next_unit, before_units}
+use Rattle.gimli_base.specs.Reading.{transposed}
+use Rattle.gimli_headers.specs.Units.{IsNextUnit, unit_alone, header_at, Tile, EndsAt}
 use Rattle.gimli_headers.specs.Units.{Tiles, IsHeaderAt}
 
 module _ (limit : ℕ) (section : SectionId) where
@@ -41,16 +43,16 @@ module _ (limit : ℕ) (section : SectionId) where
   within_more : (n : ℕ) (p : UnitsPlace) (u : UnitView) (w : View) → (length p.rest.bytes ≡ 0 → ⊥)
       → Ok (u, w) ≡ unit_at limit section p.offset p.rest
       → units_within limit section (suc n) p
-      ≡ then_unit u (units_within limit section n (behind u p))
+      ≡ then_unit u (units_within limit section n (after_unit u p))
   unfolding units_within
   within_more n p u w some h =
       let t : (length p.rest.bytes == 0) ≡ false = ne_eqb (length p.rest.bytes) 0 some in
       rw (t, ← h) refl
 
-  -- fewer bytes are left behind a unit
+  -- fewer bytes are left after a unit
   shorter : (p : UnitsPlace) (u : UnitView) (w : View)
       → Ok (u, w) ≡ unit_at limit section p.offset p.rest
-      → length (behind u p).rest.bytes < length p.rest.bytes
+      → length (after_unit u p).rest.bytes < length p.rest.bytes
   shorter p u w h =
       let left = unit_at-shorter limit section p.offset p.rest u w h in
       let rest = ap (λ (v : View). length v.bytes)
@@ -80,7 +82,7 @@ module _ (limit : ℕ) (section : SectionId) where
       read (Err e) is some rest = within_refused m p e some is ∙ sym (within_refused n p e some is)
       read (Ok q) is some rest =
           within_more m p q.0 q.1 some is
-          ∙ ap (then_unit q.0) (rest (behind q.0 p) (shorter p q.0 q.1 is))
+          ∙ ap (then_unit q.0) (rest (after_unit q.0 p) (shorter p q.0 q.1 is))
           ∙ sym (within_more n p q.0 q.1 some is)
 
   -- where no byte is left there is no unit
@@ -99,10 +101,10 @@ module _ (limit : ℕ) (section : SectionId) where
       ap (λ k. units_within limit section k p) one
       ∙ within_refused (length p.rest.bytes - 1) p e some h
 
-  -- a unit, and then those behind its whole length
+  -- a unit, and then those after its whole length
   ahead_more : (p : UnitsPlace) (u : UnitView) (w : View) → (length p.rest.bytes ≡ 0 → ⊥)
       → Ok (u, w) ≡ unit_at limit section p.offset p.rest
-      → units_ahead limit section p ≡ then_unit u (units_ahead limit section (behind u p))
+      → units_ahead limit section p ≡ then_unit u (units_ahead limit section (after_unit u p))
   unfolding units_ahead
   ahead_more p u w some h =
       let one : length p.rest.bytes ≡ suc (length p.rest.bytes - 1) = omega (arith, some) in
@@ -110,7 +112,7 @@ module _ (limit : ℕ) (section : SectionId) where
       ap (λ k. units_within limit section k p) one
       ∙ within_more (length p.rest.bytes - 1) p u w some h
       ∙ ap (then_unit u)
-      (within_enough (length p.rest.bytes - 1) (length (behind u p).rest.bytes) (behind u p)
+      (within_enough (length p.rest.bytes - 1) (length (after_unit u p).rest.bytes) (after_unit u p)
       (omega (arith, lt)) (omega arith))
 
   abbrev Next : Type 0
@@ -124,7 +126,7 @@ module _ (limit : ℕ) (section : SectionId) where
 
   ahead_next : (p : UnitsPlace)
       → units_ahead limit section p
-      ≡ answered (next_unit limit section p).0
+      ≡ before_units (next_unit limit section p).0
       (units_ahead limit section (next_unit limit section p).1)
   unfolding next_unit
   ahead_next p = elim (eqb_tells (length p.rest.bytes) 0) [
@@ -135,7 +137,7 @@ module _ (limit : ℕ) (section : SectionId) where
       read : (r : Reads UnitView) → r ≡ unit_at limit section p.offset p.rest
           → (length p.rest.bytes ≡ 0 → ⊥)
           → units_ahead limit section p
-          ≡ answered (next_by p r).0 (units_ahead limit section (next_by p r).1)
+          ≡ before_units (next_by p r).0 (units_ahead limit section (next_by p r).1)
       read (Err e) is some = ahead_refused p e some is
       read (Ok q) is some =
           let place = ap (λ w. record { rest = w; offset = p.offset + whole_length q.0 })
@@ -147,11 +149,11 @@ module _ (limit : ℕ) (section : SectionId) where
   -- it leaves
   pub ahead_after : (p q : UnitsPlace) (a : Result (Option UnitView) Error)
       → ◌≡◌ {A = Next} (a, q) (next_unit limit section p)
-      → units_ahead limit section p ≡ answered a (units_ahead limit section q)
+      → units_ahead limit section p ≡ before_units a (units_ahead limit section q)
   ahead_after p q a h =
-      ahead_next p ∙ ap (λ (n : Next). answered n.0 (units_ahead limit section n.1)) (sym h)
+      ahead_next p ∙ ap (λ (n : Next). before_units n.0 (units_ahead limit section n.1)) (sym h)
 
-  -- behind a refusal nothing is left
+  -- after a refusal nothing is left
   refused_ended : (p q : UnitsPlace) (e : Error)
       → ◌≡◌ {A = Next} (Err e, q) (next_unit limit section p) → length q.rest.bytes ≡ 0
   unfolding next_unit
@@ -179,7 +181,7 @@ module _ (limit : ℕ) (section : SectionId) where
 
   -- the answers ahead of a place
   abbrev pub answers_ahead : UnitsPlace → List (Result UnitView Error)
-  answers_ahead p = answers (units_ahead limit section p)
+  answers_ahead p = unit_answers (units_ahead limit section p)
 
   -- an item of the iterator, whose units stand for f of them, is the first of the answers ahead
   pub first_answer : {A : Type 0}
@@ -187,10 +189,10 @@ module _ (limit : ℕ) (section : SectionId) where
       → IsNextUnit limit section p (answer_of (option_map f) (transposed r)) q
       → MatchOption r (answers_ahead p ≡ [])
       (λ x. answers_ahead p ≡ answer_of f x ∷ answers_ahead q)
-  first_answer f p None q h = ap answers h.ahead
-  first_answer f p (Some (Ok u)) q h = ap answers h.ahead
+  first_answer f p None q h = ap unit_answers h.ahead
+  first_answer f p (Some (Ok u)) q h = ap unit_answers h.ahead
   first_answer f p (Some (Err e)) q h =
-      ap answers h.ahead ∙ ap (λ us. Err e ∷ answers us)
+      ap unit_answers h.ahead ∙ ap (λ us. Err e ∷ unit_answers us)
       (sym (ahead_ended q (refused_ended p q e h.is)))
 
   module _ (v : View) where
@@ -204,7 +206,7 @@ module _ (limit : ℕ) (section : SectionId) where
     header_at-here o le = let t : nat_le o (length v.bytes) ≡ true = le-leb o (length v.bytes) le in
         rw t refl
 
-    behind-here : (o : ℕ) (u : UnitView) → behind u (place_at o) ≡ place_at (o + whole_length u)
+    behind-here : (o : ℕ) (u : UnitView) → after_unit u (place_at o) ≡ place_at (o + whole_length u)
     behind-here o u = ap (λ w. record { rest = w; offset = o + whole_length u })
         (cut-cut o (whole_length u) v)
 

@@ -72,7 +72,7 @@ new_common_at limit format version v =
       abbreviations.1,
     )
 
--- the fields behind the length, up to those that the type adds
+-- the fields after the length, up to those that the type adds
 unfoldable pub common_at : ℕ → SectionId → Format → View → Reads Common
 common_at limit section format v = uint_at 2 v >>= λ version.
     if is_old version.0 then old_common_at limit section format version.0 version.1
@@ -103,7 +103,7 @@ type_at limit format code v =
     else if is_vendor code then Ok (Vendor (record { 0 = code }), v)
     else Err (UnknownUnitType (record { 0 = code }))
 
--- the fields behind the length; an unknown type is refused behind the fields that all have
+-- the fields after the length; an unknown type is refused after the fields that all have
 unfoldable pub fields_at : ℕ → SectionId → Format → View → Reads (Common × UnitType ℕ)
 fields_at limit section format v = common_at limit section format v >>= λ common.
     made (λ kind. (common.0, kind)) (type_at limit format common.0.type_code common.1)
@@ -121,7 +121,7 @@ unit_of section offset field fields entries = record {
   entries = entries;
 }
 
--- the unit of the fields that were read from its own bytes; what is left begins behind those
+-- the unit of the fields that were read from its own bytes; what is left begins after those
 abbrev pub unit_in : SectionId → ℕ → ℕ × Format → Reads (Common × UnitType ℕ) → View
     → Reads UnitView
 unit_in section offset field (Ok fields) rest =
@@ -129,7 +129,7 @@ unit_in section offset field (Ok fields) rest =
 unit_in section offset field (Err e) rest = Err e
 
 -- The next unit, which begins at an offset of its section: a length, and that many bytes, in which
--- the entries follow the fields. What is left begins behind the unit's whole length.
+-- the entries follow the fields. What is left begins after the unit's whole length.
 unfoldable pub unit_at : ℕ → SectionId → ℕ → View → Reads UnitView
 unit_at limit section offset v =
     initial_length_at limit v >>= λ field. split_at field.0.0 field.1 >>= λ own.

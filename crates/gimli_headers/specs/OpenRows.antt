@@ -33,7 +33,7 @@ abbrev pub checked : {O A : Type 0} → (O → ℕ) → Check O A → Checked
 checked g c =
     record { opens = map (open_of g) c.open.items; first = option_map (λ o. g o.0) c.first }
 
--- the row of an entry that code holds, with the offset of what is behind it
+-- the row of an entry that code holds, with the offset of what is after it
 abbrev pub row_of : {R A O : Type 0} → (R → View) → (O → ℕ) → DebuggingInformationEntry R A O → ℕ
     → Row
 row_of f g e behind =
@@ -49,7 +49,7 @@ abbrev pub Rise : ℤ → List OpenRow → Type 0
 Rise depth [] = Unit {0}
 Rise depth (x ∷ xs) = ((x.depth +ℤ pos 1) ≤ℤ outermost depth xs) × Rise depth xs
 
--- the offset of the outermost of these whose reference is false, where these rows are behind; or
+-- the offset of the outermost of these whose reference is false, where these rows follow; or
 -- else what is given
 abbrev pub first_open : List OpenRow → List Row → Option ℕ → Option ℕ
 first_open [] rest other = other

@@ -1,4 +1,4 @@
--- The units of a section, one behind the other (DWARF 5, 7.5.1).
+-- The units of a section, one after the other (DWARF 5, 7.5.1).
 use Rattle.std.specs.Prelude.{◌≡◌, ℕ, zero, suc, ◌+◌, ◌<◌, ◌==◌, if◌then◌else◌, List, [], ◌∷◌, ◌++◌}
 use Rattle.std.specs.Prelude.{map, length, Option, Some, None, Result, Ok, Err, IfOk, IfSome}
 use Rattle.gimli_base.specs.declared.common.SectionId.{SectionId}
@@ -13,11 +13,11 @@ pub record UnitsPlace : Type 0 where
   pub rest : View
   pub offset : ℕ
 
--- the place behind the whole length of a unit
-abbrev pub behind : UnitView → UnitsPlace → UnitsPlace
-behind u p = record { rest = cut (whole_length u) p.rest; offset = p.offset + whole_length u }
+-- the place after the whole length of a unit
+abbrev pub after_unit : UnitView → UnitsPlace → UnitsPlace
+after_unit u p = record { rest = cut (whole_length u) p.rest; offset = p.offset + whole_length u }
 
--- units one behind the other, and the refusal that ends them, if it isn't the end of the bytes
+-- units one after the other, and the refusal that ends them, if it isn't the end of the bytes
 pub record Units : Type 0 where
   pub units : List UnitView
   pub refusal : Option Error
@@ -38,7 +38,7 @@ units_within limit section zero p = no_units None
 units_within limit section (suc n) p =
     if length p.rest.bytes == 0 then no_units None
     else elim (unit_at limit section p.offset p.rest) [
-      | Ok q ↦ then_unit q.0 (units_within limit section n (behind q.0 p))
+      | Ok q ↦ then_unit q.0 (units_within limit section n (after_unit q.0 p))
       | Err e ↦ no_units (Some e)
     ]
 
@@ -50,11 +50,11 @@ abbrev pub units_of : ℕ → SectionId → View → Units
 units_of limit section v = units_ahead limit section (record { rest = v; offset = 0 })
 
 -- each unit as an answer, and then the refusal
-abbrev pub answers : Units → List (Result UnitView Error)
-answers us = map Ok us.units ++ elim us.refusal [ None ↦ [] | Some e ↦ Err e ∷ [] ]
+abbrev pub unit_answers : Units → List (Result UnitView Error)
+unit_answers us = map Ok us.units ++ elim us.refusal [ None ↦ [] | Some e ↦ Err e ∷ [] ]
 
 -- The next unit of a section, and the place that its reading leaves: none where nothing is left,
--- and behind a refusal nothing is left.
+-- and after a refusal nothing is left.
 unfoldable pub next_unit : ℕ → SectionId → UnitsPlace → Result (Option UnitView) Error × UnitsPlace
 next_unit limit section p =
     if length p.rest.bytes == 0 then (Ok None, p)
@@ -64,26 +64,20 @@ next_unit limit section p =
     ]
 
 -- an answer before units
-abbrev pub answered : Result (Option UnitView) Error → Units → Units
-answered (Ok None) us = no_units None
-answered (Ok (Some u)) us = then_unit u us
-answered (Err e) us = no_units (Some e)
-
--- the answer of an iterator as that of a call that may be refused
-abbrev pub transposed : {A : Type 0} → Option (Result A Error) → Result (Option A) Error
-transposed None = Ok None
-transposed (Some (Ok a)) = Ok (Some a)
-transposed (Some (Err e)) = Err e
+abbrev pub before_units : Result (Option UnitView) Error → Units → Units
+before_units (Ok None) us = no_units None
+before_units (Ok (Some u)) us = then_unit u us
+before_units (Err e) us = no_units (Some e)
 
 -- What an iterator answers at a place, and the place that it leaves: the next unit. The units ahead
 -- are that one, whose header has the size of its kind, and those ahead of the place that is left.
 pub record IsNextUnit (limit : ℕ) (section : SectionId) (p : UnitsPlace)
     (a : Result (Option UnitView) Error) (q : UnitsPlace) : Type 0 where
   pub is : (a, q) ≡ next_unit limit section p
-  pub ahead : units_ahead limit section p ≡ answered a (units_ahead limit section q)
+  pub ahead : units_ahead limit section p ≡ before_units a (units_ahead limit section q)
   pub size : IfOk a (λ o. IfSome o (λ u. size_of_header u ≡ header_size u))
 
--- a unit, without what is left behind it
+-- a unit, without what is left after it
 abbrev pub unit_alone : Reads UnitView → Result UnitView Error
 unit_alone (Ok p) = Ok p.0
 unit_alone (Err e) = Err e
@@ -93,7 +87,7 @@ unfoldable pub header_at : ℕ → SectionId → ℕ → View → Result UnitVie
 header_at limit section offset v =
     unit_alone (skip_at offset v >>= λ p. unit_at limit section offset p.1)
 
--- units that lie one behind the other, the first at `start`, and the last up to `end`
+-- units that lie one after the other, the first at `start`, and the last up to `end`
 abbrev pub Tile : ℕ → List UnitView → ℕ → Type 0
 Tile start [] end = start ≡ end
 Tile start (u ∷ us) end = (u.offset ≡ start) × Tile (start + whole_length u) us end

@@ -9,8 +9,9 @@ ghost use Rattle.gimli_base.specs.declared.common.SectionId.TheVariants.{DebugIn
 ghost use Rattle.gimli_base.specs.Offset.{answer_of};
 ghost use Rattle.gimli_base.specs.View.{View};
 ghost use Rattle.gimli_units.specs.Unit.{header_size, size_of_header};
-ghost use Rattle.gimli_headers.specs.Units.{UnitsPlace, next_unit, header_at, transposed};
-ghost use Rattle.gimli_headers.specs.Units.{IsNextUnit, units_ahead, units_of, answered, Tiles};
+ghost use Rattle.gimli_headers.specs.Units.{UnitsPlace, next_unit, header_at};
+ghost use Rattle.gimli_base.specs.Reading.{transposed};
+ghost use Rattle.gimli_headers.specs.Units.{IsNextUnit, units_ahead, units_of, before_units, Tiles};
 ghost use Rattle.gimli_headers.specs.Units.{IsHeaderAt};
 ghost use Rattle.gimli_units.specs.UnitHeld.{unit_view};
 
@@ -86,7 +87,7 @@ impl<R: Reader> DebugInfo<R> {
 
     /// The header of the unit at an offset of the section.
     ///
-    /// Refusals: `UnexpectedEof`, also where the offset lies behind the section's end, and those of
+    /// Refusals: `UnexpectedEof`, also where the offset lies after the section's end, and those of
     /// `next` of the units.
     #[tactic(auto, unfolding(crate::specs::Units::header_at))]
     pub fn header_from_offset(&self, offset: DebugInfoOffset<R::Offset>) -> Result<UnitHeader<R>>
@@ -104,7 +105,7 @@ impl<R: Reader> DebugInfo<R> {
         )
     }
 
-    /// The units of the section, from its beginning on: they lie one behind the other, and each is
+    /// The units of the section, from its beginning on: they lie one after the other, and each is
     /// the one at its offset.
     pub fn units(&self) -> DebugInfoUnitHeadersIter<R>
         ensures begin { result
@@ -124,7 +125,7 @@ impl<R: Reader> DebugInfo<R> {
     }
 }
 
-/// The units of `.debug_info`, one behind the other.
+/// The units of `.debug_info`, one after the other.
 #[derive(Debug, Drop)]
 pub struct DebugInfoUnitHeadersIter<R: Reader> {
     input: R,
@@ -160,7 +161,7 @@ impl<R: Reader> DebugInfoUnitHeadersIter<R> {
         ensures value { (answer_of (option_map unit_view) result, self.new)
             ≡ next_unit R.Offset.limit InfoSection self.old }
         ensures ahead { units_ahead R.Offset.limit InfoSection self.old
-            ≡ answered (answer_of (option_map unit_view) result)
+            ≡ before_units (answer_of (option_map unit_view) result)
             (units_ahead R.Offset.limit InfoSection self.new) }
         ensures size { IfOk result
             (λ unit. IfSome unit (λ u. size_of_header (unit_view u) ≡ header_size (unit_view u))) }

@@ -9,8 +9,9 @@ ghost use Rattle.gimli_base.specs.declared.common.SectionId.TheVariants.{DebugTy
 ghost use Rattle.gimli_base.specs.Offset.{answer_of};
 ghost use Rattle.gimli_base.specs.View.{View};
 ghost use Rattle.gimli_units.specs.Unit.{header_size, size_of_header};
-ghost use Rattle.gimli_headers.specs.Units.{UnitsPlace, next_unit, transposed, IsNextUnit};
-ghost use Rattle.gimli_headers.specs.Units.{units_ahead, units_of, answered, Tiles, IsHeaderAt};
+ghost use Rattle.gimli_headers.specs.Units.{UnitsPlace, next_unit, IsNextUnit};
+ghost use Rattle.gimli_base.specs.Reading.{transposed};
+ghost use Rattle.gimli_headers.specs.Units.{units_ahead, units_of, before_units, Tiles, IsHeaderAt};
 ghost use Rattle.gimli_units.specs.UnitHeld.{unit_view};
 
 use crate::units::next_header;
@@ -82,7 +83,7 @@ impl<R: Reader> DebugTypes<R> {
         }
     }
 
-    /// The units of the section, from its beginning on: they lie one behind the other, and each is
+    /// The units of the section, from its beginning on: they lie one after the other, and each is
     /// the one at its offset.
     pub fn units(&self) -> DebugTypesUnitHeadersIter<R>
         ensures begin { result
@@ -102,7 +103,7 @@ impl<R: Reader> DebugTypes<R> {
     }
 }
 
-/// The units of `.debug_types`, one behind the other.
+/// The units of `.debug_types`, one after the other.
 #[derive(Debug, Drop)]
 pub struct DebugTypesUnitHeadersIter<R: Reader> {
     input: R,
@@ -138,7 +139,7 @@ impl<R: Reader> DebugTypesUnitHeadersIter<R> {
         ensures value { (answer_of (option_map unit_view) result, self.new)
             ≡ next_unit R.Offset.limit TypesSection self.old }
         ensures ahead { units_ahead R.Offset.limit TypesSection self.old
-            ≡ answered (answer_of (option_map unit_view) result)
+            ≡ before_units (answer_of (option_map unit_view) result)
             (units_ahead R.Offset.limit TypesSection self.new) }
         ensures size { IfOk result
             (λ unit. IfSome unit (λ u. size_of_header (unit_view u) ≡ header_size (unit_view u))) }

@@ -44,7 +44,7 @@ fn implied_type(section: SectionId) -> DwUt
     }
 }
 
-// The fields of versions 2 to 4, behind the version; where they are refused, the input is left
+// The fields of versions 2 to 4, after the version; where they are refused, the input is left
 // anywhere.
 #[tactic(auto, unfolding(crate::specs::Header::old_common_at))]
 fn parse_old_common<R: Reader>(
@@ -66,7 +66,7 @@ fn parse_old_common<R: Reader>(
     })
 }
 
-// The fields of version 5, behind the version; where they are refused, the input is left anywhere.
+// The fields of version 5, after the version; where they are refused, the input is left anywhere.
 #[tactic(auto, unfolding(crate::specs::Header::new_common_at))]
 fn parse_new_common<R: Reader>(
     input: &mut R,
@@ -87,7 +87,7 @@ fn parse_new_common<R: Reader>(
     })
 }
 
-// The fields behind a length field, up to those that the type adds; where they are refused, the
+// The fields after a length field, up to those that the type adds; where they are refused, the
 // input is left anywhere.
 #[tactic(auto, unfolding(crate::specs::Header::common_at))]
 fn parse_common<R: Reader>(

@@ -7,7 +7,7 @@ ghost use Rattle.gimli_base.specs.declared.error.Error.TheVariants.{OutOfMemory}
 ghost use Rattle.gimli_base.specs.Table.{found};
 ghost use Rattle.gimli_units.specs.Entry.{entry_of, is_null};
 ghost use Rattle.gimli_units.specs.Value.{map_value};
-ghost use Rattle.gimli_units.specs.Kind.{kind_of, reference};
+ghost use Rattle.gimli_units.specs.Kind.{kind_of, unit_reference};
 ghost use Rattle.gimli_units.specs.RawPlace.{depth_after};
 ghost use Rattle.gimli_units.specs.Rows.{Row};
 ghost use Rattle.gimli_units.specs.Honest.{target, within};
@@ -17,7 +17,7 @@ ghost use Rattle.gimli_units.specs.UnitHeld.{unit_view};
 ghost use Rattle.gimli_units.specs.UnitRows.{unit_rows, start_view, IsHonestAt, IsHonestFrom};
 ghost use Rattle.gimli_units.specs.UnitRows.{StandsAt};
 ghost use Rattle.gimli_units.specs.FirstFalse.{first_false};
-ghost use Rattle.gimli_units.specs.LeastFalse.{IsLeastFalse};
+ghost use Rattle.gimli_units.specs.FirstFalse.{IsLeastFalse};
 ghost use Rattle.gimli_headers.specs.OpenRows.{OpenRow, open_of, checked, row_of, Rise, judged};
 
 use gimli_base::{Abbreviations, DW_AT_sibling, Error, Reader, ReaderOffset, Result};
@@ -44,7 +44,7 @@ struct Check<Offset, A: Allocator> {
 // Where a value leads in its unit, if it is a reference there.
 fn reference<R: Reader>(value: &AttributeValue<R>) -> Option<UnitOffset<R::Offset>>
     ensures { let number = R.Offset.number in
-        option_map (λ o. number o.0) result ≡ reference (map_value R.view number value.now) }
+        option_map (λ o. number o.0) result ≡ unit_reference (map_value R.view number value.now) }
 {
     match value {
         AttributeValue::UnitRef(offset) => Some(*offset),
@@ -69,7 +69,7 @@ fn sibling<R: Reader, A: Allocator>(
     }
 }
 
-// Where it leads, if it can be followed: not before what is behind the entry, and not past the end.
+// Where it leads, if it can be followed: not before what is after the entry, and not past the end.
 fn usable<R: Reader, A: Allocator>(
     entry: &DebuggingInformationEntry<R, A>,
     behind: UnitOffset<R::Offset>,
@@ -99,7 +99,7 @@ impl<Offset: ReaderOffset, A: Allocator> Check<Offset, A> {
         }
     }
 
-    // Goes behind a null of this depth, which may close the innermost open entry.
+    // Goes after a null of this depth, which may close the innermost open entry.
     fn close(&mut self, depth: isize, behind: UnitOffset<Offset>)
         requires { Rise depth (checked Offset.number self.old).opens }
         ensures judged { (end : ℕ) (r : Row) (rest : List Row) → is_null r.entry ≡ true →
@@ -173,7 +173,7 @@ impl<Offset: ReaderOffset, A: Allocator> Check<Offset, A> {
     }
 }
 
-// Goes behind an entry or a null, with the offsets of what is behind it and of the end. Refusal:
+// Goes after an entry or a null, with the offsets of what is after it and of the end. Refusal:
 // `OutOfMemory`.
 fn go_behind<R: Reader, A: Allocator>(
     check: &mut Check<R::Offset, A>,

@@ -12,7 +12,7 @@ use gimli_base::{Reader, ReaderOffset, Result, SectionId};
 use gimli_units::{UnitHeader, UnitSectionOffset};
 
 // The next unit of a section, of which `input` is left and begins at `offset`: none where nothing
-// is left. Behind a refusal nothing is left.
+// is left. After a refusal nothing is left.
 #[tactic(auto, unfolding(crate::specs::Units::next_unit))]
 pub(crate) fn next_header<R: Reader>(
     input: &mut R,

@@ -7,7 +7,7 @@ use gimli_headers::DebugInfo;
 use gimli_units::DebugInfoOffset;
 use std::process::Abort;
 
-// A unit of version 2, and behind it a skeleton unit; three bytes of entries each.
+// A unit of version 2, and after it a skeleton unit; three bytes of entries each.
 const TWO_UNITS: [u8; 37] = [
     0x0a, 0x00, 0x00, 0x00, 0x02, 0x00, 0x78, 0x56, 0x34, 0x12, 0x04, 0xe1, 0xe2, 0xe3, 0x13, 0x00,
     0x00, 0x00, 0x05, 0x00, 0x04, 0x04, 0x78, 0x56, 0x34, 0x12, 0xc8, 0xc7, 0xc6, 0xc5, 0xc4, 0xc3,
@@ -90,7 +90,7 @@ fn answers_each_call(rt: HostRuntime) {
     let first = section.header_from_offset(DebugInfoOffset(0));
     assert_eq!(rt; next_of(&mut items), Some(first));
     assert!(rt; next_of(&mut items).is_some() && next_of(&mut items).is_none());
-    // behind a refusal nothing is left
+    // after a refusal nothing is left
     let section = DebugInfo::new(&TWO_UNITS[..20], LittleEndian);
     let mut items = section.units();
     assert!(rt; next_of(&mut items).is_some());

@@ -90,7 +90,7 @@ fn answers_each_call(rt: HostRuntime) {
     let mut items = section.units();
     assert!(rt; next_of(&mut items).is_some());
     assert!(rt; next_of(&mut items).is_some() && next_of(&mut items).is_none());
-    // behind a refusal nothing is left
+    // after a refusal nothing is left
     let section = DebugTypes::new(&TWO_UNITS[..30], LittleEndian);
     let mut items = section.units();
     assert!(rt; next_of(&mut items).is_some());

@@ -6,7 +6,7 @@ use gimli_lists::ListsHeader;
 use std::io::{self, Write};
 use test_tables::write_refusal;
 
-/// Writes the header at the beginning of a section, and behind `left` what is left then.
+/// Writes the header at the beginning of a section, and after `left` what is left then.
 pub(crate) fn write_lists_header<R: Reader, W: Write>(out: &mut W, section: R) -> io::Result<()> {
     let mut input = section;
     match ListsHeader::parse(&mut input) {

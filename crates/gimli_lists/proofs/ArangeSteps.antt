@@ -7,7 +7,8 @@ use Rattle.gimli_base.specs.declared.error.Error.{Error}
 use Rattle.gimli_base.specs.View.{View}
 use Rattle.gimli_base.specs.Reading.{is_size}
 use Rattle.gimli_lists.specs.declared.aranges.entries.ArangeEntry.{ArangeEntry}
-use Rattle.gimli_lists.specs.Aranges.{raw_entry, converted, answer_to, first_of_tuples, raw_entries}
+use Rattle.gimli_lists.specs.Aranges.{raw_entry, converted_arange, answer_to, first_of_tuples}
+use Rattle.gimli_lists.specs.Aranges.{raw_entries}
 use Rattle.gimli_lists.specs.Aranges.{aranges_of}
 use Rattle.gimli_lists.proofs.TupleSteps.{some_bytes, through, continued, first_through}
 use Rattle.gimli_lists.proofs.TupleSteps.{made_of-none}
@@ -17,7 +18,7 @@ module _ (z : ℕ) (sized : is_size z ≡ true) where
   Answer = Result (Option ArangeEntry) Error
 
   abbrev answer : ArangeEntry → Option (Result ArangeEntry Error)
-  answer e = result_transpose (converted z e)
+  answer e = result_transpose (converted_arange z e)
 
   -- o is the next raw entry at v, and w is left
   pub record NextRaw (v : View) (o : Option ArangeEntry) (w : View) : Type 0 where
@@ -41,7 +42,7 @@ module _ (z : ℕ) (sized : is_size z ≡ true) where
       first_through z (some_bytes z sized) raw_entry answer v ∙ sym (at_entry ∙ at_rest)
 
   by_answer : (v : View) (e : ArangeEntry) (w : View) (a : Answer) → NextRaw v (Some e) w
-      → a ≡ converted z e
+      → a ≡ converted_arange z e
       → first_of_tuples (answer_to z) z v
       ≡ continued z (some_bytes z sized) raw_entry answer (result_transpose a) w
   by_answer v e w a r h =
@@ -56,18 +57,18 @@ module _ (z : ℕ) (sized : is_size z ≡ true) where
 
   -- the raw entry is refused
   pub range_refused : (v : View) (e : ArangeEntry) (w : View) (x : Error) → NextRaw v (Some e) w
-      → Err x ≡ converted z e → first_of_tuples (answer_to z) z v ≡ (Some (Err x), w)
+      → Err x ≡ converted_arange z e → first_of_tuples (answer_to z) z v ≡ (Some (Err x), w)
   range_refused v e w x r h = by_answer v e w (Err x) r h
 
   -- the raw entry is a range
   pub range_found : (v : View) (e : ArangeEntry) (w : View) (found : ArangeEntry)
-      → NextRaw v (Some e) w → Ok (Some found) ≡ converted z e
+      → NextRaw v (Some e) w → Ok (Some found) ≡ converted_arange z e
       → first_of_tuples (answer_to z) z v ≡ (Some (Ok found), w)
   range_found v e w found r h = by_answer v e w (Ok (Some found)) r h
 
   -- the raw entry stands for none
   pub range_dropped : (v : View) (e : ArangeEntry) (w : View) → NextRaw v (Some e) w
-      → Ok None ≡ converted z e
+      → Ok None ≡ converted_arange z e
       → first_of_tuples (answer_to z) z v ≡ first_of_tuples (answer_to z) z w
   range_dropped v e w r h = by_answer v e w (Ok None) r h
 

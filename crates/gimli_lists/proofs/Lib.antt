@@ -6,3 +6,5 @@ pub mod TupleReads
 pub mod TupleSteps
 pub mod ArangeSteps
 pub mod SecondCall
+pub mod ListSteps
+pub mod PayloadSteps

@@ -10,32 +10,33 @@ use Rattle.gimli_base.specs.Offset.{answer_of}
 use Rattle.gimli_base.specs.View.{View, ended}
 use Rattle.gimli_base.specs.Reading.{Reads, skip_at}
 use Rattle.gimli_lists.specs.declared.lists.ListsFormat.{ListsFormat}
-use Rattle.gimli_lists.specs.RawList.{Entry, no_entries, then_entry, EntryReads, used_up}
+use Rattle.gimli_lists.specs.RawList.{ListEntry, no_entries, then_entry, EntryReads, used_up}
 use Rattle.gimli_lists.specs.RawList.{end_of_list, refused, RawList, list_at, left_by, next_entry}
 use Rattle.gimli_lists.specs.RawList.{IsFirstOf}
-use Rattle.gimli_lists.specs.ListSteps.{list_ended, list_end, list_refused, list_more}
-use Rattle.gimli_lists.specs.ListSteps.{entry_answers-first, resolved_list-first}
-use Rattle.gimli_lists.specs.ListSteps.{resolved_list-none, then_answers, base_after}
-use Rattle.gimli_lists.specs.ListSteps.{base_before-later, entries_read-more, entries_read-one}
-use Rattle.gimli_lists.specs.ListSteps.{GivesSound, AllSound, resolve-sound, resolved_list-sound}
-use Rattle.gimli_lists.specs.Places.{ListSections, section_of, Grammar, TakesBytes, RawPlace}
+use Rattle.gimli_lists.proofs.ListSteps.{list_ended, list_end, list_refused, list_more}
+use Rattle.gimli_lists.proofs.ListSteps.{entry_answers-first, resolved_list-first}
+use Rattle.gimli_lists.proofs.ListSteps.{resolved_list-none, then_answers, base_after}
+use Rattle.gimli_lists.proofs.ListSteps.{base_before-later, entries_read-more, entries_read-one}
+use Rattle.gimli_lists.proofs.ListSteps.{GivesSound, AllSound, resolve-sound, resolved_list-sound}
+use Rattle.gimli_lists.specs.Places.{ListSections, section_of, Grammar, TakesBytes, RawListPlace}
 use Rattle.gimli_lists.specs.Places.{raw_list_at, list_place_at, answers_from, list_answers}
 use Rattle.gimli_lists.specs.Places.{next_raw, raw_list_ahead, ListPlace, look_up_of, converted}
 use Rattle.gimli_lists.specs.Places.{answers_ahead, entries_ahead, entry_answers_ahead, IsSpent}
-use Rattle.gimli_lists.specs.Places.{IsBehind, InList, read_from, IsNext}
+use Rattle.gimli_lists.specs.Places.{IsAfterEntries, InList, read_from, IsNext}
 use Rattle.gimli_lists.specs.Resolved.{Resolved, base_before, is_nothing, entries_read}
-use Rattle.gimli_lists.specs.Resolved.{entry_answers, resolve, resolved_list, transposed}
+use Rattle.gimli_lists.specs.Resolved.{entry_answers, resolve, resolved_list}
+use Rattle.gimli_base.specs.Reading.{transposed}
 
 -- the beginning of a list keeps the encoding
 pub raw_list_at-encoding : (format : ListsFormat) (offset : ℕ) (encoding : Encoding)
-    (s : ListSections) (p : RawPlace) → Ok p ≡ raw_list_at format offset encoding s
+    (s : ListSections) (p : RawListPlace) → Ok p ≡ raw_list_at format offset encoding s
     → p.encoding ≡ encoding
 unfolding raw_list_at
 raw_list_at-encoding format offset encoding s p h =
     either (skip_at offset (section_of encoding.version s)) h
   where
     either : (r : Reads (Unit {0}))
-        → ◌≡◌ {A = Result RawPlace Error} (Ok p)
+        → ◌≡◌ {A = Result RawListPlace Error} (Ok p)
         (elim r [
           | Ok q ↦ Ok (record { rest = q.1; encoding = encoding; format = format })
           | Err e ↦ Err e
@@ -43,7 +44,7 @@ raw_list_at-encoding format offset encoding s p h =
         → p.encoding ≡ encoding
     either (Ok q) h =
         let same : p ≡ record { rest = q.1; encoding = encoding; format = format } = cc in
-        ap (λ (p : RawPlace). p.encoding) same
+        ap (λ (p : RawListPlace). p.encoding) same
     either (Err e) h = absurd (cc)
 
 -- the answers of the list at an offset are those ahead of its beginning
@@ -76,7 +77,7 @@ unfolding list_answers list_place_at
 list_answers-sound grammar limit format offset encoding base addresses table s =
     either (raw_list_at format offset encoding s) refl
   where
-    either : (r : Result RawPlace Error) → r ≡ raw_list_at format offset encoding s
+    either : (r : Result RawListPlace Error) → r ≡ raw_list_at format offset encoding s
         → IfOk
         (answers_from grammar limit
         (elim r [
@@ -99,27 +100,27 @@ InList-trans p q s h k =
 
 -- an answer to the next entry, and the place that it leaves
 abbrev pub Next : Type 0 → Type 0
-Next P = Result (Option (Entry P)) Error × RawPlace
+Next P = Result (Option (ListEntry P)) Error × RawListPlace
 
--- what is made of an entry, and the place behind it
+-- what is made of an entry, and the place after it
 abbrev pub Converted : Type 0 → Type 0
 Converted P = Result (Option (Resolved P)) Error × ListPlace
 
 module _ {P : Type 0} (grammar : Grammar P) (takes : TakesBytes grammar) (limit : ℕ) where
-  abbrev next_at : RawPlace → Result (Option (Entry P)) Error × View → Next P
+  abbrev next_at : RawListPlace → Result (Option (ListEntry P)) Error × View → Next P
   next_at p n = (n.0, record p { rest = n.1 })
 
   -- the reading of an entry moves the list alone
-  pub next_raw-same : (p q : RawPlace) (a : Result (Option (Entry P)) Error)
+  pub next_raw-same : (p q : RawListPlace) (a : Result (Option (ListEntry P)) Error)
       → ◌≡◌ {A = Next P} (a, q) (next_raw grammar p) → q ≡ record p { rest = q.rest }
   unfolding next_raw
   next_raw-same p q a h =
       let place : q ≡ record p { rest = (next_entry (grammar p.format p.encoding) p.rest).1 } =
       ap (λ (n : Next P). n.1) h in
-      place ∙ ap (λ v. record p { rest = v }) (sym (ap (λ (x : RawPlace). x.rest) place))
+      place ∙ ap (λ v. record p { rest = v }) (sym (ap (λ (x : RawListPlace). x.rest) place))
 
-  -- what the answer to the next entry makes of the answers, with what is ahead behind it
-  abbrev pub after_entry : ListPlace → Result (Option (Entry P)) Error → View
+  -- what the answer to the next entry makes of the answers, with what is ahead after it
+  abbrev pub after_entry : ListPlace → Result (Option (ListEntry P)) Error → View
       → List (Result (Resolved P) Error)
   after_entry p (Ok None) w = []
   after_entry p (Ok (Some e)) w =
@@ -133,7 +134,7 @@ module _ {P : Type 0} (grammar : Grammar P) (takes : TakesBytes grammar) (limit 
     abbrev entries : EntryReads P
     entries = grammar p.raw.format p.raw.encoding
 
-    shorter : (v : View) (e : Option (Entry P)) (w : View) → Ok (e, w) ≡ entries v
+    shorter : (v : View) (e : Option (ListEntry P)) (w : View) → Ok (e, w) ≡ entries v
         → length w.bytes < length v.bytes
     shorter v e w h = takes p.raw.format p.raw.encoding v e w h
 
@@ -153,7 +154,7 @@ module _ {P : Type 0} (grammar : Grammar P) (takes : TakesBytes grammar) (limit 
       | inr some ↦ rw some.0 (read (entries p.raw.rest) refl some.1)
     ]
       where
-        read : (r : Reads (Option (Entry P))) → r ≡ entries p.raw.rest
+        read : (r : Reads (Option (ListEntry P))) → r ≡ entries p.raw.rest
             → (length p.raw.rest.bytes ≡ 0 → ⊥)
             → of_list p.base (list_at entries p.raw.rest)
             ≡ after_entry p (left_by p.raw.rest r).0 (left_by p.raw.rest r).1
@@ -168,8 +169,8 @@ module _ {P : Type 0} (grammar : Grammar P) (takes : TakesBytes grammar) (limit 
             ∙ resolved_list-first p.raw.encoding.address_size (look_up_of limit p) p.base e
             (list_at entries w)
 
-    -- the first entry answers first, and the others are ahead of the place behind it
-    ahead_from : (r : RawPlace) (a : Result (Option (Entry P)) Error)
+    -- the first entry answers first, and the others are ahead of the place after it
+    ahead_from : (r : RawListPlace) (a : Result (Option (ListEntry P)) Error)
         → ◌≡◌ {A = Next P} (a, r) (next_raw grammar p.raw)
         → answers_ahead grammar limit p ≡ after_entry p a r.rest
     unfolding next_raw
@@ -178,21 +179,22 @@ module _ {P : Type 0} (grammar : Grammar P) (takes : TakesBytes grammar) (limit 
         ∙ sym
         (ap (λ x. after_entry p x (next_entry entries p.raw.rest).1)
         (ap (λ (n : Next P). n.0) h))
-        ∙ sym (ap (λ (x : RawPlace). after_entry p a x.rest) (ap (λ (n : Next P). n.1) h))
+        ∙ sym (ap (λ (x : RawListPlace). after_entry p a x.rest) (ap (λ (n : Next P). n.1) h))
 
     -- where there is no entry there is no answer
-    pub ahead_none : (r : RawPlace) → ◌≡◌ {A = Next P} (Ok None, r) (next_raw grammar p.raw)
+    pub ahead_none : (r : RawListPlace) → ◌≡◌ {A = Next P} (Ok None, r) (next_raw grammar p.raw)
         → answers_ahead grammar limit p ≡ []
     ahead_none r h = ahead_from r (Ok None) h
 
     -- a refusal of an entry is the last answer
-    pub ahead_refused : (r : RawPlace) (e : Error)
+    pub ahead_refused : (r : RawListPlace) (e : Error)
         → ◌≡◌ {A = Next P} (Err e, r) (next_raw grammar p.raw)
         → answers_ahead grammar limit p ≡ Err e ∷ []
     ahead_refused r e h = ahead_from r (Err e) h
 
     -- what an entry stands for is the first answer, unless it is nothing
-    pub ahead_entry : (r : RawPlace) (e : (Entry P)) (a : Result (Option (Resolved P)) Error)
+    pub ahead_entry : (r : RawListPlace) (e : ListEntry P)
+        (a : Result (Option (Resolved P)) Error)
         (s : ListPlace) → ◌≡◌ {A = Next P} (Ok (Some e), r) (next_raw grammar p.raw)
         → ◌≡◌ {A = Converted P} (a, s) (converted limit e (record p { raw = r }))
         → answers_ahead grammar limit p ≡ then_answers a (answers_ahead grammar limit s)
@@ -214,8 +216,8 @@ module _ {P : Type 0} (grammar : Grammar P) (takes : TakesBytes grammar) (limit 
       ap (of_list p p.base) (list_ended (entries p) (shorter p) p.raw.rest none)
       ∙ resolved_list-none p.raw.encoding.address_size (look_up_of limit p) p.base used_up
 
-  -- behind the last entry, and behind a refusal, nothing is left
-  pub next_raw-ended : (p r : RawPlace) → ◌≡◌ {A = Next P} (Ok None, r) (next_raw grammar p)
+  -- after the last entry, and after a refusal, nothing is left
+  pub next_raw-ended : (p r : RawListPlace) → ◌≡◌ {A = Next P} (Ok None, r) (next_raw grammar p)
       → length r.rest.bytes ≡ 0
   unfolding next_raw next_entry
   next_raw-ended p r h = elim (eqb_tells (length p.rest.bytes) 0) [
@@ -227,25 +229,25 @@ module _ {P : Type 0} (grammar : Grammar P) (takes : TakesBytes grammar) (limit 
         read (grammar p.format p.encoding p.rest) is
   ]
     where
-      read : (x : Reads (Option (Entry P)))
+      read : (x : Reads (Option (ListEntry P)))
           → ◌≡◌ {A = Next P} (Ok None, r) (next_at p (left_by p.rest x)) → length r.rest.bytes ≡ 0
       read (Err e) is = absurd
-          (let not : ◌≡◌ {A = Result (Option (Entry P)) Error} (Ok None) (Err e) =
+          (let not : ◌≡◌ {A = Result (Option (ListEntry P)) Error} (Ok None) (Err e) =
           ap (λ (n : Next P). n.0) is in cc)
       read (Ok (None, w)) is = ap (λ (n : Next P). length n.1.rest.bytes) is
       read (Ok (Some e, w)) is =
           absurd
-          (let not : ◌≡◌ {A = Result (Option (Entry P)) Error} (Ok None) (Ok (Some e)) =
+          (let not : ◌≡◌ {A = Result (Option (ListEntry P)) Error} (Ok None) (Ok (Some e)) =
           ap (λ (n : Next P). n.0) is in cc)
 
-  pub next_raw-refused : (p r : RawPlace) (e : Error)
+  pub next_raw-refused : (p r : RawListPlace) (e : Error)
       → ◌≡◌ {A = Next P} (Err e, r) (next_raw grammar p) → length r.rest.bytes ≡ 0
   unfolding next_raw next_entry
   next_raw-refused p r e h = elim (eqb_tells (length p.rest.bytes) 0) [
     | inl none ↦
         absurd
         (let is : ◌≡◌ {A = Next P} (Err e, r) (Ok None, p) = rw none.0 at h in
-        let not : ◌≡◌ {A = Result (Option (Entry P)) Error} (Err e) (Ok None) =
+        let not : ◌≡◌ {A = Result (Option (ListEntry P)) Error} (Err e) (Ok None) =
         ap (λ (n : Next P). n.0) is in cc)
     | inr some ↦
         let is : ◌≡◌ {A = Next P} (Err e, r)
@@ -253,20 +255,20 @@ module _ {P : Type 0} (grammar : Grammar P) (takes : TakesBytes grammar) (limit 
         read (grammar p.format p.encoding p.rest) is
   ]
     where
-      read : (x : Reads (Option (Entry P)))
+      read : (x : Reads (Option (ListEntry P)))
           → ◌≡◌ {A = Next P} (Err e, r) (next_at p (left_by p.rest x)) → length r.rest.bytes ≡ 0
       read (Err f) is = ap (λ (n : Next P). length n.1.rest.bytes) is
       read (Ok (None, w)) is =
           absurd
-          (let not : ◌≡◌ {A = Result (Option (Entry P)) Error} (Err e) (Ok None) =
+          (let not : ◌≡◌ {A = Result (Option (ListEntry P)) Error} (Err e) (Ok None) =
           ap (λ (n : Next P). n.0) is in cc)
       read (Ok (Some x, w)) is =
           absurd
-          (let not : ◌≡◌ {A = Result (Option (Entry P)) Error} (Err e) (Ok (Some x)) =
+          (let not : ◌≡◌ {A = Result (Option (ListEntry P)) Error} (Err e) (Ok (Some x)) =
           ap (λ (n : Next P). n.0) is in cc)
 
   -- the reading of an entry, and what is made of it, stay in the list
-  pub InList-read : (p q : ListPlace) (a : Result (Option (Entry P)) Error)
+  pub InList-read : (p q : ListPlace) (a : Result (Option (ListEntry P)) Error)
       → q ≡ record p { raw = q.raw } → ◌≡◌ {A = Next P} (a, q.raw) (next_raw grammar p.raw)
       → InList p q
   InList-read p q a same h =
@@ -274,7 +276,8 @@ module _ {P : Type 0} (grammar : Grammar P) (takes : TakesBytes grammar) (limit 
       same ∙ ap (λ r. record p { raw = r }) (next_raw-same p.raw q.raw a h)
       ∙ ap (λ b. record p { raw = record p.raw { rest = q.raw.rest }; base = b }) base
 
-  pub InList-converted : (q s : ListPlace) (e : (Entry P)) (a : Result (Option (Resolved P)) Error)
+  pub InList-converted : (q s : ListPlace) (e : ListEntry P)
+      (a : Result (Option (Resolved P)) Error)
       → ◌≡◌ {A = Converted P} (a, s) (converted limit e q) → InList q s
   unfolding converted
   InList-converted q s e a h =
@@ -284,16 +287,17 @@ module _ {P : Type 0} (grammar : Grammar P) (takes : TakesBytes grammar) (limit 
       let base : (converted limit e q).1.base
       ≡ s.base = sym (ap (λ (x : ListPlace). x.base) place) in
       place ∙ ap (λ b. record q { base = b }) base
-      ∙ ap (λ (r : RawPlace). record q { raw = record q.raw { rest = r.rest }; base = s.base })
+      ∙ ap (λ (r : RawListPlace). record q { raw = record q.raw { rest = r.rest }; base = s.base })
       raw
 
-  pub converted-raw : (q s : ListPlace) (e : (Entry P)) (a : Result (Option (Resolved P)) Error)
+  pub converted-raw : (q s : ListPlace) (e : (ListEntry P)) (a : Result (Option (Resolved P)) Error)
       → ◌≡◌ {A = Converted P} (a, s) (converted limit e q) → s.raw ≡ q.raw
   unfolding converted
   converted-raw q s e a h = ap (λ (n : Converted P). n.1.raw) h
 
   -- what stands for a range is sound
-  pub converted-sound : (q s : ListPlace) (e : (Entry P)) (a : Result (Option (Resolved P)) Error)
+  pub converted-sound : (q s : ListPlace) (e : ListEntry P)
+      (a : Result (Option (Resolved P)) Error)
       → ◌≡◌ {A = Converted P} (a, s) (converted limit e q)
       → GivesSound q.raw.encoding.address_size a
   unfolding converted
@@ -304,14 +308,14 @@ module _ {P : Type 0} (grammar : Grammar P) (takes : TakesBytes grammar) (limit 
       (resolve-sound q.raw.encoding.address_size (look_up_of limit q) q.base e)
 
   -- an entry, and what is made of it
-  pub ahead_step : (p q s : ListPlace) (e : (Entry P)) (a : Result (Option (Resolved P)) Error)
+  pub ahead_step : (p q s : ListPlace) (e : (ListEntry P)) (a : Result (Option (Resolved P)) Error)
       → q ≡ record p { raw = q.raw }
       → ◌≡◌ {A = Next P} (Ok (Some e), q.raw) (next_raw grammar p.raw)
       → ◌≡◌ {A = Converted P} (a, s) (converted limit e q)
       → answers_ahead grammar limit p ≡ then_answers a (answers_ahead grammar limit s)
   ahead_step p q s e a same h k = ahead_entry p q.raw e a s h (k ∙ ap (converted limit e) same)
 
-  -- a refusal of an entry, behind which nothing is ahead
+  -- a refusal of an entry, after which nothing is ahead
   pub ahead_stop : (p q : ListPlace) (e : Error)
       → ◌≡◌ {A = Next P} (Err e, q.raw) (next_raw grammar p.raw)
       → answers_ahead grammar limit p ≡ Err e ∷ answers_ahead grammar limit q
@@ -328,7 +332,7 @@ module _ {P : Type 0} (grammar : Grammar P) (takes : TakesBytes grammar) (limit 
   first_answer view p (Some (Ok x)) q h = h.0
   first_answer view p (Some (Err e)) q h = h.0
 
-  module _ (start p q s : ListPlace) (e : (Entry P)) (a : Result (Option (Resolved P)) Error)
+  module _ (start p q s : ListPlace) (e : (ListEntry P)) (a : Result (Option (Resolved P)) Error)
       (same : q ≡ record p { raw = q.raw })
       (read : ◌≡◌ {A = Next P} (Ok (Some e), q.raw) (next_raw grammar p.raw))
       (made : ◌≡◌ {A = Converted P} (a, s) (converted limit e q)) where
@@ -344,7 +348,7 @@ module _ {P : Type 0} (grammar : Grammar P) (takes : TakesBytes grammar) (limit 
     pub stepped-shorter : length q.raw.rest.bytes < length p.raw.rest.bytes
         → length s.raw.rest.bytes < length p.raw.rest.bytes
     stepped-shorter h =
-        let left = ap (λ (r : RawPlace). length r.rest.bytes) (converted-raw q s e a made) in
+        let left = ap (λ (r : RawListPlace). length r.rest.bytes) (converted-raw q s e a made) in
         omega (arith, h, left)
 
     pub stepped-sound : InList start p → GivesSound start.raw.encoding.address_size a
@@ -354,11 +358,11 @@ module _ {P : Type 0} (grammar : Grammar P) (takes : TakesBytes grammar) (limit 
         (InList-read p q (Ok (Some e)) same read) in
         subst (λ z. GivesSound z a) (two ∙ one) (converted-sound q s e a made)
 
-  module _ (p : RawPlace) where
+  module _ (p : RawListPlace) where
     abbrev reads : EntryReads P
     reads = grammar p.format p.encoding
 
-    takes_one : (v : View) (e : Option (Entry P)) (w : View) → Ok (e, w) ≡ reads v
+    takes_one : (v : View) (e : Option (ListEntry P)) (w : View) → Ok (e, w) ≡ reads v
         → length w.bytes < length v.bytes
     takes_one v e w h = takes p.format p.encoding v e w h
 
@@ -371,7 +375,7 @@ module _ {P : Type 0} (grammar : Grammar P) (takes : TakesBytes grammar) (limit 
       | inr some ↦ rw some.0 (read (reads p.rest) refl some.1)
     ]
       where
-        read : (r : Reads (Option (Entry P))) → r ≡ reads p.rest → (length p.rest.bytes ≡ 0 → ⊥)
+        read : (r : Reads (Option (ListEntry P))) → r ≡ reads p.rest → (length p.rest.bytes ≡ 0 → ⊥)
             → IsFirstOf (left_by p.rest r).0 (list_at reads p.rest)
             (list_at reads (left_by p.rest r).1)
         read (Err e) is some = (
@@ -385,7 +389,7 @@ module _ {P : Type 0} (grammar : Grammar P) (takes : TakesBytes grammar) (limit 
         read (Ok (Some e, w)) is some = list_more reads takes_one p.rest e w some is
 
     -- the answer to the next entry is that of the list, and leaves the rest of it
-    pub first_from : (r : RawPlace) (a : Result (Option (Entry P)) Error)
+    pub first_from : (r : RawListPlace) (a : Result (Option (ListEntry P)) Error)
         → ◌≡◌ {A = Next P} (a, r) (next_raw grammar p)
         → IsFirstOf a (raw_list_ahead grammar p) (raw_list_ahead grammar r)
     unfolding next_raw
@@ -394,7 +398,7 @@ module _ {P : Type 0} (grammar : Grammar P) (takes : TakesBytes grammar) (limit 
         IsFirstOf n.0 (raw_list_ahead grammar p) (raw_list_ahead grammar n.1) in
         subst Q (sym h) first_by
 
-    list_from : (r : RawPlace) (a : Result (Option (Entry P)) Error)
+    list_from : (r : RawListPlace) (a : Result (Option (ListEntry P)) Error)
         → ◌≡◌ {A = Next P} (a, r) (next_raw grammar p)
         → IsFirstOf a (list_at reads p.rest) (list_at reads r.rest)
     unfolding next_raw
@@ -409,13 +413,13 @@ module _ {P : Type 0} (grammar : Grammar P) (takes : TakesBytes grammar) (limit 
   no_entries_of l (inl h) = ap (λ (x : RawList P). x.entries) h
   no_entries_of l (inr h) = ap (λ (x : RawList P). x.entries) h
 
-  -- where nothing is left the place stays behind no entry
+  -- where nothing is left the place stays after no entry
   behind_none : (p q : ListPlace) → q ≡ record p { raw = q.raw } → entries_ahead grammar p ≡ []
-      → length q.raw.rest.bytes ≡ 0 → IsBehind grammar limit (read_from grammar limit p) p q
+      → length q.raw.rest.bytes ≡ 0 → IsAfterEntries grammar limit (read_from grammar limit p) p q
   behind_none p q same none left =
       let after : entries_ahead grammar q
       ≡ [] = ap (λ l. l.entries) (list_ended (entries q) (shorter q) q.raw.rest left) in
-      let Q : List (Entry P) → Type 0 =
+      let Q : List (ListEntry P) → Type 0 =
       λ es. let n = entries_read p.raw.encoding.address_size (look_up_of limit p) p.base es in
       (entries_ahead grammar q ≡ drop n es)
       × (q.base ≡ base_before (look_up_of limit p) p.base es n) in
@@ -423,7 +427,7 @@ module _ {P : Type 0} (grammar : Grammar P) (takes : TakesBytes grammar) (limit 
 
   pub behind_end : (p q : ListPlace) → q ≡ record p { raw = q.raw }
       → ◌≡◌ {A = Next P} (Ok None, q.raw) (next_raw grammar p.raw)
-      → IsBehind grammar limit (read_from grammar limit p) p q
+      → IsAfterEntries grammar limit (read_from grammar limit p) p q
   behind_end p q same h =
       behind_none p q same
       (no_entries_of (list_at (reads p.raw) p.raw.rest) (list_from p.raw q.raw (Ok None) h).0)
@@ -431,36 +435,36 @@ module _ {P : Type 0} (grammar : Grammar P) (takes : TakesBytes grammar) (limit 
 
   pub behind_refused : (p q : ListPlace) (e : Error) → q ≡ record p { raw = q.raw }
       → ◌≡◌ {A = Next P} (Err e, q.raw) (next_raw grammar p.raw)
-      → IsBehind grammar limit (read_from grammar limit p) p q
+      → IsAfterEntries grammar limit (read_from grammar limit p) p q
   behind_refused p q e same h =
       behind_none p q same (ap (λ (l : RawList P). l.entries) (list_from p.raw q.raw (Err e) h).0)
       (next_raw-refused p.raw q.raw e h)
 
-  -- the place behind an entry, when w is left
-  abbrev past : ListPlace → (Entry P) → View → ListPlace
+  -- the place after an entry, when w is left
+  abbrev past : ListPlace → (ListEntry P) → View → ListPlace
   past p e w =
       record p { raw = record p.raw { rest = w }; base = base_after (look_up_of limit p) p.base e }
 
-  module _ (p : ListPlace) (e : (Entry P)) (w : View)
+  module _ (p : ListPlace) (e : (ListEntry P)) (w : View)
       (left : list_at (grammar p.raw.format p.raw.encoding) p.raw.rest
       ≡ then_entry e (list_at (grammar p.raw.format p.raw.encoding) w)) where
-    abbrev Stands : ListPlace → List (Entry P) → ℕ → Type 0
+    abbrev Stands : ListPlace → List (ListEntry P) → ℕ → Type 0
     Stands q es n = (entries_ahead grammar q ≡ drop n es)
         × (q.base ≡ base_before (look_up_of limit p) p.base es n)
 
-    abbrev count : List (Entry P) → ℕ
+    abbrev count : List (ListEntry P) → ℕ
     count es = entries_read p.raw.encoding.address_size (look_up_of limit p) p.base es
 
-    abbrev others : List (Entry P)
+    abbrev others : List (ListEntry P)
     others = entries_ahead grammar (past p e w)
 
     as_cons : (q : ListPlace) → Stands q (e ∷ others) (count (e ∷ others))
-        → IsBehind grammar limit (read_from grammar limit p) p q
-    as_cons q h = let Q : List (Entry P) → Type 0 = λ es. Stands q es (count es) in
+        → IsAfterEntries grammar limit (read_from grammar limit p) p q
+    as_cons q h = let Q : List (ListEntry P) → Type 0 = λ es. Stands q es (count es) in
         subst Q (sym (ap (λ l. l.entries) left)) h
 
     past_one : is_nothing (resolve p.raw.encoding.address_size (look_up_of limit p) p.base e)
-        ≡ false → IsBehind grammar limit (read_from grammar limit p) p (past p e w)
+        ≡ false → IsAfterEntries grammar limit (read_from grammar limit p) p (past p e w)
     past_one h =
         as_cons (past p e w)
         (subst (Stands (past p e w) (e ∷ others))
@@ -470,8 +474,8 @@ module _ {P : Type 0} (grammar : Grammar P) (takes : TakesBytes grammar) (limit 
 
     past_more : (q : ListPlace)
         → Ok None ≡ resolve p.raw.encoding.address_size (look_up_of limit p) p.base e
-        → IsBehind grammar limit (read_from grammar limit (past p e w)) (past p e w) q
-        → IsBehind grammar limit (read_from grammar limit p) p q
+        → IsAfterEntries grammar limit (read_from grammar limit (past p e w)) (past p e w) q
+        → IsAfterEntries grammar limit (read_from grammar limit p) p q
     past_more q h k =
         as_cons q
         (subst (Stands q (e ∷ others))
@@ -484,7 +488,7 @@ module _ {P : Type 0} (grammar : Grammar P) (takes : TakesBytes grammar) (limit 
               (read_from grammar limit (past p e w))),
         ))
 
-  module _ (p q s : ListPlace) (e : (Entry P)) (a : Result (Option (Resolved P)) Error)
+  module _ (p q s : ListPlace) (e : (ListEntry P)) (a : Result (Option (Resolved P)) Error)
       (same : q ≡ record p { raw = q.raw })
       (read : ◌≡◌ {A = Next P} (Ok (Some e), q.raw) (next_raw grammar p.raw))
       (made : ◌≡◌ {A = Converted P} (a, s) (converted limit e q)) where
@@ -501,22 +505,23 @@ module _ {P : Type 0} (grammar : Grammar P) (takes : TakesBytes grammar) (limit 
     unfolding converted
     is_resolved = ap (λ (n : Converted P). n.0) made_here
 
-    -- behind an entry that stands for something
-    pub behind_one : is_nothing a ≡ false → IsBehind grammar limit (read_from grammar limit p) p s
+    -- after an entry that stands for something
+    pub behind_one : is_nothing a ≡ false
+        → IsAfterEntries grammar limit (read_from grammar limit p) p s
     behind_one h =
-        subst (IsBehind grammar limit (read_from grammar limit p) p) (sym is_past)
+        subst (IsAfterEntries grammar limit (read_from grammar limit p) p) (sym is_past)
         (past_one p e q.raw.rest (list_from p.raw q.raw (Ok (Some e)) read)
         (ap is_nothing (sym is_resolved) ∙ h))
 
-    -- behind an entry that stands for nothing, and then further
+    -- after an entry that stands for nothing, and then further
     pub behind_more : (t : ListPlace) → a ≡ Ok None
-        → IsBehind grammar limit (read_from grammar limit s) s t
-        → IsBehind grammar limit (read_from grammar limit p) p t
+        → IsAfterEntries grammar limit (read_from grammar limit s) s t
+        → IsAfterEntries grammar limit (read_from grammar limit p) p t
     behind_more t h k =
         past_more p e q.raw.rest (list_from p.raw q.raw (Ok (Some e)) read) t (sym h ∙ is_resolved)
-        (subst (λ x. IsBehind grammar limit (read_from grammar limit x) x t) is_past k)
+        (subst (λ x. IsAfterEntries grammar limit (read_from grammar limit x) x t) is_past k)
 
-    -- what an entry answers comes before the answers of those behind it
+    -- what an entry answers comes before the answers of those after it
     entry_answers_step : entry_answers_ahead grammar limit p
         ≡ then_answers a (entry_answers_ahead grammar limit s)
     entry_answers_step =
@@ -540,7 +545,7 @@ module _ {P : Type 0} (grammar : Grammar P) (takes : TakesBytes grammar) (limit 
         never (Ok (Some x)) others h k = cc
         never (Err x) others h k = cc
 
-    -- where it answers nothing, none is left if none is left behind it
+    -- where it answers nothing, none is left if none is left after it
     pub spent_more : (t : ListPlace) → a ≡ Ok None → IsSpent grammar limit s t
         → IsSpent grammar limit p t
     spent_more t h k none =

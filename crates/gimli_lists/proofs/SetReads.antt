@@ -12,10 +12,10 @@ use Rattle.gimli_base.specs.View.{View, cut}
 use Rattle.gimli_base.specs.Reading.{Reads, ◌>>=◌, made, byte_at, uint_at, offset_at}
 use Rattle.gimli_base.specs.Reading.{address_size_at, is_size, initial_length_at}
 use Rattle.gimli_base.specs.Reading.{initial_length_size_of, skip_at, split_at}
-use Rattle.gimli_base.specs.Taken.{TakenAfter, TakesAfter, Takes, taken, TakenAfter-trans}
-use Rattle.gimli_base.specs.Taken.{behind_takes, initial_length_at-takes, split_at-takes}
+use Rattle.gimli_base.proofs.Taken.{TakenAfter, TakesAfter, Takes, taken, TakenAfter-trans}
+use Rattle.gimli_base.proofs.Taken.{behind_takes, initial_length_at-takes, split_at-takes}
 use Rattle.gimli_lists.specs.ArangeSets.{ArangeSet, padding_size, set_fields_at, set_in, set_at}
-use Rattle.gimli_lists.specs.ArangeSets.{whole_length}
+use Rattle.gimli_lists.specs.ArangeSets.{set_length}
 
 -- the size of an address that was read is 1, 2, 4 or 8
 pub size_is : (v : View) (z : ℕ) (w : View) → Ok (z, w) ≡ address_size_at v → is_size z ≡ true
@@ -128,10 +128,10 @@ set_fields_at-format limit format v f w h = version (uint_at 2 v) h
 -- what is known of a set that was read at an offset of its section, with w left of v
 pub record SetRead (offset : ℕ) (v : View) (s : ArangeSet) (w : View) : Type 0 where
   pub offset_is : s.offset ≡ offset
-  pub within : whole_length s ≤ length v.bytes
-  pub rest : w ≡ cut (whole_length s) v
+  pub within : set_length s ≤ length v.bytes
+  pub rest : w ≡ cut (set_length s) v
 
--- what is left begins behind the whole length
+-- what is left begins after the whole length
 pub set_at-read : (limit offset : ℕ) (v : View) (s : ArangeSet) (w : View)
     → Ok (s, w) ≡ set_at limit offset v → SetRead offset v s w
 unfolding set_at
@@ -157,7 +157,7 @@ set_at-read limit offset v s w h =
         let same : ◌≡◌ {A = ArangeSet × View} (s, w) (made_set, rest) = cc in
         let P : ArangeSet × View → Type 0 = λ x. SetRead offset v x.0 x.1 in
         let total : Total field
-        ≡ whole_length made_set =
+        ≡ set_length made_set =
         ap (λ g. initial_length_size_of g + field.0) (sym (kind fields.0 fields.1 refl)) in
         let Q : ℕ → Type 0 = λ n. (n ≤ length v.bytes) × (rest ≡ cut n v) in
         let left = subst Q total (taken (Total field) v rest t) in
@@ -196,12 +196,12 @@ some_size Dwarf64 = omega arith
 
 -- so many bytes are left
 pub set_at-left : (limit offset : ℕ) (v : View) (s : ArangeSet) (w : View)
-    → Ok (s, w) ≡ set_at limit offset v → whole_length s + length w.bytes ≡ length v.bytes
+    → Ok (s, w) ≡ set_at limit offset v → set_length s + length w.bytes ≡ length v.bytes
 set_at-left limit offset v s w h =
     let read = set_at-read limit offset v s w h in
     let left : length w.bytes
-    ≡ length v.bytes - whole_length s =
-    ap (λ (x : View). length x.bytes) read.rest ∙ length-drop (whole_length s) v.bytes in
+    ≡ length v.bytes - set_length s =
+    ap (λ (x : View). length x.bytes) read.rest ∙ length-drop (set_length s) v.bytes in
     omega (arith, left, read.within)
 
 -- a set that was read is no longer there

@@ -8,7 +8,7 @@ use Rattle.std.proofs.lemmas.Bool.Decides.{eqb_tells}
 use Rattle.gimli_base.specs.declared.error.Error.{Error}
 use Rattle.gimli_base.specs.View.{View, ended}
 use Rattle.gimli_base.specs.Reading.{Reads}
-use Rattle.gimli_lists.specs.ArangeSets.{ArangeSet, SetsPlace, whole_length, behind, set_at}
+use Rattle.gimli_lists.specs.ArangeSets.{ArangeSet, SetsPlace, set_length, after_set, set_at}
 use Rattle.gimli_lists.specs.ArangeSets.{sets_within, sets_ahead, next_set}
 use Rattle.gimli_lists.proofs.SetReads.{set_at-read, set_at-shorter}
 
@@ -27,15 +27,15 @@ module _ (limit : ℕ) where
 
   within_more : (n : ℕ) (p : SetsPlace) (s : ArangeSet) (w : View) → (length p.rest.bytes ≡ 0 → ⊥)
       → Ok (s, w) ≡ set_at limit p.offset p.rest
-      → sets_within limit (suc n) p ≡ Ok s ∷ sets_within limit n (behind s p)
+      → sets_within limit (suc n) p ≡ Ok s ∷ sets_within limit n (after_set s p)
   unfolding sets_within
   within_more n p s w some h =
       let t : (length p.rest.bytes == 0) ≡ false = ne_eqb (length p.rest.bytes) 0 some in
       rw (t, ← h) refl
 
-  -- fewer bytes are left behind a set
+  -- fewer bytes are left after a set
   shorter : (p : SetsPlace) (s : ArangeSet) (w : View) → Ok (s, w) ≡ set_at limit p.offset p.rest
-      → length (behind s p).rest.bytes < length p.rest.bytes
+      → length (after_set s p).rest.bytes < length p.rest.bytes
   shorter p s w h =
       let left = set_at-shorter limit p.offset p.rest s w h in
       let rest = ap (λ (v : View). length v.bytes) (set_at-read limit p.offset p.rest s w h).rest in
@@ -64,7 +64,7 @@ module _ (limit : ℕ) where
       read (Err e) is some rest = within_refused m p e some is ∙ sym (within_refused n p e some is)
       read (Ok q) is some rest =
           within_more m p q.0 q.1 some is
-          ∙ ap (λ ss. Ok q.0 ∷ ss) (rest (behind q.0 p) (shorter p q.0 q.1 is))
+          ∙ ap (λ ss. Ok q.0 ∷ ss) (rest (after_set q.0 p) (shorter p q.0 q.1 is))
           ∙ sym (within_more n p q.0 q.1 some is)
 
   -- where no byte is left there is no set
@@ -80,17 +80,17 @@ module _ (limit : ℕ) where
       let one : length p.rest.bytes ≡ suc (length p.rest.bytes - 1) = omega (arith, some) in
       ap (λ k. sets_within limit k p) one ∙ within_refused (length p.rest.bytes - 1) p e some h
 
-  -- a set, and then those behind its whole length
+  -- a set, and then those after its whole length
   ahead_more : (p : SetsPlace) (s : ArangeSet) (w : View) → (length p.rest.bytes ≡ 0 → ⊥)
       → Ok (s, w) ≡ set_at limit p.offset p.rest
-      → sets_ahead limit p ≡ Ok s ∷ sets_ahead limit (behind s p)
+      → sets_ahead limit p ≡ Ok s ∷ sets_ahead limit (after_set s p)
   unfolding sets_ahead
   ahead_more p s w some h =
       let one : length p.rest.bytes ≡ suc (length p.rest.bytes - 1) = omega (arith, some) in
       let lt = shorter p s w h in
       ap (λ k. sets_within limit k p) one ∙ within_more (length p.rest.bytes - 1) p s w some h
       ∙ ap (λ ss. Ok s ∷ ss)
-      (within_enough (length p.rest.bytes - 1) (length (behind s p).rest.bytes) (behind s p)
+      (within_enough (length p.rest.bytes - 1) (length (after_set s p).rest.bytes) (after_set s p)
       (omega (arith, lt)) (omega arith))
 
   abbrev Next : Type 0
@@ -98,7 +98,7 @@ module _ (limit : ℕ) where
 
   abbrev next_by : SetsPlace → Reads ArangeSet → Next
   next_by p r = elim r [
-    | Ok q ↦ (Some (Ok q.0), record { rest = q.1; offset = p.offset + whole_length q.0 })
+    | Ok q ↦ (Some (Ok q.0), record { rest = q.1; offset = p.offset + set_length q.0 })
     | Err e ↦ (Some (Err e), record { rest = ended p.rest; offset = p.offset })
   ]
 
@@ -121,7 +121,7 @@ module _ (limit : ℕ) where
           ∙ ap (λ ss. Err e ∷ ss)
           (sym (ahead_ended (record { rest = ended p.rest; offset = p.offset }) refl))
       read (Ok q) is some =
-          let place = ap (λ w. record { rest = w; offset = p.offset + whole_length q.0 })
+          let place = ap (λ w. record { rest = w; offset = p.offset + set_length q.0 })
           (set_at-read limit p.offset p.rest q.0 q.1 is).rest in
           ahead_more p q.0 q.1 some is ∙ ap (λ l. Ok q.0 ∷ sets_ahead limit l) (sym place)
 

@@ -6,7 +6,7 @@ use Rattle.std.proofs.lemmas.Bool.{le-leb}
 use Rattle.gimli_base.specs.declared.error.Error.{Error}
 use Rattle.gimli_base.specs.View.{View, cut}
 use Rattle.gimli_base.specs.Reading.{Reads, address_at, uint_at, bytes_at, number, is_size}
-use Rattle.gimli_base.specs.Later.{cut-cut}
+use Rattle.gimli_base.proofs.Later.{cut-cut}
 use Rattle.gimli_lists.specs.Aranges.{tuple_of, next_tuple}
 use Rattle.gimli_lists.specs.RawList.{pair_at}
 

@@ -11,8 +11,9 @@ use Rattle.std.proofs.lemmas.Bool.Decides.{leb_tells}
 use Rattle.gimli_base.specs.declared.error.Error.{Error}
 use Rattle.gimli_base.specs.View.{View, cut, ended}
 use Rattle.gimli_base.specs.Reading.{is_size}
-use Rattle.gimli_base.specs.Later.{cut-cut}
-use Rattle.gimli_lists.specs.Aranges.{tuple_of, tuples_in, tuples_of, next_tuple, before_first}
+use Rattle.gimli_base.proofs.Later.{cut-cut}
+use Rattle.gimli_lists.specs.Aranges.{tuple_of, tuples_in, tuples_of, next_tuple}
+use Rattle.gimli_lists.specs.Aranges.{count_before_first}
 use Rattle.gimli_lists.specs.Aranges.{first_of_tuples}
 
 -- what the reading of a tuple answers, and what it leaves
@@ -30,7 +31,7 @@ module _ (z : ℕ) (some : 0 < z) where
   unfolding tuples_of
   tuples_of-short v lt = ap (λ n. tuples_in n z v) (div-eq_of_lt lt)
 
-  -- a tuple, and then those behind it
+  -- a tuple, and then those after it
   tuples_of-more : (v : View) → 2 * z ≤ length v.bytes
       → tuples_of z v ≡ tuple_of z v ∷ tuples_of z (cut (2 * z) v)
   unfolding tuples_of
@@ -44,7 +45,7 @@ module _ (z : ℕ) (some : 0 < z) where
       ap (λ n. tuples_in n z v) count
       ∙ ap (λ n. tuple_of z v ∷ tuples_in (n / (2 * z)) z (cut (2 * z) v)) left
 
-  -- what holds where no tuple is left, and of a view where it holds behind its first tuple, holds
+  -- what holds where no tuple is left, and of a view where it holds after its first tuple, holds
   -- of each view
   pub by_tuples : (P : View → Type 0) → ((v : View) → length v.bytes < 2 * z → P v)
       → ((v : View) → 2 * z ≤ length v.bytes → P (cut (2 * z) v) → P v) → (v : View) → P v
@@ -60,7 +61,7 @@ module _ (z : ℕ) (some : 0 < z) where
       ]
 
   module _ {B : Type 0} (f : ℕ × ℕ → Option B) where
-    -- what is left behind n tuples of these and one more, or at the end where there are no more
+    -- what is left after n tuples of these and one more, or at the end where there are no more
     abbrev rest_behind : View → List (ℕ × ℕ) → ℕ → View
     rest_behind v ts n = if nat_lt n (length ts) then cut ((n + 1) * (2 * z)) v else ended v
 
@@ -71,12 +72,12 @@ module _ (z : ℕ) (some : 0 < z) where
     first_at v ts n = (option_and_then f (slice_get ts n), rest_behind v ts n)
 
     abbrev first_in : View → List (ℕ × ℕ) → First
-    first_in v ts = first_at v ts (before_first f ts)
+    first_in v ts = first_at v ts (count_before_first f ts)
 
     first_here : (v : View) (t : ℕ × ℕ) (ts : List (ℕ × ℕ)) (b : B) → f t ≡ Some b
         → first_in v (t ∷ ts) ≡ (Some b, cut (2 * z) v)
     first_here v t ts b e =
-        let n : before_first f (t ∷ ts) ≡ 0 = rw e refl in
+        let n : count_before_first f (t ∷ ts) ≡ 0 = rw e refl in
         let lt : nat_lt 0 (length (t ∷ ts)) ≡ true = lt-ltb 0 (length (t ∷ ts)) (omega arith) in
         let one : (0 + 1) * (2 * z) ≡ 2 * z = omega arith in
         let rest : rest_behind v (t ∷ ts) 0 ≡ cut (2 * z) v = rw lt (ap (λ k. cut k v) one) in
@@ -88,8 +89,8 @@ module _ (z : ℕ) (some : 0 < z) where
     first_later : (v : View) (t : ℕ × ℕ) (ts : List (ℕ × ℕ)) → f t ≡ None → 2 * z ≤ length v.bytes
         → first_in v (t ∷ ts) ≡ first_in (cut (2 * z) v) ts
     first_later v t ts e le =
-        let m = before_first f ts in
-        let n : before_first f (t ∷ ts) ≡ suc m = rw e (omega arith) in
+        let m = count_before_first f ts in
+        let n : count_before_first f (t ∷ ts) ≡ suc m = rw e (omega arith) in
         let rest : rest_behind v (t ∷ ts) (suc m)
         ≡ rest_behind (cut (2 * z) v) ts m = elim (leb_tells (suc m) (length ts)) [
           | inl inside ↦

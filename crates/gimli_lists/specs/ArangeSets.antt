@@ -32,7 +32,7 @@ fields_size format = initial_length_size_of format + 2 + word_size_of format + 1
 abbrev pub padding_size : Format → ℕ → ℕ
 padding_size format size = (2 * size - fields_size format % (2 * size)) % (2 * size)
 
--- the fields behind the length, with the padding: the encoding, and the offset of the unit
+-- the fields after the length, with the padding: the encoding, and the offset of the unit
 unfoldable pub set_fields_at : ℕ → Format → View → Reads (Encoding × ℕ)
 set_fields_at limit format v = uint_at 2 v >>= λ version.
     if version.0 == 2 || version.0 == 3
@@ -45,7 +45,7 @@ set_fields_at limit format v = uint_at 2 v >>= λ version.
     else Err (UnsupportedSegmentSize segment.0))
     else Err (UnknownVersion version.0)
 
--- the set of the fields that were read from its own bytes; what is left begins behind those
+-- the set of the fields that were read from its own bytes; what is left begins after those
 abbrev pub set_in : ℕ → ℕ → Reads (Encoding × ℕ) → View → Reads ArangeSet
 set_in offset length_field (Ok fields) rest =
     Ok (
@@ -61,7 +61,7 @@ set_in offset length_field (Ok fields) rest =
 set_in offset length_field (Err e) rest = Err e
 
 -- The next set, which begins at an offset of its section: a length, and that many bytes, in which
--- the tuples follow the fields. What is left begins behind the set's whole length.
+-- the tuples follow the fields. What is left begins after the set's whole length.
 unfoldable pub set_at : ℕ → ℕ → View → Reads ArangeSet
 set_at limit offset v =
     initial_length_at limit v >>= λ field. split_at field.0.0 field.1
@@ -77,12 +77,12 @@ pub record SetsPlace : Type 0 where
   pub offset : ℕ
 
 -- the number of bytes of a set, with its length field
-abbrev pub whole_length : ArangeSet → ℕ
-whole_length s = initial_length_size_of s.encoding.format + s.length_field
+abbrev pub set_length : ArangeSet → ℕ
+set_length s = initial_length_size_of s.encoding.format + s.length_field
 
--- the place behind the whole length of a set
-abbrev pub behind : ArangeSet → SetsPlace → SetsPlace
-behind s p = record { rest = cut (whole_length s) p.rest; offset = p.offset + whole_length s }
+-- the place after the whole length of a set
+abbrev pub after_set : ArangeSet → SetsPlace → SetsPlace
+after_set s p = record { rest = cut (set_length s) p.rest; offset = p.offset + set_length s }
 
 -- The sets from a place on, each as an answer: each begins where the whole length of the one before
 -- ends, up to the end of the bytes, or to the first header that is refused, which is the last
@@ -92,7 +92,7 @@ sets_within limit zero p = []
 sets_within limit (suc n) p =
     if length p.rest.bytes == 0 then []
     else elim (set_at limit p.offset p.rest) [
-      | Ok q ↦ Ok q.0 ∷ sets_within limit n (behind q.0 p)
+      | Ok q ↦ Ok q.0 ∷ sets_within limit n (after_set q.0 p)
       | Err e ↦ Err e ∷ []
     ]
 
@@ -103,13 +103,13 @@ sets_ahead limit p = sets_within limit (length p.rest.bytes) p
 abbrev pub sets_of : ℕ → View → List (Result ArangeSet Error)
 sets_of limit v = sets_ahead limit (record { rest = v; offset = 0 })
 
--- The next answer, and the place that its reading leaves: none where nothing is left, and behind a
+-- The next answer, and the place that its reading leaves: none where nothing is left, and after a
 -- refusal nothing is left.
 unfoldable pub next_set : ℕ → SetsPlace → Option (Result ArangeSet Error) × SetsPlace
 next_set limit p =
     if length p.rest.bytes == 0 then (None, p)
     else elim (set_at limit p.offset p.rest) [
-      | Ok q ↦ (Some (Ok q.0), record { rest = q.1; offset = p.offset + whole_length q.0 })
+      | Ok q ↦ (Some (Ok q.0), record { rest = q.1; offset = p.offset + set_length q.0 })
       | Err e ↦ (Some (Err e), record { rest = ended p.rest; offset = p.offset })
     ]
 

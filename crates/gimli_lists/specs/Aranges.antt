@@ -16,7 +16,7 @@ use Rattle.gimli_lists.specs.declared.aranges.entries.ArangeEntry.{ArangeEntry}
 abbrev pub tuple_of : ℕ → View → ℕ × ℕ
 tuple_of size v = (number v.big (take size v.bytes), number v.big (take size (drop size v.bytes)))
 
--- n tuples, one behind the other
+-- n tuples, one after the other
 abbrev pub tuples_in : ℕ → ℕ → View → List (ℕ × ℕ)
 tuples_in zero size v = []
 tuples_in (suc n) size v = tuple_of size v ∷ tuples_in n size (cut (2 * size) v)
@@ -25,7 +25,7 @@ tuples_in (suc n) size v = tuple_of size v ∷ tuples_in n size (cut (2 * size) 
 unfoldable pub tuples_of : ℕ → View → List (ℕ × ℕ)
 tuples_of size v = tuples_in (length v.bytes / (2 * size)) size v
 
--- the next tuple, and what is left behind it; none where fewer bytes are left than a tuple has, and
+-- the next tuple, and what is left after it; none where fewer bytes are left than a tuple has, and
 -- then none is left
 abbrev pub next_tuple : ℕ → View → Result (Option (ℕ × ℕ)) Error × View
 next_tuple size v = if nat_le (2 * size) (length v.bytes)
@@ -37,8 +37,8 @@ raw_entry t = if (t.0 == 0 && t.1 == 0) then None
     else Some (record { range = record { begin = t.0; end = 0 }; length = t.1 })
 
 -- the entry of an address and a length with its end; none where the address stands for none
-abbrev pub converted : ℕ → ArangeEntry → Result (Option ArangeEntry) Error
-converted size e =
+abbrev pub converted_arange : ℕ → ArangeEntry → Result (Option ArangeEntry) Error
+converted_arange size e =
     if nat_le (min_tombstone size) e.range.begin then Ok None
     else answer_of
     (λ end.
@@ -47,7 +47,7 @@ converted size e =
 
 -- what a tuple stands for: nothing, a refusal, or a range
 abbrev pub answer_to : ℕ → ℕ × ℕ → Option (Result ArangeEntry Error)
-answer_to size t = option_and_then (λ e. result_transpose (converted size e)) (raw_entry t)
+answer_to size t = option_and_then (λ e. result_transpose (converted_arange size e)) (raw_entry t)
 
 -- the raw entries of a set
 abbrev pub raw_entries : ℕ → View → List ArangeEntry
@@ -58,15 +58,15 @@ abbrev pub aranges_of : ℕ → View → List (Result ArangeEntry Error)
 aranges_of size v = filter_map (answer_to size) (tuples_of size v)
 
 -- the number of tuples before the first that `f` makes something of, or of all
-abbrev pub before_first : {B : Type 0} → (ℕ × ℕ → Option B) → List (ℕ × ℕ) → ℕ
-before_first f ts = position_or_len (λ t. is_some (f t)) ts
+abbrev pub count_before_first : {B : Type 0} → (ℕ × ℕ → Option B) → List (ℕ × ℕ) → ℕ
+count_before_first f ts = position_or_len (λ t. is_some (f t)) ts
 
--- The first that `f` makes of a tuple, and what is left: the bytes behind that tuple, or none where
+-- The first that `f` makes of a tuple, and what is left: the bytes after that tuple, or none where
 -- there is no such tuple.
 unfoldable pub first_of_tuples : {B : Type 0} → (ℕ × ℕ → Option B) → ℕ → View → Option B × View
 first_of_tuples f size v =
     let ts = tuples_of size v in
-    let n = before_first f ts in (
+    let n = count_before_first f ts in (
       option_and_then f (slice_get ts n),
       if nat_lt n (length ts) then cut ((n + 1) * (2 * size)) v else ended v,
     )

@@ -1,34 +1,21 @@
 -- What is read of an entry of a list leaves a later view, and its addresses have its size (DWARF 5,
 -- 7.7.3 and 7.25; DWARF 4, 2.6.2 and 2.17.3).
-use Rattle.std.proofs.Common.{◌≡◌, ℕ, zero, suc, ◌≤◌, nat_lt, Bool, true, false, Ok, Err, refl}
-use Rattle.std.proofs.Common.{arith, inl, inr}
-use Rattle.std.proofs.lemmas.Bool.Decides.{eqb_tells}
+use Rattle.std.proofs.Common.{◌≡◌, ℕ, zero, suc, ◌≤◌, Bool, true, false, Err, refl}
+use Rattle.std.proofs.Common.{arith}
 use Rattle.std.specs.Prelude.{◌==◌, ◌&&◌, if◌then◌else◌}
 use Rattle.gimli_base.specs.declared.error.Error.TheVariants.{UnsupportedAddressSize}
 use Rattle.gimli_base.specs.View.{View}
-use Rattle.gimli_base.specs.Address.{ones_sized, min_tombstone}
+use Rattle.gimli_base.specs.Address.{ones_sized}
 use Rattle.gimli_base.specs.Reading.{Reads, uint_at, uleb_at, address_at, is_size}
-use Rattle.gimli_base.specs.Later.{LeavesLater, IsLater-none, err_leaves_later, ok_leaves_later}
-use Rattle.gimli_base.specs.Later.{weaker_leaves_later, then_leaves_later, made_leaves_later}
-use Rattle.gimli_base.specs.Later.{if_leaves_later, uint_at-later, as_offset-later}
-use Rattle.gimli_base.specs.Later.{address_at-later, uleb_at-later}
-use Rattle.gimli_lists.specs.RawList.{Entry, pair_at, old_entry_at, index_at, two_at}
+use Rattle.gimli_base.proofs.Later.{LeavesLater, IsLater-none, err_leaves_later, ok_leaves_later}
+use Rattle.gimli_base.proofs.Later.{weaker_leaves_later, then_leaves_later, made_leaves_later}
+use Rattle.gimli_base.proofs.Later.{if_leaves_later, uint_at-later, as_offset-later}
+use Rattle.gimli_base.proofs.Later.{address_at-later, uleb_at-later}
+use Rattle.gimli_lists.specs.RawList.{ListEntry, pair_at, old_entry_at, index_at, two_at}
 
 some_byte : (size : ℕ) → is_size size ≡ true → 1 ≤ size
 some_byte zero h = absurd (cc)
 some_byte (suc n) h = omega arith
-
--- an address is read in a size that there is
-pub address_at-sized : (size : ℕ) (v : View) (p : ℕ × View) → Ok p ≡ address_at size v
-    → is_size size ≡ true
-unfolding address_at
-address_at-sized size v p h = cases (is_size size) refl h
-  where
-    cases : (t : Bool) → is_size size ≡ t
-        → ◌≡◌ {A = Reads ℕ} (Ok p) (if t then uint_at size v else Err (UnsupportedAddressSize size))
-        → is_size size ≡ true
-    cases true is h = is
-    cases false is h = absurd (cc)
 
 address_at-takes : (size : ℕ) (v : View) → LeavesLater 1 v (address_at size v)
 unfolding address_at
@@ -39,24 +26,6 @@ address_at-takes size v = cases (is_size size) refl
     cases true is = weaker_leaves_later size 1 v (uint_at size v) (some_byte size is)
         (uint_at-later size v)
     cases false is = err_leaves_later {A = ℕ} 1 v (UnsupportedAddressSize size)
-
--- 0 is below the least tombstone of each size
-pub zero-address : (size : ℕ) → is_size size ≡ true → nat_lt 0 (min_tombstone size) ≡ true
-zero-address size h = elim (eqb_tells size 1) [
-  | inl one ↦ rw one.1 refl
-  | inr not_one ↦ elim (eqb_tells size 2) [
-    | inl two ↦ rw two.1 refl
-    | inr not_two ↦ elim (eqb_tells size 4) [
-      | inl four ↦ rw four.1 refl
-      | inr not_four ↦ elim (eqb_tells size 8) [
-        | inl eight ↦ rw eight.1 refl
-        | inr not_eight ↦ absurd
-            (let none : false ≡ true = rw (not_one.0, not_two.0, not_four.0, not_eight.0) at h in
-            cc)
-      ]
-    ]
-  ]
-]
 
 -- what is read leaves the view or a later one
 abbrev pub Moves : {A : Type 0} → (View → Reads A) → Type 0
@@ -73,7 +42,7 @@ address_at-moves size v =
     weaker_leaves_later size 0 v (address_at size v) (omega arith) (address_at-later size v)
 
 module _ {P : Type 0} (payload : View → Reads P) (payload_moves : Moves payload) where
-  pub two_at-moves : (first second : View → Reads ℕ) (entry : ℕ → ℕ → P → Entry P) → Moves first
+  pub two_at-moves : (first second : View → Reads ℕ) (entry : ℕ → ℕ → P → ListEntry P) → Moves first
       → Moves second → Moves (two_at payload first second entry)
   two_at-moves first second entry m n v =
       then_leaves_later 0 0 v (first v) _ (m v)

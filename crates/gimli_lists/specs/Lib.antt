@@ -3,7 +3,6 @@ pub mod Aranges
 pub mod ArangeSets
 pub mod RawList
 pub mod Resolved
-pub mod ListSteps
 pub mod Places
 pub mod EntryMoves
 pub mod RangeEntry

@@ -17,7 +17,7 @@ header_of format version address_size count =
       offset_entry_count = count;
     }
 
--- the fields behind the length: the version, the sizes of an address and of a segment selector, and
+-- the fields after the length: the version, the sizes of an address and of a segment selector, and
 -- how many offsets follow
 unfoldable pub lists_fields_at : Format → View → Reads ListsHeader
 lists_fields_at format v = uint_at 2 v >>= λ version.
@@ -26,7 +26,7 @@ lists_fields_at format v = uint_at 2 v >>= λ version.
     (uint_at 4 selector.1) else Err (UnsupportedSegmentSize selector.0))
     else Err (UnknownVersion version.0)
 
--- The next header. The number in its length field is that of the bytes behind the field, and only
+-- The next header. The number in its length field is that of the bytes after the field, and only
 -- those are left, without the other fields.
 unfoldable pub lists_header_at : ℕ → View → Reads ListsHeader
 lists_header_at limit v =

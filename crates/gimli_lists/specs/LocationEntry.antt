@@ -18,15 +18,16 @@ use Rattle.gimli_lists.specs.declared.loclists.raw.RawLocListEntry.TheVariants.{
 use Rattle.gimli_lists.specs.declared.loclists.raw.RawLocListEntry.TheVariants.{StartLength}
 use Rattle.gimli_lists.specs.declared.lists.ListsFormat.TheVariants.{Bare, Coded}
 use Rattle.gimli_lists.specs.Places.{Grammar}
-use Rattle.gimli_lists.specs.RawList.{Entry, address_or_offset_pair, base_address, base_addressx}
+use Rattle.gimli_lists.specs.RawList.{ListEntry, address_or_offset_pair, base_address}
+use Rattle.gimli_lists.specs.RawList.{base_addressx}
 use Rattle.gimli_lists.specs.RawList.{startx_endx, startx_length, offset_pair, default_location}
 use Rattle.gimli_lists.specs.RawList.{start_end, start_length, EntryReads, old_entry_at, index_at}
 use Rattle.gimli_lists.specs.RawList.{two_at}
 
--- an entry of a location list: behind its operands stands an expression, which is the view of its
+-- an entry of a location list: after its operands stands an expression, which is the view of its
 -- bytes; a base address has none
 abbrev pub LocationEntry : Type 0
-LocationEntry = Entry View
+LocationEntry = ListEntry View
 
 -- the entry that code holds, by what its readers and offsets stand for
 abbrev pub location_entry_of : {R O : Type 0} → (R → View) → (O → ℕ) → RawLocListEntry R O
@@ -45,11 +46,11 @@ location_entry_of view number (StartEnd begin end expr) = start_end begin end (v
 location_entry_of view number (StartLength begin length expr) =
     start_length begin length (view expr.0)
 
--- an expression behind its length of 2 bytes
+-- an expression after its length of 2 bytes
 abbrev pub short_expression_at : View → Reads View
 short_expression_at v = uint_at 2 v >>= λ length. split_at length.0 length.1
 
--- an expression behind its length: a LEB128 number since version 5, 2 bytes before
+-- an expression after its length: a LEB128 number since version 5, 2 bytes before
 abbrev pub expression_at : ℕ → ℕ → View → Reads View
 expression_at limit version v =
     if nat_le 5 version then (index_at limit v >>= λ length. split_at length.0 length.1)

@@ -5,10 +5,11 @@ use Rattle.gimli_base.specs.declared.common.Encoding.{Encoding}
 use Rattle.gimli_base.specs.declared.error.Error.TheVariants.{UnknownLocListsEntry}
 use Rattle.gimli_base.specs.View.{View}
 use Rattle.gimli_base.specs.Reading.{byte_at, uint_at, uleb_at, address_at, split_at}
-use Rattle.gimli_base.specs.Later.{LeavesLater, IsLater-none, IsLater-length, err_leaves_later}
-use Rattle.gimli_base.specs.Later.{ok_leaves_later, weaker_leaves_later, then_leaves_later}
-use Rattle.gimli_base.specs.Later.{made_leaves_later, if_leaves_later, byte_at-later, uint_at-later}
-use Rattle.gimli_base.specs.Later.{split_at-later}
+use Rattle.gimli_base.proofs.Later.{LeavesLater, IsLater-none, IsLater-length, err_leaves_later}
+use Rattle.gimli_base.proofs.Later.{ok_leaves_later, weaker_leaves_later, then_leaves_later}
+use Rattle.gimli_base.proofs.Later.{made_leaves_later, if_leaves_later, byte_at-later}
+use Rattle.gimli_base.proofs.Later.{uint_at-later}
+use Rattle.gimli_base.proofs.Later.{split_at-later}
 use Rattle.gimli_lists.specs.declared.lists.ListsFormat.{ListsFormat}
 use Rattle.gimli_lists.specs.declared.lists.ListsFormat.TheVariants.{Bare, Coded}
 use Rattle.gimli_lists.specs.RawList.{base_address, base_addressx, startx_endx, startx_length}

@@ -13,7 +13,7 @@ use Rattle.gimli_base.specs.Reading.{◌>>=◌, made, as_offset, lookup_at, offs
 use Rattle.gimli_base.specs.Reading.{word_size_of}
 use Rattle.gimli_lists.specs.declared.lists.ListsFormat.{ListsFormat}
 use Rattle.gimli_lists.specs.declared.lists.ListsFormat.TheVariants.{Bare, Coded}
-use Rattle.gimli_lists.specs.RawList.{Entry, EntryReads, RawList, list_at, next_entry}
+use Rattle.gimli_lists.specs.RawList.{ListEntry, EntryReads, RawList, list_at, next_entry}
 use Rattle.gimli_lists.specs.Resolved.{LookUp, Resolved, base_given, base_before, resolve}
 use Rattle.gimli_lists.specs.Resolved.{entries_read, entry_answers, resolved_list, answered}
 
@@ -50,13 +50,13 @@ list_offset limit format base index v =
 
 -- where the reading of a list stands: what is left of the section, the encoding of the unit, and
 -- how the list is written
-pub record RawPlace : Type 0 where
+pub record RawListPlace : Type 0 where
   pub rest : View
   pub encoding : Encoding
   pub format : ListsFormat
 
 -- the beginning of the list at an offset of the section in which the unit's lists lie
-unfoldable pub raw_list_at : ListsFormat → ℕ → Encoding → ListSections → Result RawPlace Error
+unfoldable pub raw_list_at : ListsFormat → ℕ → Encoding → ListSections → Result RawListPlace Error
 raw_list_at format offset encoding s =
     elim (skip_at offset (section_of encoding.version s)) [
       | Ok p ↦ Ok (record { rest = p.1; encoding = encoding; format = format })
@@ -71,23 +71,23 @@ Grammar P = ListsFormat → Encoding → EntryReads P
 -- each entry takes a byte at least
 abbrev pub TakesBytes : {P : Type 0} → Grammar P → Type 0
 TakesBytes {P} grammar =
-    (format : ListsFormat) (encoding : Encoding) (v : View) (e : Option (Entry P)) (w : View)
+    (format : ListsFormat) (encoding : Encoding) (v : View) (e : Option (ListEntry P)) (w : View)
     → Ok (e, w) ≡ grammar format encoding v → length w.bytes < length v.bytes
 
 -- the next entry of a place, and the place that is left
-unfoldable pub next_raw : {P : Type 0} → Grammar P → RawPlace
-    → Result (Option (Entry P)) Error × RawPlace
+unfoldable pub next_raw : {P : Type 0} → Grammar P → RawListPlace
+    → Result (Option (ListEntry P)) Error × RawListPlace
 next_raw grammar p = let n = next_entry (grammar p.format p.encoding) p.rest in
     (n.0, record p { rest = n.1 })
 
 -- the list, as it is written, that is left at a place
-abbrev pub raw_list_ahead : {P : Type 0} → Grammar P → RawPlace → RawList P
+abbrev pub raw_list_ahead : {P : Type 0} → Grammar P → RawListPlace → RawList P
 raw_list_ahead grammar p = list_at (grammar p.format p.encoding) p.rest
 
 -- where the reading of what a list stands for is: in the list, with a base address at hand, and a
 -- table in the section of addresses
 pub record ListPlace : Type 0 where
-  pub raw : RawPlace
+  pub raw : RawListPlace
   pub base : ℕ
   pub addresses : View
   pub table : ℕ
@@ -97,9 +97,9 @@ abbrev pub look_up_of : ℕ → ListPlace → LookUp
 look_up_of limit p = λ index.
     table_address limit p.raw.encoding.address_size p.table index p.addresses
 
--- what an entry stands for, and the place behind it: its base is the one that the entry gives, or
+-- what an entry stands for, and the place after it: its base is the one that the entry gives, or
 -- the one before
-unfoldable pub converted : {P : Type 0} → ℕ → Entry P → ListPlace
+unfoldable pub converted : {P : Type 0} → ℕ → ListEntry P → ListPlace
     → Result (Option (Resolved P)) Error × ListPlace
 converted limit e p = (
   resolve p.raw.encoding.address_size (look_up_of limit p) p.base e,
@@ -111,7 +111,7 @@ abbrev pub list_ahead : {P : Type 0} → Grammar P → ListPlace → RawList P
 list_ahead grammar p = raw_list_ahead grammar p.raw
 
 -- the entries of the list that are left at a place
-abbrev pub entries_ahead : {P : Type 0} → Grammar P → ListPlace → List (Entry P)
+abbrev pub entries_ahead : {P : Type 0} → Grammar P → ListPlace → List (ListEntry P)
 entries_ahead grammar p = (list_ahead grammar p).entries
 
 -- the answers of the list that begins at a place, with the base address at hand
@@ -130,10 +130,10 @@ entry_answers_ahead grammar limit p =
 abbrev pub IsSpent : {P : Type 0} → Grammar P → ℕ → ListPlace → ListPlace → Type 0
 IsSpent grammar limit p q = entry_answers_ahead grammar limit p ≡ [] → length q.raw.rest.bytes ≡ 0
 
--- q is the place behind the next n entries from p on: the others are left, and the base before them
+-- q is the place after the next n entries from p on: the others are left, and the base before them
 -- is at hand
-abbrev pub IsBehind : {P : Type 0} → Grammar P → ℕ → ℕ → ListPlace → ListPlace → Type 0
-IsBehind grammar limit n p q =
+abbrev pub IsAfterEntries : {P : Type 0} → Grammar P → ℕ → ℕ → ListPlace → ListPlace → Type 0
+IsAfterEntries grammar limit n p q =
     (entries_ahead grammar q ≡ drop n (entries_ahead grammar p))
     × (q.base ≡ base_before (look_up_of limit p) p.base (entries_ahead grammar p) n)
 
@@ -142,17 +142,17 @@ abbrev pub read_from : {P : Type 0} → Grammar P → ℕ → ListPlace → ℕ
 read_from grammar limit p =
     entries_read p.raw.encoding.address_size (look_up_of limit p) p.base (entries_ahead grammar p)
 
--- q is behind p in the same list, with a base address of its own
+-- q is after p in the same list, with a base address of its own
 abbrev pub InList : ListPlace → ListPlace → Type 0
 InList p q = q ≡ record p { raw = record p.raw { rest = q.raw.rest }; base = q.base }
 
--- a call at p answers a and leaves q: the first of the answers ahead, and the place behind the
+-- a call at p answers a and leaves q: the first of the answers ahead, and the place after the
 -- entries that it takes, where nothing is left if none of the entries answers
 abbrev pub IsNext : {P : Type 0} → Grammar P → ℕ → ListPlace → Result (Option (Resolved P)) Error
     → ListPlace → Type 0
 IsNext grammar limit p a q =
     (answers_ahead grammar limit p ≡ answered a (answers_ahead grammar limit q))
-    × IsBehind grammar limit (read_from grammar limit p) p q
+    × IsAfterEntries grammar limit (read_from grammar limit p) p q
     × InList p q × IsSpent grammar limit p q
 
 -- the beginning of what the list at an offset stands for, with a base address at hand

@@ -15,24 +15,25 @@ use Rattle.gimli_lists.specs.declared.rnglists.raw.RawRngListEntry.TheVariants.{
 use Rattle.gimli_lists.specs.declared.rnglists.raw.RawRngListEntry.TheVariants.{StartLength}
 use Rattle.gimli_lists.specs.declared.lists.ListsFormat.TheVariants.{Bare, Coded}
 use Rattle.gimli_lists.specs.Places.{Grammar}
-use Rattle.gimli_lists.specs.RawList.{Entry, address_or_offset_pair, base_address, base_addressx}
+use Rattle.gimli_lists.specs.RawList.{ListEntry, address_or_offset_pair, base_address}
+use Rattle.gimli_lists.specs.RawList.{base_addressx}
 use Rattle.gimli_lists.specs.RawList.{startx_endx, startx_length, offset_pair, start_end}
 use Rattle.gimli_lists.specs.RawList.{start_length, EntryReads, old_entry_at, index_at, two_at}
 
--- an entry of a range list: nothing stands behind its operands
+-- an entry of a range list: nothing stands after its operands
 abbrev pub RangeEntry : Type 0
-RangeEntry = Entry (Unit {0})
+RangeEntry = ListEntry (Unit {0})
 
 -- the entry that code holds, by what its offsets stand for
-abbrev pub entry_of : {O : Type 0} → (O → ℕ) → RawRngListEntry O → RangeEntry
-entry_of number (AddressOrOffsetPair begin end) = address_or_offset_pair begin end tt
-entry_of number (BaseAddress address) = base_address address
-entry_of number (BaseAddressx index) = base_addressx (number index.0)
-entry_of number (StartxEndx begin end) = startx_endx (number begin.0) (number end.0) tt
-entry_of number (StartxLength begin length) = startx_length (number begin.0) length tt
-entry_of number (OffsetPair begin end) = offset_pair begin end tt
-entry_of number (StartEnd begin end) = start_end begin end tt
-entry_of number (StartLength begin length) = start_length begin length tt
+abbrev pub range_entry_of : {O : Type 0} → (O → ℕ) → RawRngListEntry O → RangeEntry
+range_entry_of number (AddressOrOffsetPair begin end) = address_or_offset_pair begin end tt
+range_entry_of number (BaseAddress address) = base_address address
+range_entry_of number (BaseAddressx index) = base_addressx (number index.0)
+range_entry_of number (StartxEndx begin end) = startx_endx (number begin.0) (number end.0) tt
+range_entry_of number (StartxLength begin length) = startx_length (number begin.0) length tt
+range_entry_of number (OffsetPair begin end) = offset_pair begin end tt
+range_entry_of number (StartEnd begin end) = start_end begin end tt
+range_entry_of number (StartLength begin length) = start_length begin length tt
 
 -- nothing is read
 abbrev pub nothing_at : View → Reads (Unit {0})

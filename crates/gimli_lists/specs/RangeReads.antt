@@ -5,9 +5,9 @@ use Rattle.gimli_base.specs.declared.common.Encoding.{Encoding}
 use Rattle.gimli_base.specs.declared.error.Error.TheVariants.{UnknownRangeListsEntry}
 use Rattle.gimli_base.specs.View.{View}
 use Rattle.gimli_base.specs.Reading.{byte_at, uleb_at, address_at}
-use Rattle.gimli_base.specs.Later.{LeavesLater, IsLater-none, IsLater-length, err_leaves_later}
-use Rattle.gimli_base.specs.Later.{ok_leaves_later, then_leaves_later, made_leaves_later}
-use Rattle.gimli_base.specs.Later.{if_leaves_later, byte_at-later}
+use Rattle.gimli_base.proofs.Later.{LeavesLater, IsLater-none, IsLater-length, err_leaves_later}
+use Rattle.gimli_base.proofs.Later.{ok_leaves_later, then_leaves_later, made_leaves_later}
+use Rattle.gimli_base.proofs.Later.{if_leaves_later, byte_at-later}
 use Rattle.gimli_lists.specs.declared.lists.ListsFormat.{ListsFormat}
 use Rattle.gimli_lists.specs.declared.lists.ListsFormat.TheVariants.{Bare, Coded}
 use Rattle.gimli_lists.specs.RawList.{base_address, base_addressx, startx_endx, startx_length}

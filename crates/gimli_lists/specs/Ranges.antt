@@ -10,8 +10,8 @@ use Rattle.gimli_lists.specs.Places.{list_answers}
 use Rattle.gimli_lists.specs.Resolved.{Resolved}
 
 -- what stands for a range
-abbrev pub range_of : Range → Resolved (Unit {0})
-range_of r = record { begin = r.begin; end = r.end; payload = tt }
+abbrev pub resolved_of : Range → Resolved (Unit {0})
+resolved_of r = record { begin = r.begin; end = r.end; payload = tt }
 
 -- the answers of the range list that begins at a place, with the base address at hand
 abbrev pub ranges_ahead : ℕ → ListPlace → List (Result (Resolved (Unit {0})) Error)

@@ -1,4 +1,4 @@
--- Range lists and location lists as they lie in the bytes: entries one behind the other, and how
+-- Range lists and location lists as they lie in the bytes: entries one after the other, and how
 -- they end (DWARF 5, 2.6.2, 2.17.3, 7.7.3 and 7.25; DWARF 4, 2.6.2 and 2.17.3).
 use Rattle.std.specs.Prelude.{◌≡◌, ◌⊎◌, ℕ, zero, suc, ◌==◌, ◌&&◌, if◌then◌else◌, List, [], ◌∷◌}
 use Rattle.std.specs.Prelude.{length, Option, Some, None, Result, Ok, Err}
@@ -7,30 +7,30 @@ use Rattle.gimli_base.specs.View.{View, ended}
 use Rattle.gimli_base.specs.Address.{ones_sized}
 use Rattle.gimli_base.specs.Reading.{Reads, ◌>>=◌, made, as_offset, uleb_at, address_at}
 
--- an entry of a list, with what stands behind its operands: nothing in a range list, and an
+-- an entry of a list, with what stands after its operands: nothing in a range list, and an
 -- expression in a location list, but for a base address
-pub data Entry (P : Type 0) : Type 0 where
-  address_or_offset_pair : (begin end : ℕ) → P → Entry P
-  base_address : (address : ℕ) → Entry P
-  base_addressx : (index : ℕ) → Entry P
-  startx_endx : (begin end : ℕ) → P → Entry P
-  startx_length : (begin length : ℕ) → P → Entry P
-  offset_pair : (begin end : ℕ) → P → Entry P
-  default_location : P → Entry P
-  start_end : (begin end : ℕ) → P → Entry P
-  start_length : (begin length : ℕ) → P → Entry P
+pub data ListEntry (P : Type 0) : Type 0 where
+  address_or_offset_pair : (begin end : ℕ) → P → ListEntry P
+  base_address : (address : ℕ) → ListEntry P
+  base_addressx : (index : ℕ) → ListEntry P
+  startx_endx : (begin end : ℕ) → P → ListEntry P
+  startx_length : (begin length : ℕ) → P → ListEntry P
+  offset_pair : (begin end : ℕ) → P → ListEntry P
+  default_location : P → ListEntry P
+  start_end : (begin end : ℕ) → P → ListEntry P
+  start_length : (begin length : ℕ) → P → ListEntry P
 
 -- how an entry is read: it, or none at the end of the list
 abbrev pub EntryReads : Type 0 → Type 0
-EntryReads P = View → Reads (Option (Entry P))
+EntryReads P = View → Reads (Option (ListEntry P))
 
--- two addresses, one behind the other
+-- two addresses, one after the other
 unfoldable pub pair_at : ℕ → View → Reads (ℕ × ℕ)
 pair_at size v = address_at size v
     >>= λ begin. made (λ end. (begin.0, end)) (address_at size begin.1)
 
 -- an entry of the old encoding: two addresses, which are the end where both are 0, and a base
--- address where the first is all ones; behind another pair stands what `payload` reads
+-- address where the first is all ones; after another pair stands what `payload` reads
 unfoldable pub old_entry_at : {P : Type 0} → (View → Reads P) → ℕ → EntryReads P
 old_entry_at payload size v = pair_at size v >>= λ pair.
     if pair.0.0 == 0 && pair.0.1 == 0 then Ok (None, pair.1)
@@ -41,9 +41,9 @@ old_entry_at payload size v = pair_at size v >>= λ pair.
 abbrev pub index_at : ℕ → View → Reads ℕ
 index_at limit v = as_offset limit (uleb_at v)
 
--- two operands, one behind the other, and then what `payload` reads: an entry of these
+-- two operands, one after the other, and then what `payload` reads: an entry of these
 abbrev pub two_at : {P : Type 0} → (View → Reads P) → (View → Reads ℕ) → (View → Reads ℕ)
-    → (ℕ → ℕ → P → Entry P) → EntryReads P
+    → (ℕ → ℕ → P → ListEntry P) → EntryReads P
 two_at payload first second entry v =
     first v >>= λ a. second a.1 >>= λ b. made (λ p. Some (entry a.0 b.0 p)) (payload b.1)
 
@@ -55,7 +55,7 @@ pub data Ending : Type 0 where
   refused : Error → Ending
 
 pub record RawList (P : Type 0) : Type 0 where
-  pub entries : List (Entry P)
+  pub entries : List (ListEntry P)
   pub ending : Ending
 
 -- no entry
@@ -63,16 +63,16 @@ abbrev pub no_entries : {P : Type 0} → Ending → RawList P
 no_entries ending = record { entries = []; ending = ending }
 
 -- an entry before others
-abbrev pub then_entry : {P : Type 0} → Entry P → RawList P → RawList P
+abbrev pub then_entry : {P : Type 0} → ListEntry P → RawList P → RawList P
 then_entry e l = record { entries = e ∷ l.entries; ending = l.ending }
 
 -- what was read, and then the entries of what is left
-abbrev pub then_list : {P : Type 0} → Reads (Option (Entry P)) → (View → RawList P) → RawList P
+abbrev pub then_list : {P : Type 0} → Reads (Option (ListEntry P)) → (View → RawList P) → RawList P
 then_list (Ok p) rest =
     elim p.0 [ Some e ↦ then_entry e (rest p.1) | None ↦ no_entries end_of_list ]
 then_list (Err e) rest = no_entries (refused e)
 
--- The entries of a view, of which `next` reads each: one behind the other, up to the one that ends
+-- The entries of a view, of which `next` reads each: one after the other, up to the one that ends
 -- the list, the end of the bytes or the first that is refused. Each takes a byte at least, so that
 -- n, the number of bytes, is enough.
 unfoldable pub list_within : {P : Type 0} → EntryReads P → ℕ → View → RawList P
@@ -84,21 +84,21 @@ list_within next (suc n) v =
 unfoldable pub list_at : {P : Type 0} → EntryReads P → View → RawList P
 list_at next v = list_within next (length v.bytes) v
 
--- an answer, and the view that it leaves: behind an entry what follows it, behind the end and
--- behind a refusal nothing
-abbrev pub left_by : {P : Type 0} → View → Reads (Option (Entry P))
-    → Result (Option (Entry P)) Error × View
+-- an answer, and the view that it leaves: after an entry what follows it, after the end and
+-- after a refusal nothing
+abbrev pub left_by : {P : Type 0} → View → Reads (Option (ListEntry P))
+    → Result (Option (ListEntry P)) Error × View
 left_by v (Ok p) = elim p.0 [ Some e ↦ (Ok (Some e), p.1) | None ↦ (Ok None, ended v) ]
 left_by v (Err e) = (Err e, ended v)
 
 -- the next entry of a list, and what is left of it: none where no byte is left
 unfoldable pub next_entry : {P : Type 0} → EntryReads P → View
-    → Result (Option (Entry P)) Error × View
+    → Result (Option (ListEntry P)) Error × View
 next_entry next v = if length v.bytes == 0 then (Ok None, v) else left_by v (next v)
 
 -- An answer is that of a list, and leaves the rest: its first entry is in front of the rest, or it
 -- has no entry and ends as the answer says, which leaves nothing.
-abbrev pub IsFirstOf : {P : Type 0} → Result (Option (Entry P)) Error → RawList P → RawList P
+abbrev pub IsFirstOf : {P : Type 0} → Result (Option (ListEntry P)) Error → RawList P → RawList P
     → Type 0
 IsFirstOf (Ok None) l rest =
     ((l ≡ no_entries end_of_list) ⊎ (l ≡ no_entries used_up)) × (rest ≡ no_entries used_up)

@@ -2,41 +2,41 @@
 -- (DWARF 5, 2.6.2 and 2.17.3).
 use Rattle.std.specs.Prelude.{ℕ, ◌+◌, ◌-◌, ◌^◌, nat_lt, ◌&&◌, if◌then◌else◌, Bool, true, false, min}
 use Rattle.std.specs.Prelude.{length, List, [], ◌∷◌, ◌++◌, map, take, reverse, Option, Some, None}
-use Rattle.std.specs.Prelude.{unwrap_or, Result, Ok, Err}
+use Rattle.std.specs.Prelude.{unwrap_or, Result, Ok, Err, ◌<◌}
 use Rattle.std.specs.List.{enumerate_from, filter_map, prefix_len}
 use Rattle.std.specs.Option.{option_or}
 use Rattle.std.specs.Result.{result_ok}
 use Rattle.gimli_base.specs.declared.error.Error.{Error}
 use Rattle.gimli_base.specs.Address.{min_tombstone, wrapped_sum}
-use Rattle.gimli_lists.specs.RawList.{Entry, address_or_offset_pair, base_address, base_addressx}
-use Rattle.gimli_lists.specs.RawList.{startx_endx, startx_length, offset_pair, default_location}
-use Rattle.gimli_lists.specs.RawList.{start_end, start_length, Ending, end_of_list, used_up}
-use Rattle.gimli_lists.specs.RawList.{refused, RawList}
+use Rattle.gimli_lists.specs.RawList.{ListEntry, address_or_offset_pair, base_address}
+use Rattle.gimli_lists.specs.RawList.{base_addressx, startx_endx, startx_length, offset_pair}
+use Rattle.gimli_lists.specs.RawList.{default_location, start_end, start_length, Ending}
+use Rattle.gimli_lists.specs.RawList.{end_of_list, used_up, refused, RawList}
 
 -- the address at an index of a unit's table
 abbrev pub LookUp : Type 0
 LookUp = ℕ → Result ℕ Error
 
--- addresses from the first up to the end, which is none of them, and what stands behind the entry
+-- addresses from the first up to the end, which is none of them, and what stands after the entry
 pub record Resolved (P : Type 0) : Type 0 where
   pub begin : ℕ
   pub end : ℕ
   pub payload : P
 
 -- the base address that an entry gives, if it gives one and it is found
-abbrev pub base_given : {P : Type 0} → LookUp → Entry P → Option ℕ
+abbrev pub base_given : {P : Type 0} → LookUp → ListEntry P → Option ℕ
 base_given look_up (base_address address) = Some address
 base_given look_up (base_addressx index) = result_ok (look_up index)
 base_given look_up e = None
 
 -- the base address that the first of these entries gives which gives one
-abbrev pub first_base : {P : Type 0} → LookUp → List (Entry P) → Option ℕ
+abbrev pub first_base : {P : Type 0} → LookUp → List (ListEntry P) → Option ℕ
 first_base look_up [] = None
 first_base look_up (e ∷ es) = option_or (base_given look_up e) (first_base look_up es)
 
 -- the base before entry i: of the entries before it, the last that gives one gives it, and else it
 -- is the one at hand
-abbrev pub base_before : {P : Type 0} → LookUp → ℕ → List (Entry P) → ℕ → ℕ
+abbrev pub base_before : {P : Type 0} → LookUp → ℕ → List (ListEntry P) → ℕ → ℕ
 base_before look_up base entries i = unwrap_or (first_base look_up (reverse (take i entries))) base
 
 -- addresses that are kept: they begin below the least address that stands for none, and below their
@@ -62,7 +62,8 @@ if_found (Err e) f = Err e
 
 -- What an entry stands for, with a base address: addresses, nothing, or the refusal of an address
 -- that is looked up. A base address stands for nothing.
-abbrev pub resolve : {P : Type 0} → ℕ → LookUp → ℕ → Entry P → Result (Option (Resolved P)) Error
+abbrev pub resolve : {P : Type 0} → ℕ → LookUp → ℕ → ListEntry P
+    → Result (Option (Resolved P)) Error
 resolve size look_up base (address_or_offset_pair begin end p) =
     Ok (located_from size base begin end p)
 resolve size look_up base (base_address address) = Ok None
@@ -78,7 +79,7 @@ resolve size look_up base (start_length begin length p) =
     Ok (located size begin (wrapped_sum size begin length) p)
 
 -- what each entry stands for: entry i with the base before it
-abbrev pub resolve_each : {P : Type 0} → ℕ → LookUp → ℕ → List (Entry P)
+abbrev pub resolve_each : {P : Type 0} → ℕ → LookUp → ℕ → List (ListEntry P)
     → List (Result (Option (Resolved P)) Error)
 resolve_each size look_up base entries =
     map (λ p. resolve size look_up (base_before look_up base entries p.0) p.1)
@@ -97,7 +98,7 @@ last_answer used_up = []
 last_answer (refused e) = Err e ∷ []
 
 -- the answers of entries: what they stand for, in order and without those that stand for nothing
-abbrev pub entry_answers : {P : Type 0} → ℕ → LookUp → ℕ → List (Entry P)
+abbrev pub entry_answers : {P : Type 0} → ℕ → LookUp → ℕ → List (ListEntry P)
     → List (Result (Resolved P) Error)
 entry_answers size look_up base entries =
     filter_map some_answer (resolve_each size look_up base entries)
@@ -114,9 +115,9 @@ is_nothing (Ok None) = true
 is_nothing (Ok (Some x)) = false
 is_nothing (Err e) = false
 
--- how many entries are read for the next answer: those that stand for nothing, and the one behind
+-- how many entries are read for the next answer: those that stand for nothing, and the one after
 -- them, if there is one
-abbrev pub entries_read : {P : Type 0} → ℕ → LookUp → ℕ → List (Entry P) → ℕ
+abbrev pub entries_read : {P : Type 0} → ℕ → LookUp → ℕ → List (ListEntry P) → ℕ
 entries_read size look_up base entries =
     min (length entries) (prefix_len is_nothing (resolve_each size look_up base entries) + 1)
 
@@ -127,8 +128,6 @@ answered (Ok None) others = []
 answered (Ok (Some x)) others = Ok x ∷ others
 answered (Err e) others = Err e ∷ others
 
--- the answer of an iterator as that of a call that may be refused
-abbrev pub transposed : {A : Type 0} → Option (Result A Error) → Result (Option A) Error
-transposed None = Ok None
-transposed (Some (Ok x)) = Ok (Some x)
-transposed (Some (Err e)) = Err e
+-- addresses that begin below their end, and below the least address that stands for none
+abbrev pub IsSoundRange : {P : Type 0} → ℕ → Resolved P → Type 0
+IsSoundRange size r = (r.begin < r.end) × (r.begin < min_tombstone size)

@@ -103,7 +103,7 @@ impl<R: Reader> DebugAranges<R> {
 
     /// The header of the set at an offset of the section.
     ///
-    /// Refusals: `UnexpectedEof`, also where the offset lies behind the section's end, and those of
+    /// Refusals: `UnexpectedEof`, also where the offset lies after the section's end, and those of
     /// `next` of the headers.
     #[tactic(auto, unfolding(crate::specs::ArangeSets::set_from))]
     pub fn header(&self, offset: DebugArangesOffset<R::Offset>) -> Result<ArangeHeader<R>>
@@ -117,7 +117,7 @@ impl<R: Reader> DebugAranges<R> {
     }
 }
 
-/// The sets of `.debug_aranges`, one behind the other.
+/// The sets of `.debug_aranges`, one after the other.
 #[derive(Debug, Drop)]
 pub struct ArangeHeaderIter<R: Reader> {
     input: R,
@@ -282,7 +282,7 @@ fn padding_size(format: Format, address_size: u8) -> u8
     (tuple_size - fields_size % tuple_size) % tuple_size
 }
 
-// The fields behind the length, with the padding; where they are refused, the input is left
+// The fields after the length, with the padding; where they are refused, the input is left
 // anywhere.
 #[tactic(auto, unfolding(crate::specs::ArangeSets::set_fields_at))]
 fn parse_fields<R: Reader>(
@@ -335,7 +335,7 @@ fn parse_header<R: Reader>(
 }
 
 // The next header of a section, of which `input` is left and begins at `offset`: none where nothing
-// is left. Behind a refusal nothing is left.
+// is left. After a refusal nothing is left.
 #[tactic(auto, unfolding(crate::specs::ArangeSets::next_set))]
 fn next_header<R: Reader>(
     input: &mut R,

@@ -14,7 +14,7 @@ use gimli_base::{Encoding, Error, Format, Reader, ReaderOffset, Result};
 /// The header of `.debug_rnglists` or of `.debug_loclists` (DWARF 5, 7.28 and 7.29).
 #[derive(Clone, Copy, Debug)]
 pub struct ListsHeader {
-    /// How the bytes behind the header are read.
+    /// How the bytes after the header are read.
     pub encoding: Encoding,
     /// How many offsets follow the header.
     pub offset_entry_count: u32,
@@ -43,7 +43,7 @@ impl ListsHeader {
         self.encoding.format.initial_length_size() + 2 + 1 + 1 + 4
     }
 
-    /// Reads the next header, and leaves the bytes behind it up to the end that its length field
+    /// Reads the next header, and leaves the bytes after it up to the end that its length field
     /// gives.
     ///
     /// Refusals, which leave the input: `UnexpectedEof`, `UnknownReservedLength`,
@@ -64,7 +64,7 @@ impl ListsHeader {
     }
 }
 
-// The fields behind the length; where they are refused, the input is left anywhere.
+// The fields after the length; where they are refused, the input is left anywhere.
 #[tactic(auto, unfolding(crate::specs::ListsHeader::lists_fields_at))]
 fn parse_fields<R: Reader>(input: &mut R, format: Format) -> Result<ListsHeader>
     ensures { read result (R.view input.new) ≡ lists_fields_at format (R.view input.old) }

@@ -107,7 +107,7 @@ impl<R: Reader> LocationLists<R> {
     }
 
     /// The entries, as they are written, of the list at an offset of the section in which a unit
-    /// with this encoding has its lists. Refusal: `UnexpectedEof`, where the offset lies behind the
+    /// with this encoding has its lists. Refusal: `UnexpectedEof`, where the offset lies after the
     /// section's end, with the section's first place.
     pub fn raw_locations(
         &self,
@@ -148,7 +148,7 @@ impl<R: Reader> LocationLists<R> {
     /// Offsets count from `base_address` on, which is the unit's `DW_AT_low_pc`, until an entry
     /// gives another base. Addresses that are named by their index are those of the table that
     /// begins at `debug_addr_base` in `debug_addr`. The encoding's size of addresses has to be 1,
-    /// 2, 4 or 8. Refusal: `UnexpectedEof`, where the offset lies behind the section's end, with
+    /// 2, 4 or 8. Refusal: `UnexpectedEof`, where the offset lies after the section's end, with
     /// the section's first place.
     #[tactic(auto, unfolding(crate::specs::Places::list_place_at))]
     pub fn locations(
@@ -194,7 +194,7 @@ impl<R: Reader> LocationLists<R> {
     /// at `base`, which is a unit's `DW_AT_loclists_base`.
     ///
     /// Refusals: `UnexpectedEof`, where the base, the bytes before the index or the offset in the
-    /// table lies behind the section's end; `UnsupportedOffset`, where the number of bytes before
+    /// table lies after the section's end; `UnsupportedOffset`, where the number of bytes before
     /// the index, the offset or its sum with the base does not fit the reader's offsets.
     pub fn get_offset(
         &self,

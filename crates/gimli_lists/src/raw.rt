@@ -4,22 +4,23 @@ ghost use Rattle.std.specs.Prelude.{◌≡◌, ◌<◌, length, MatchResult, OnS
 ghost use Rattle.std.specs.Option.{option_map};
 ghost use Rattle.gimli_base.specs.Offset.{answer_of};
 ghost use Rattle.gimli_base.specs.Reading.{read};
-ghost use Rattle.gimli_lists.specs.Places.{Grammar, TakesBytes, RawPlace, next_raw, raw_list_ahead};
-ghost use Rattle.gimli_lists.specs.RawList.{Entry, IsFirstOf};
+ghost use Rattle.gimli_lists.specs.Places.{Grammar, TakesBytes, RawListPlace, next_raw};
+ghost use Rattle.gimli_lists.specs.Places.{raw_list_ahead};
+ghost use Rattle.gimli_lists.specs.RawList.{ListEntry, IsFirstOf};
 
 use crate::lists::ListsFormat;
 use gimli_base::{Encoding, Reader, Result};
 
 /// An entry of a list, as it is written, and how it is read.
 pub(crate) trait RawEntry<R: Reader>: Drop {
-    // what stands behind the operands of an entry
+    // what stands after the operands of an entry
     ghost Payload: { Type 0 };
 
     // how the entries are read
     ghost grammar: { Grammar Payload };
 
     // the entry that code holds
-    ghost written: { Self → Entry Payload };
+    ghost written: { Self → ListEntry Payload };
 
     /// The next entry, or none where the list ends; where it is refused, the input is left
     /// anywhere.
@@ -30,8 +31,8 @@ pub(crate) trait RawEntry<R: Reader>: Drop {
     ghost takes_bytes: { TakesBytes grammar };
 }
 
-/// Takes the next entry of a list, or none where it ends. Nothing is left behind the end, and
-/// behind a refusal.
+/// Takes the next entry of a list, or none where it ends. Nothing is left after the end, and
+/// after a refusal.
 #[inline(always)]
 #[tactic(auto, unfolding(crate::specs::RawList::next_entry, crate::specs::Places::next_raw))]
 pub(crate) fn take_entry<R: Reader, E: RawEntry<R>>(

@@ -11,7 +11,7 @@ ghost use Rattle.gimli_base.specs.Offset.{answer_of};
 ghost use Rattle.gimli_base.specs.Reading.{is_size};
 ghost use Rattle.gimli_lists.specs.Places.{lookup_in, format_of, list_offset, raw_list_at};
 ghost use Rattle.gimli_lists.specs.Places.{list_place_at};
-ghost use Rattle.gimli_lists.specs.Ranges.{range_of};
+ghost use Rattle.gimli_lists.specs.Ranges.{resolved_of};
 ghost use Rattle.gimli_lists.specs.Resolved.{located, located_from};
 
 mod debug_ranges;
@@ -113,7 +113,7 @@ impl<R: Reader> RangeLists<R> {
     }
 
     /// The entries, as they are written, of the list at an offset of the section in which a unit
-    /// with this encoding has its lists. Refusal: `UnexpectedEof`, where the offset lies behind the
+    /// with this encoding has its lists. Refusal: `UnexpectedEof`, where the offset lies after the
     /// section's end, with the section's first place.
     #[tactic(auto, unfolding(crate::specs::Places::raw_list_at))]
     pub fn raw_ranges(
@@ -139,7 +139,7 @@ impl<R: Reader> RangeLists<R> {
     /// Offsets count from `base_address` on, which is the unit's `DW_AT_low_pc`, until an entry
     /// gives another base. Addresses that are named by their index are those of the table that
     /// begins at `debug_addr_base` in `debug_addr`. The encoding's size of addresses has to be 1,
-    /// 2, 4 or 8. Refusal: `UnexpectedEof`, where the offset lies behind the section's end, with
+    /// 2, 4 or 8. Refusal: `UnexpectedEof`, where the offset lies after the section's end, with
     /// the section's first place.
     #[tactic(auto, unfolding(crate::specs::Places::list_place_at))]
     pub fn ranges(
@@ -164,7 +164,7 @@ impl<R: Reader> RangeLists<R> {
     /// at `base`, which is a unit's `DW_AT_rnglists_base`.
     ///
     /// Refusals: `UnexpectedEof`, where the base, the bytes before the index or the offset in the
-    /// table lies behind the section's end; `UnsupportedOffset`, where the number of bytes before
+    /// table lies after the section's end; `UnsupportedOffset`, where the number of bytes before
     /// the index, the offset or its sum with the base does not fit the reader's offsets.
     pub fn get_offset(
         &self,
@@ -203,7 +203,7 @@ impl<R: Reader> RangeLists<R> {
 pub struct Range {
     /// The first address.
     pub begin: u64,
-    /// The address behind the last.
+    /// The address after the last.
     pub end: u64,
 }
 
@@ -227,7 +227,7 @@ impl Range {
     #[inline]
     fn kept(self, address_size: u8) -> Option<Range>
         requires { IsTrue (is_size address_size) }
-        ensures { option_map range_of result ≡ located address_size self.begin self.end tt }
+        ensures { option_map resolved_of result ≡ located address_size self.begin self.end tt }
     {
         if self.begin >= u64::min_tombstone(address_size) || self.begin >= self.end {
             None
@@ -241,7 +241,7 @@ impl Range {
     #[inline]
     fn kept_from(self, base_address: u64, address_size: u8) -> Option<Range>
         requires { IsTrue (is_size address_size) }
-        ensures { option_map range_of result
+        ensures { option_map resolved_of result
             ≡ located_from address_size base_address self.begin self.end tt }
     {
         if base_address >= u64::min_tombstone(address_size) {

@@ -4,10 +4,11 @@
 ghost use Rattle.std.specs.Prelude.{◌≡◌, ℕ, ◌<◌, length, MatchResult, IfOk, IfSome, IfNone, OnSome};
 ghost use Rattle.std.specs.Option.{option_map};
 ghost use Rattle.gimli_base.specs.Offset.{answer_of};
-ghost use Rattle.gimli_lists.specs.ListSteps.{IsSound};
+ghost use Rattle.gimli_lists.specs.Resolved.{IsSoundRange};
 ghost use Rattle.gimli_lists.specs.Places.{Grammar, TakesBytes, ListPlace, next_raw, converted};
-ghost use Rattle.gimli_lists.specs.Places.{answers_ahead, InList, IsBehind, IsSpent, read_from};
-ghost use Rattle.gimli_lists.specs.RawList.{Entry};
+ghost use Rattle.gimli_lists.specs.Places.{answers_ahead, InList, IsAfterEntries, IsSpent};
+ghost use Rattle.gimli_lists.specs.Places.{read_from};
+ghost use Rattle.gimli_lists.specs.RawList.{ListEntry};
 ghost use Rattle.gimli_lists.specs.Resolved.{Resolved, answered};
 
 use gimli_base::Result;
@@ -19,7 +20,7 @@ pub(crate) trait EntryWalk {
     /// What an entry stands for.
     type Item;
 
-    // what stands behind the operands of an entry
+    // what stands after the operands of an entry
     ghost Payload: { Type 0 };
 
     // the offsets of the list's reader are the numbers below this
@@ -32,12 +33,12 @@ pub(crate) trait EntryWalk {
     ghost place: { Self → ListPlace };
 
     // the entry that code holds
-    ghost written: { Self.Entry → Entry Payload };
+    ghost written: { Self.Entry → ListEntry Payload };
 
     // what code holds of an entry's meaning
     ghost resolved: { Self.Item → Resolved Payload };
 
-    /// The next entry, or none behind the last; nothing is left behind a refusal.
+    /// The next entry, or none after the last; nothing is left after a refusal.
     fn take_raw(&mut self) -> Result<Option<Self::Entry>>
         ensures value { (answer_of (option_map written) result, (place self.new).raw)
             ≡ next_raw grammar (place self.old).raw }
@@ -56,17 +57,17 @@ pub(crate) trait EntryWalk {
     ghost takes_bytes: { TakesBytes grammar };
 }
 
-/// What the next entry stands for that stands for something, or none behind the last entry.
+/// What the next entry stands for that stands for something, or none after the last entry.
 #[inline]
 pub(crate) fn next_item<W: EntryWalk>(walk: &mut W) -> Result<Option<W::Item>>
     ensures ahead { answers_ahead W.grammar W.limit (W.place walk.old)
         ≡ answered (answer_of (option_map W.resolved) result)
         (answers_ahead W.grammar W.limit (W.place walk.new)) }
 
-    // The entries that stand for nothing are read, and the one behind them; the base before the
+    // The entries that stand for nothing are read, and the one after them; the base before the
     // others is at hand.
-    ensures place { IsBehind W.grammar W.limit (read_from W.grammar W.limit (W.place walk.old))
-        (W.place walk.old) (W.place walk.new) }
+    ensures place { IsAfterEntries W.grammar W.limit
+        (read_from W.grammar W.limit (W.place walk.old)) (W.place walk.old) (W.place walk.new) }
     ensures same { InList (W.place walk.old) (W.place walk.new) }
     ensures takes { MatchResult result
         (λ item.
@@ -83,8 +84,8 @@ pub(crate) fn next_item<W: EntryWalk>(walk: &mut W) -> Result<Option<W::Item>>
     // What stands for addresses begins below its end, and below the least address that stands for
     // none.
     ensures sound { IfOk result
-        (λ item.
-        IfSome item (λ i. IsSound (W.place walk.old).raw.encoding.address_size (W.resolved i))) }
+        (λ item. IfSome item (λ i.
+        IsSoundRange (W.place walk.old).raw.encoding.address_size (W.resolved i))) }
 {
     'entries: while let Some(raw) = walk.take_raw()? {
         if let Some(item) = walk.convert(raw)? {

@@ -137,7 +137,7 @@ fn tries_copied_entries<R: Reader>(rt: &impl Abort, mut entries: ArangeEntryIter
     tries_no_entry(rt, &mut entries);
 }
 
-// Tries copies of a section of two equal sets, and that no set is left behind them.
+// Tries copies of a section of two equal sets, and that no set is left after them.
 fn tries_copies<R: Reader + PartialEq>(rt: &impl Abort, reader: R) {
     let source = DebugAranges::from(reader);
     let section = source.copy();

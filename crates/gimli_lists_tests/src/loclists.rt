@@ -68,7 +68,7 @@ fn converted<R: Reader>(
     locations.convert_raw(raw).expect(rt, "refused")
 }
 
-// Tries the two calls by turns, before a new base address and behind it.
+// Tries the two calls by turns, before a new base address and after it.
 fn tries_conversions<R: Reader>(rt: &impl Abort, locations: &mut LocListIter<R>) {
     let first = raw_of(rt, locations);
     let again = first.copy();

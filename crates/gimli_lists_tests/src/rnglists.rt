@@ -59,7 +59,7 @@ fn converted<R: Reader>(
     ranges.convert_raw(raw)
 }
 
-// Tries the two calls by turns, before a new base address and behind it.
+// Tries the two calls by turns, before a new base address and after it.
 fn tries_conversions<R: Reader>(rt: &impl Abort, ranges: &mut RngListIter<R>) {
     let first = raw_of(rt, ranges);
     let again = first.copy();
@@ -92,7 +92,7 @@ fn converts_entries_one_by_one(rt: HostRuntime) {
     tries_conversions(&rt, &mut ranges);
 }
 
-// Nothing is left behind a refusal, by the call and by the iterator.
+// Nothing is left after a refusal, by the call and by the iterator.
 #[test]
 fn entries_end_behind_a_refusal(rt: HostRuntime) {
     let lists = lists_of(part(&PAIRS[..20]));

@@ -33,7 +33,7 @@ fn take_steps<'a, T: Walk>(
     Ok(b"")
 }
 
-// The steps that find nothing behind one that memory was refused for, since it ends the walk or all lists.
+// The steps that find nothing after one that memory was refused for, since it ends the walk or all lists.
 fn ended_by(letter: u8) -> &'static [u8] {
     match letter {
         b'e' | b'd' | b's' => b"edse",
@@ -42,7 +42,7 @@ fn ended_by(letter: u8) -> &'static [u8] {
     }
 }
 
-/// Takes the steps of a walk, and writes a line for each. Behind a refusal of memory a walk that is not ended takes
+/// Takes the steps of a walk, and writes a line for each. After a refusal of memory a walk that is not ended takes
 /// the same step again and goes on, one that begins with the root begins anew, and any other stays where it stands.
 pub(crate) fn write_walk<T: Walk>(
     trial: Trial<'_>,

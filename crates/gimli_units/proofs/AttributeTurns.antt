@@ -9,7 +9,7 @@ use Rattle.gimli_base.specs.Reading.{Reads, made}
 use Rattle.gimli_base.specs.Abbreviations.{Specification}
 use Rattle.gimli_units.specs.Entry.{Attr, attribute_at, attributes_at}
 
--- a list that was read behind another
+-- a list that was read after another
 abbrev pub after : {A : Type 0} → List A → Reads (List A) → Reads (List A)
 after xs r = made (λ ys. xs ++ ys) r
 

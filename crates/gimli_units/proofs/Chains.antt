@@ -6,8 +6,8 @@ use Rattle.std.proofs.lemmas.Bool.{eqb-true, ne_eqb}
 use Rattle.gimli_base.specs.declared.error.Error.{Error}
 use Rattle.gimli_base.specs.View.{View}
 use Rattle.gimli_base.specs.Reading.{Reads, eof, byte_at, uleb16_at, uleb_within}
-use Rattle.gimli_base.specs.Later.{IsLater-length, uleb16_at-later}
-use Rattle.gimli_units.specs.Form.{chain, form_at, number_of}
+use Rattle.gimli_base.proofs.Later.{IsLater-length, uleb16_at-later}
+use Rattle.gimli_units.specs.Form.{chain, form_at, declared_number}
 
 uleb16_at-none : (v : View) → length v.bytes ≤ 0 → uleb16_at v ≡ Err (eof v)
 unfolding uleb16_at uleb_within byte_at
@@ -62,7 +62,8 @@ unfolding form_at
 chain_begin f v = record { fuel = length v.bytes; enough = omega arith; same = refl }
 
 -- the number of a declaration stands, since an indirect one has none
-pub number_stands : (form : ℕ) (c : Option ℤ) → is_some c ≡ (form == 0x21) → number_of form c ≡ c
+pub number_stands : (form : ℕ) (c : Option ℤ) → is_some c ≡ (form == 0x21)
+    → declared_number form c ≡ c
 number_stands form None h = if_none (form == 0x16)
   where
     if_none : (t : Bool) → ◌≡◌ {A = Option ℤ} (if t then None else None) None

@@ -10,7 +10,8 @@ use Rattle.gimli_base.specs.Offset.{answer_of}
 use Rattle.gimli_base.specs.View.{View, cut}
 use Rattle.gimli_base.specs.Reading.{Reads}
 use Rattle.gimli_base.specs.Table.{Table, found}
-use Rattle.gimli_base.specs.Later.{IsLater, IsLater-none, IsLater-trans, cut-cut}
+use Rattle.gimli_base.specs.View.{IsLater}
+use Rattle.gimli_base.proofs.Later.{IsLater-none, IsLater-trans, cut-cut}
 use Rattle.gimli_units.specs.Entry.{Entry, is_null, entry_at}
 use Rattle.gimli_units.specs.RawPlace.{RawPlace, next_offset_of}
 use Rattle.gimli_units.specs.Unit.{UnitView, whole_length, header_size, in_bounds, range_from}
@@ -89,7 +90,7 @@ module _ (limit : ℕ) (u : UnitView) (t : Table) (fits : length u.entries.bytes
   rest_length = ap (λ (v : View). length v.bytes) s.further.is
       ∙ length-drop s.further.count u.entries.bytes
 
-  -- the unit's first entry is not behind the cursor
+  -- the unit's first entry is not after the cursor
   pub header_low : header_size u ≤ next_offset_of c.raw
   header_low = omega (arith, rest_length, s.end)
 

@@ -9,10 +9,11 @@ use Rattle.gimli_base.specs.View.{View, cut, ended}
 use Rattle.gimli_base.specs.Reading.{UnlessMemory}
 use Rattle.gimli_base.specs.Table.{found}
 use Rattle.gimli_units.specs.Entry.{Entry, is_null, null_entry, abbreviation_at, takes_memory}
-use Rattle.gimli_units.specs.EntryReads.{entry_at-shorter}
+use Rattle.gimli_units.proofs.EntryReads.{entry_at-shorter}
 use Rattle.gimli_units.specs.RawPlace.{RawPlace, next_offset_of, below_flag, depth_after}
 use Rattle.gimli_units.specs.Rows.{offset_of_view}
-use Rattle.gimli_units.specs.RowSteps.{then_row, no_row, ahead_ended, ahead_refused, ahead_more}
+use Rattle.gimli_units.proofs.RowSteps.{then_row, ahead_ended, ahead_refused, ahead_more}
+use Rattle.gimli_units.specs.Rows.{no_row}
 use Rattle.gimli_units.specs.CursorPlace.{next_row}
 use Rattle.gimli_units.specs.CursorMoves.{CursorView, next_of, rows_of, last_row, Goes, view_from}
 use Rattle.gimli_units.specs.CursorMoves.{takes_memory_at, IsSound}
@@ -45,7 +46,7 @@ module _ (limit : ℕ) where
       → rows_of limit p ≡ no_row (Some e) (next_offset_of p) p.depth
   rows_refusal p e some reads = ahead_refused (next_of limit p) p.end p.depth p.rest e some reads
 
-  -- behind a refusal no row is ahead, at the end of the bytes
+  -- after a refusal no row is ahead, at the end of the bytes
   pub rows_over : (c : CursorView)
       → rows_of limit (after_refusal c).raw ≡ no_row None c.raw.end c.raw.depth
   rows_over c = rows_end (after_refusal c).raw refl
@@ -67,7 +68,7 @@ module _ (limit : ℕ) where
   unfolding next_row
   refusal_goes c e some reads = rw (rows_refusal c.raw e some reads, rows_over c) refl
 
-  -- one read takes the least row ahead
+  -- one read takes the first row ahead
   pub read_goes : (old : CursorView) (outcome : Result Bool Error) (new : CursorView)
       → HasRead limit old outcome new
       → UnlessMemory outcome (Goes limit (next_row old.raw.end) old outcome new)

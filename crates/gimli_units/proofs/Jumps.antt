@@ -13,7 +13,7 @@ use Rattle.gimli_units.specs.declared.attribute.Attribute.{Attribute}
 use Rattle.gimli_base.specs.declared.constants.DwTag.{DwTag}
 use Rattle.gimli_units.specs.Value.{map_value, map_attribute}
 use Rattle.gimli_units.specs.Entry.{Entry, Attr, null_entry, is_null, entry_of_parts, first_of}
-use Rattle.gimli_units.specs.Kind.{kind_of, reference, parent, sibling_of}
+use Rattle.gimli_units.specs.Kind.{kind_of, unit_reference, parent, sibling_of}
 use Rattle.gimli_units.specs.RawPlace.{RawPlace, next_offset_of}
 use Rattle.gimli_units.specs.Honest.{within, target}
 use Rattle.gimli_units.specs.CursorMoves.{CursorView, view_from}
@@ -37,7 +37,7 @@ first_of-map f g name (a ∷ rest) = cases (a.name.0 == name) refl (first_of-map
 
 -- where the first of these attributes leads
 abbrev pub leads_to : {R O : Type 0} → (R → View) → (O → ℕ) → Option (Attribute R O) → Option ℕ
-leads_to f g (Some a) = reference (map_value f g a.value)
+leads_to f g (Some a) = unit_reference (map_value f g a.value)
 leads_to f g None = None
 
 -- where the reference of an entry with children leads
@@ -55,7 +55,7 @@ target_of {R} {O} f g tag flag attrs o null children is =
     cases o ∙ ap from (sym first) ∙ ap target (sym kind)
   where
     from : Option Attr → Option ℕ
-    from x = elim x [ Some a ↦ reference a.value | None ↦ None ]
+    from x = elim x [ Some a ↦ unit_reference a.value | None ↦ None ]
 
     cases : (x : Option (Attribute R O)) → leads_to f g x ≡ from (option_map (map_attribute f g) x)
     cases (Some a) = refl

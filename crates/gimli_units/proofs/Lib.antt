@@ -22,3 +22,7 @@ pub mod TreeSteps
 mod PassPlaces
 mod SkipTurns
 pub mod WalkerSteps
+pub mod RowSteps
+pub mod RowChain
+pub mod EntryReads
+pub mod LeastFalse

@@ -11,10 +11,11 @@ use Rattle.gimli_base.specs.Offset.{answer_of}
 use Rattle.gimli_base.specs.View.{View, cut, ended}
 use Rattle.gimli_base.specs.Reading.{Reads, UnlessMemory}
 use Rattle.gimli_base.specs.Table.{found}
-use Rattle.gimli_base.specs.Later.{IsLater, IsLater-length, IsLater-none, IsLater-trans}
-use Rattle.gimli_base.specs.Later.{IsLater-weaker, cut-cut}
+use Rattle.gimli_base.specs.View.{IsLater}
+use Rattle.gimli_base.proofs.Later.{IsLater-length, IsLater-none, IsLater-trans}
+use Rattle.gimli_base.proofs.Later.{IsLater-weaker, cut-cut}
 use Rattle.gimli_units.specs.Entry.{Entry, null_entry}
-use Rattle.gimli_units.specs.EntryReads.{entry_at-later, entry_at-shorter}
+use Rattle.gimli_units.proofs.EntryReads.{entry_at-later, entry_at-shorter}
 use Rattle.gimli_units.specs.RawPlace.{RawPlace, next_offset_of}
 use Rattle.gimli_units.specs.Kind.{kind_of}
 use Rattle.gimli_units.specs.Honest.{target, within, usable}
@@ -392,7 +393,7 @@ pub unless_then : {A P Q : Type 0} → (r : Result A Error) → UnlessMemory r P
 unless_then (Ok a) p f = f p
 unless_then (Err e) p f = λ fine. f (p fine)
 
--- behind a true entry fewer bytes are left
+-- after a true entry fewer bytes are left
 pub true_shorter : (limit : ℕ) (old new : CursorView) → IsTrueEntry limit old new
     → IsSameUnit old new → length new.raw.rest.bytes < length old.raw.rest.bytes
 true_shorter limit old new is unit = omega (arith, is.after, is.before, unit.end)

@@ -8,10 +8,12 @@ use Rattle.gimli_base.specs.View.{View}
 use Rattle.gimli_base.specs.Reading.{Reads, ◌>>=◌, made, byte_at, uint_at, uint_offset_at}
 use Rattle.gimli_base.specs.Reading.{offset_at, sized_offset_at, address_at, split_at, text_at}
 use Rattle.gimli_base.specs.Reading.{uleb_at, sleb_at, word_size_of, skip_at, skip_leb_at}
-use Rattle.gimli_base.specs.Passed.{PassesAs, byte_at-passed, split_at-passed, uint_at-passed}
-use Rattle.gimli_base.specs.Passed.{uint_offset_at-passed, offset_at-passed, sized_offset_at-passed}
-use Rattle.gimli_base.specs.Passed.{address_at-passed, skip_at-none, made_read, offset_read}
-use Rattle.gimli_base.specs.Passed.{uleb_at-passed, sleb_at-passed}
+use Rattle.gimli_base.specs.Reading.{PassesAs}
+use Rattle.gimli_base.proofs.Passed.{byte_at-passed, split_at-passed, uint_at-passed}
+use Rattle.gimli_base.proofs.Passed.{uint_offset_at-passed, offset_at-passed}
+use Rattle.gimli_base.proofs.Passed.{sized_offset_at-passed}
+use Rattle.gimli_base.proofs.Passed.{address_at-passed, skip_at-none, made_read, offset_read}
+use Rattle.gimli_base.proofs.Passed.{uleb_at-passed, sleb_at-passed}
 use Rattle.gimli_base.specs.Abbreviations.{Specification}
 use Rattle.gimli_units.specs.Value.{Value}
 use Rattle.gimli_units.specs.declared.value.AttributeValue.TheVariants.{SecOffset}
@@ -19,7 +21,7 @@ use Rattle.gimli_units.specs.Layout.{Layout, byte, number, section_or, address, 
 use Rattle.gimli_units.specs.Layout.{word_offset, reference, offset_leb, offset_leb_and, block}
 use Rattle.gimli_units.specs.Layout.{block_leb, text, nothing, constant, layout_of}
 use Rattle.gimli_units.specs.Form.{is_section_name, uleb_offset_at, value_in, direct_at, form_at}
-use Rattle.gimli_units.specs.Form.{number_of, value_at}
+use Rattle.gimli_units.specs.Form.{declared_number, value_at}
 use Rattle.gimli_units.specs.Passing.{pass, pass_direct, pass_at, pass_all}
 use Rattle.gimli_units.specs.Entry.{Attr, attribute_at, attributes_at}
 
@@ -40,12 +42,12 @@ uleb_offset-passed : (limit : ℕ) (v : View) → PassesAs (skip_leb_at v) (uleb
 uleb_offset-passed limit v o w e = let m = offset_read limit (uleb_at v) o w e in
     uleb_at-passed v m.0 w m.1
 
--- that many bytes, behind their number
+-- that many bytes, after their number
 block-passed : (r : Reads ℕ) → PassesAs (r >>= λ p. skip_at p.0 p.1) (r >>= λ p. split_at p.0 p.1)
 block-passed (Ok p) a w e = split_at-passed p.0 p.1 a w e
 block-passed (Err x) a w e = absurd (cc)
 
--- n bytes, behind a number that passes as it is read
+-- n bytes, after a number that passes as it is read
 behind-passed : (n : ℕ) (p : Passed) (r : Reads ℕ) (f : ℕ → ℕ → Value) → PassesAs p r
     → PassesAs (p >>= λ q. skip_at n q.1) (r >>= λ q. made (f q.0) (uint_at n q.1))
 behind-passed n p (Ok q) f h a w e =
@@ -125,8 +127,8 @@ value-passed limit e name c form v = chained (form_at form v)
   where
     chained : (r : Reads ℕ)
         → PassesAs (r >>= λ p. pass_direct limit e p.0 p.1)
-        (r >>= λ p. direct_at limit e name (number_of form c) p.0 p.1)
-    chained (Ok p) = direct-passed limit e name (number_of form c) p.0 p.1
+        (r >>= λ p. direct_at limit e name (declared_number form c) p.0 p.1)
+    chained (Ok p) = direct-passed limit e name (declared_number form c) p.0 p.1
     chained (Err x) = λ y w h. absurd (cc)
 
 -- where these attributes are read, passing them leaves the same view

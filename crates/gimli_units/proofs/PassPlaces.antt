@@ -13,10 +13,11 @@ use Rattle.gimli_base.specs.View.{View, cut, ended}
 use Rattle.gimli_base.specs.Reading.{Reads, ◌>>=◌, made, eof, byte_at, bytes_at, uint_at, as_offset}
 use Rattle.gimli_base.specs.Reading.{uint_offset_at, uleb_within, uleb_at, uleb16_at, split_at}
 use Rattle.gimli_base.specs.Reading.{find_at, text_at, word_size_of, skip_at, skip_leb_at}
-use Rattle.gimli_base.specs.Later.{IsLater, LeavesLater, IsLater-length, byte_at-later}
-use Rattle.gimli_base.specs.Later.{uleb16_at-later, split_at-later}
-use Rattle.gimli_units.specs.EntryReads.{none_later, uint_offset-later, uleb_offset-later}
-use Rattle.gimli_units.specs.EntryReads.{form_at-later}
+use Rattle.gimli_base.specs.View.{IsLater}
+use Rattle.gimli_base.proofs.Later.{LeavesLater, IsLater-length, byte_at-later}
+use Rattle.gimli_base.proofs.Later.{uleb16_at-later, split_at-later}
+use Rattle.gimli_units.proofs.EntryReads.{none_later, uint_offset-later, uleb_offset-later}
+use Rattle.gimli_units.proofs.EntryReads.{form_at-later}
 use Rattle.gimli_units.specs.Layout.{Layout, byte, number, section_or, address, uleb, sleb, offset}
 use Rattle.gimli_units.specs.Layout.{word_offset, reference, offset_leb, offset_leb_and, block}
 use Rattle.gimli_units.specs.Layout.{block_leb, text, nothing, constant, layout_of}
@@ -182,7 +183,7 @@ text_refuses v = found (find_at 0 v) (find_refuses v)
         (λ p. made_refuses p.1 _ (byte_at p.1) (byte_refuses p.1))
     found (Err x) none = err_refuses v x (none x refl)
 
--- that many bytes, behind their number
+-- that many bytes, after their number
 block_refuses : (v : View) (r : Reads ℕ) → LeavesLater 0 v r → RefusesIn v r
     → RefusesIn v (r >>= λ p. skip_at p.0 p.1)
 block_refuses v r later h = then_refuses v r _ later h (λ p. skip_refuses p.0 p.1)

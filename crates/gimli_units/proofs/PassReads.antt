@@ -7,17 +7,17 @@ use Rattle.gimli_base.specs.declared.error.Error.TheVariants.{UnknownForm}
 use Rattle.gimli_base.specs.View.{View}
 use Rattle.gimli_base.specs.Reading.{Reads, ◌>>=◌, uint_offset_at, text_at, word_size_of, skip_at}
 use Rattle.gimli_base.specs.Reading.{skip_leb_at}
-use Rattle.gimli_base.specs.Later.{LeavesLater, IsLater-none, IsLater-length, then_leaves_later}
-use Rattle.gimli_base.specs.Later.{made_leaves_later, ok_leaves_later, err_leaves_later}
-use Rattle.gimli_base.specs.Later.{skip_at-later, skip_leb_at-later, text_at-later}
-use Rattle.gimli_base.specs.Passed.{PassesAs}
+use Rattle.gimli_base.proofs.Later.{LeavesLater, IsLater-none, IsLater-length, then_leaves_later}
+use Rattle.gimli_base.proofs.Later.{made_leaves_later, ok_leaves_later, err_leaves_later}
+use Rattle.gimli_base.proofs.Later.{skip_at-later, skip_leb_at-later, text_at-later}
+use Rattle.gimli_base.specs.Reading.{PassesAs}
 use Rattle.gimli_base.specs.Abbreviations.{Specification}
 use Rattle.gimli_units.specs.Layout.{Layout, byte, number, section_or, address, uleb, sleb, offset}
 use Rattle.gimli_units.specs.Layout.{word_offset, reference, offset_leb, offset_leb_and, block}
 use Rattle.gimli_units.specs.Layout.{block_leb, text, nothing, constant, layout_of}
 use Rattle.gimli_units.specs.Form.{uleb_offset_at, form_at}
-use Rattle.gimli_units.specs.EntryReads.{none_later, uint_offset-later, uleb_offset-later}
-use Rattle.gimli_units.specs.EntryReads.{form_at-later}
+use Rattle.gimli_units.proofs.EntryReads.{none_later, uint_offset-later, uleb_offset-later}
+use Rattle.gimli_units.proofs.EntryReads.{form_at-later}
 use Rattle.gimli_units.specs.Passing.{pass, pass_direct, pass_at, pass_all, without_place}
 
 abbrev Passed : Type 0
@@ -29,7 +29,7 @@ skipped-later n v = none_later n v (skip_at n v) (skip_at-later n v)
 pub leb-later : (v : View) → LeavesLater 0 v (skip_leb_at v)
 leb-later v = none_later 1 v (skip_leb_at v) (skip_leb_at-later v)
 
--- that many bytes, behind their number
+-- that many bytes, after their number
 block-later : (v : View) (r : Reads ℕ) → LeavesLater 0 v r
     → LeavesLater 0 v (r >>= λ p. skip_at p.0 p.1)
 block-later v r h = then_leaves_later 0 0 v r _ h (λ p. skipped-later p.0 p.1)

@@ -8,10 +8,10 @@ use Rattle.gimli_base.specs.View.{View}
 use Rattle.gimli_base.specs.Reading.{Reads}
 use Rattle.gimli_base.specs.Table.{found}
 use Rattle.gimli_units.specs.Entry.{Entry, is_null}
-use Rattle.gimli_units.specs.EntryReads.{entry_at-shorter}
+use Rattle.gimli_units.proofs.EntryReads.{entry_at-shorter}
 use Rattle.gimli_units.specs.RawPlace.{RawPlace, next_offset_of, depth_after}
 use Rattle.gimli_units.specs.Rows.{Row, Ahead, offset_of_view}
-use Rattle.gimli_units.specs.RowChain.{AreRows, AreAhead, exist_rows}
+use Rattle.gimli_units.proofs.RowChain.{AreRows, AreAhead, exist_rows}
 use Rattle.gimli_units.specs.Honest.{usable, IsHonest, AreHonest, AreHonestUntil}
 use Rattle.gimli_units.specs.CursorPlace.{Moved, some_of, is_entry, has_depth, arrive, skip_until}
 use Rattle.gimli_units.specs.CursorPlace.{last_offset, last_depth, next_row}
@@ -20,7 +20,7 @@ use Rattle.gimli_units.specs.CursorPlace.{next_offset, next_depth}
 use Rattle.gimli_units.specs.CursorMoves.{CursorView, next_of, rows_of, place_of, last_row, Goes}
 use Rattle.gimli_units.specs.CursorMoves.{IsHonestFor}
 
--- each row is followed by the one that stands behind it
+-- each row is followed by the one that stands after it
 abbrev pub AreLinked : ℕ → List Row → Type 0
 AreLinked stop [] = Unit {0}
 AreLinked stop (r ∷ rest) =
@@ -85,7 +85,7 @@ module _ (limit : ℕ) where
   chain p = exist_rows (next_of limit p) p.end
       (λ v w e. entry_at-shorter limit p.encoding (found p.abbreviations) v w e) p.rest p.depth
 
-  -- the next offset and the next depth are those of the next row, or of the place behind the last
+  -- the next offset and the next depth are those of the next row, or of the place after the last
   pub offset_is : (p : RawPlace) → next_offset_of p ≡ next_offset (rows_of limit p)
   offset_is p = let a : Ahead = rows_of limit p in
       (first_is (next_of limit p) p.end a.rows p.rest p.depth a.refusal a.stop a.stop_depth

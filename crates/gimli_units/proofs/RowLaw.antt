@@ -5,13 +5,14 @@ use Rattle.std.proofs.Common.{sym, ap, ◌∙◌, arith, inl, inr, length-drop, 
 use Rattle.gimli_base.specs.declared.error.Error.{Error}
 use Rattle.gimli_base.specs.View.{View, cut}
 use Rattle.gimli_base.specs.Reading.{Reads}
-use Rattle.gimli_base.specs.Later.{IsLater, IsLater-none, IsLater-trans, IsLater-weaker}
+use Rattle.gimli_base.specs.View.{IsLater}
+use Rattle.gimli_base.proofs.Later.{IsLater-none, IsLater-trans, IsLater-weaker}
 use Rattle.gimli_base.specs.Abbreviations.{Map}
 use Rattle.gimli_units.specs.Entry.{Entry, entry_at}
-use Rattle.gimli_units.specs.EntryReads.{entry_at-later, entry_at-shorter}
+use Rattle.gimli_units.proofs.EntryReads.{entry_at-later, entry_at-shorter}
 use Rattle.gimli_units.specs.RawPlace.{depth_after}
 use Rattle.gimli_units.specs.Rows.{Row, Ahead, offset_of_view, ahead_at}
-use Rattle.gimli_units.specs.RowChain.{AreRows, exist_rows, unique_rows}
+use Rattle.gimli_units.proofs.RowChain.{AreRows, exist_rows, unique_rows}
 use Rattle.gimli_units.specs.Unit.{UnitView, whole_length, header_size, range_from}
 use Rattle.gimli_units.specs.Honest.{AreHonest}
 use Rattle.gimli_units.proofs.HonestShift.{honest_from_depth}

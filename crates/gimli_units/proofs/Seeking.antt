@@ -7,13 +7,13 @@ use Rattle.std.specs.Prelude.{not, int_le, ◌≤ℤ◌, if◌then◌else◌, On
 use Rattle.std.specs.Ordering.{int_eq}
 use Rattle.std.proofs.lemmas.Int.{ints}
 use Rattle.std.proofs.lemmas.Bool.{not-true, not-false, ne_eqb}
-use Rattle.gimli_base.specs.Later.{IsLater-length}
+use Rattle.gimli_base.proofs.Later.{IsLater-length}
 use Rattle.gimli_base.specs.declared.error.Error.{Error}
 use Rattle.gimli_base.specs.View.{View}
 use Rattle.gimli_base.specs.Reading.{UnlessMemory}
 use Rattle.gimli_base.specs.Table.{found}
 use Rattle.gimli_units.specs.Entry.{Entry, is_null, null_entry}
-use Rattle.gimli_units.specs.EntryReads.{entry_at-later}
+use Rattle.gimli_units.proofs.EntryReads.{entry_at-later}
 use Rattle.gimli_units.specs.RawPlace.{next_offset_of, below_flag, depth_after}
 use Rattle.gimli_units.specs.Kind.{null, leaf, parent, sibling_of}
 use Rattle.gimli_units.specs.Honest.{target, within, usable, AreHonestUntil}
@@ -33,7 +33,7 @@ use Rattle.gimli_units.proofs.Onward.{read_up_to, true_entry, true_refusal, foll
 use Rattle.gimli_units.proofs.Onward.{unless_then}
 use Rattle.gimli_units.proofs.Walking.{place_on, refused_place, read_shorter}
 
--- where a reference is followed, the entry has children: the depth behind it is one more
+-- where a reference is followed, the entry has children: the depth after it is one more
 parent_depth : (c : CursorView) (t : ℕ) → usable c.raw.end (last_row c) ≡ Some t
     → (is_null c.entry ≡ false) × (depth_after c.entry c.depth ≡ c.depth +ℤ pos 1)
 parent_depth c t leads = cases (is_null c.entry) refl c.entry.has_children refl leads

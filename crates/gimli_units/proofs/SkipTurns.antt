@@ -10,8 +10,9 @@ use Rattle.gimli_base.specs.declared.error.Error.TheVariants.{UnknownForm}
 use Rattle.gimli_base.specs.Abbreviations.{Specification}
 use Rattle.gimli_base.specs.View.{View, cut}
 use Rattle.gimli_base.specs.Reading.{Reads, read, ◌>>=◌, eof, skip_at}
-use Rattle.gimli_base.specs.Later.{IsLater, IsLater-none, IsLater-trans, cut-cut, skip_at-later}
-use Rattle.gimli_base.specs.Passed.{skip_at-none}
+use Rattle.gimli_base.specs.View.{IsLater}
+use Rattle.gimli_base.proofs.Later.{IsLater-none, IsLater-trans, cut-cut, skip_at-later}
+use Rattle.gimli_base.proofs.Passed.{skip_at-none}
 use Rattle.gimli_base.specs.Width.{form_size}
 use Rattle.gimli_base.specs.Offset.{sum_of}
 use Rattle.std.specs.Prelude.{nat_lt, IfErr}
@@ -22,7 +23,7 @@ use Rattle.gimli_units.specs.Form.{form_at, chain}
 use Rattle.gimli_units.proofs.WidthLaw.{form_size-known}
 use Rattle.gimli_units.specs.Passing.{pass, pass_at, pass_direct, known_size, size_of, pass_all}
 use Rattle.gimli_units.specs.Passing.{somewhere, without_place, NamesPlaceOf}
-use Rattle.gimli_units.specs.EntryReads.{none_later}
+use Rattle.gimli_units.proofs.EntryReads.{none_later}
 use Rattle.gimli_units.proofs.PassReads.{pass_at-later}
 use Rattle.gimli_units.proofs.PassPlaces.{place_later, pass_at_refuses, skip_at_refuses}
 

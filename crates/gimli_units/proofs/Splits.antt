@@ -1,4 +1,4 @@
--- Behind the closer of a row: a jump there leaves what is sought.
+-- After the closer of a row: a jump there leaves what is sought.
 use Rattle.std.proofs.Common.{◌≡◌, ℕ, ◌-◌, ◌<◌, ◌≤◌, ℤ, pos, ◌+ℤ◌, ◌-ℤ◌, Bool, true, false, List}
 use Rattle.std.proofs.Common.{[], ◌∷◌, length, Option, Some, Ok, refl, sym, ap, ◌∙◌, arith}
 use Rattle.std.proofs.Common.{length-drop, inr}
@@ -9,11 +9,12 @@ use Rattle.std.proofs.lemmas.Bool.Decides.{Decides-int_eq}
 use Rattle.gimli_base.specs.declared.error.Error.{Error}
 use Rattle.gimli_base.specs.View.{View, cut}
 use Rattle.gimli_base.specs.Reading.{Reads}
-use Rattle.gimli_base.specs.Later.{IsLater, IsLater-length, IsLater-trans, IsLater-weaker}
+use Rattle.gimli_base.specs.View.{IsLater}
+use Rattle.gimli_base.proofs.Later.{IsLater-length, IsLater-trans, IsLater-weaker}
 use Rattle.gimli_units.specs.Entry.{Entry, is_null}
 use Rattle.gimli_units.specs.RawPlace.{below_flag, depth_after}
 use Rattle.gimli_units.specs.Rows.{Row, Ahead, offset_of_view, ahead_at}
-use Rattle.gimli_units.specs.RowChain.{AreRows, exist_rows, unique_rows}
+use Rattle.gimli_units.proofs.RowChain.{AreRows, exist_rows, unique_rows}
 use Rattle.gimli_units.specs.Honest.{closes, past, AreHonestUntil}
 use Rattle.gimli_units.specs.CursorPlace.{skip_until, has_depth, seek, IsPlaceUntil}
 
@@ -36,7 +37,7 @@ equal a b h = (Decides-int_eq a b).0 h
 pub at_least : (a b : ℤ) → int_le a b ≡ true → a ≤ℤ b
 at_least a b h = grind (arith, ints)
 
--- the depth behind an entry that does not close the children of a row of depth d, if it is above d
+-- the depth after an entry that does not close the children of a row of depth d, if it is above d
 stays_above : (e : Entry) (d depth : ℤ) → (d +ℤ pos 1) ≤ℤ depth
     → (is_null e && int_eq depth (d +ℤ pos 1)) ≡ false → (d +ℤ pos 1) ≤ℤ depth_after e depth
 stays_above e d depth above other = cases (is_null e) e.has_children other
@@ -48,7 +49,7 @@ stays_above e d depth above other = cases (is_null e) e.has_children other
     cases false true h = omega (arith, ints)
     cases false false h = above
 
--- the rows behind a closer, with the view where they begin: what is sought from a place at most so
+-- the rows after a closer, with the view where they begin: what is sought from a place at most so
 -- deep is sought there
 pub record Split (next : View → Reads Entry) (end : ℕ) (v : View) (d sought : ℤ) (t : ℕ)
     (rows : List Row) (refusal : Option Error) (stop : ℕ) (stop_depth : ℤ) : Type 0 where
@@ -66,7 +67,7 @@ module _ (next : View → Reads Entry) (end : ℕ)
     (later : (v w : View) (e : Entry) → Ok (e, w) ≡ next v → IsLater 1 v w)
     (flagless : (v w : View) (e : Entry) → Ok (e, w) ≡ next v → is_null e ≡ true
     → e.has_children ≡ false) where
-  -- the depth behind a closer
+  -- the depth after a closer
   closed_depth : (v w : View) (e : Entry) (d depth : ℤ) → Ok (e, w) ≡ next v
       → (is_null e && int_eq depth (d +ℤ pos 1)) ≡ true → depth_after e depth ≡ d
   closed_depth v w e d depth reads h = cases (is_null e) e.has_children (flagless v w e reads) h
@@ -80,7 +81,7 @@ module _ (next : View → Reads Entry) (end : ℕ)
       cases false flag bare k = absurd (false_is_true k)
 
   -- Between a row and its closer each row is deeper, so what is sought at that depth or less lies
-  -- behind the closer.
+  -- after the closer.
   pub splits : (rows : List Row) (v : View) (depth : ℤ) (refusal : Option Error) (stop : ℕ)
       (stop_depth : ℤ) → AreRows next end v depth rows refusal stop stop_depth
       → (d sought : ℤ) (t : ℕ) → (d +ℤ pos 1) ≤ℤ depth → sought ≤ℤ d → past d rows ≡ Some t
@@ -141,7 +142,7 @@ module _ (next : View → Reads Entry) (end : ℕ)
       let count : l.count ≡ t - offset_of_view end v = omega (arith, bytes, is, l.within, fits) in
       l.is ∙ ap (λ n. cut n v) count
 
-  -- what a jump from a row of depth d to the place behind its closer leaves
+  -- what a jump from a row of depth d to the place after its closer leaves
   pub record Kept (sought : ℤ) (offset : ℕ) (v : View) (depth : ℤ) (w : View) (new_depth : ℤ) : Type
       0 where
     pub same : seek end sought offset (ahead_at next end new_depth w)

@@ -12,7 +12,7 @@ use Rattle.gimli_base.specs.declared.error.Error.TheVariants.{OffsetOutOfBounds}
 use Rattle.gimli_base.proofs.Both.{both}
 use Rattle.gimli_base.specs.View.{View, cut}
 use Rattle.gimli_base.specs.Table.{Table}
-use Rattle.gimli_base.specs.Later.{IsLater-none, IsLater-trans}
+use Rattle.gimli_base.proofs.Later.{IsLater-none, IsLater-trans}
 use Rattle.gimli_units.specs.Entry.{Entry, is_null}
 use Rattle.gimli_units.specs.RawPlace.{RawPlace, next_offset_of, below_flag, depth_after}
 use Rattle.gimli_units.specs.Rows.{Row, Ahead}
@@ -320,7 +320,7 @@ found_is limit d outer start (Ok true) c some none = found_entry limit d outer s
 found_is limit d outer start (Ok false) c some none = found_null limit d outer start c (none refl)
 found_is limit d outer start (Err e) c some none = refl
 
--- behind an entry of a depth the next one is no less deep
+-- after an entry of a depth the next one is no less deep
 no_less : (e : Entry) (behind d : ℤ) → is_null e ≡ false → behind ≡ depth_after e d → d ≤ℤ behind
 no_less e behind d entry is = cases e.has_children (is ∙ rw entry refl)
   where

@@ -4,13 +4,13 @@ use Rattle.std.proofs.Common.{Result, Ok, Err, refl, sym, ◌∙◌, arith, inl,
 use Rattle.std.specs.Prelude.{if◌then◌else◌, ◌==◌, OnErr}
 use Rattle.std.proofs.lemmas.Bool.{ne_eqb}
 use Rattle.std.proofs.lemmas.Bool.Decides.{eqb_tells}
-use Rattle.gimli_base.specs.Later.{IsLater-none}
+use Rattle.gimli_base.proofs.Later.{IsLater-none}
 use Rattle.gimli_base.specs.declared.error.Error.{Error}
 use Rattle.gimli_base.specs.View.{View}
 use Rattle.gimli_base.specs.Reading.{Reads, UnlessMemory}
 use Rattle.gimli_units.specs.Entry.{Entry, is_null, null_entry}
 use Rattle.gimli_base.specs.Table.{found}
-use Rattle.gimli_units.specs.EntryReads.{entry_at-shorter}
+use Rattle.gimli_units.proofs.EntryReads.{entry_at-shorter}
 use Rattle.gimli_units.specs.RawPlace.{RawPlace, next_offset_of}
 use Rattle.gimli_units.specs.Rows.{Row}
 use Rattle.gimli_units.specs.CursorPlace.{is_entry, next_in_depth_first_order, next_of_depth, seek}
@@ -50,7 +50,7 @@ module _ (limit : ℕ) where
       read (Err e) is some = rw (rows_refusal limit p e some is) (refl, refl)
       read (Ok q) is some = rw (rows_entry limit c q.0 q.1 some is) (inl (refl, refl))
 
-  -- behind a row that was read and fails the test, what is ahead was ahead
+  -- after a row that was read and fails the test, what is ahead was ahead
   pub place_on : (test : Row → Bool) (c : CursorView) (e : Entry) (w : View)
       → (length c.raw.rest.bytes ≡ 0 → ⊥) → Ok (e, w) ≡ next_of limit c.raw c.raw.rest
       → test (last_row (after_entry c e w)) ≡ false

@@ -9,7 +9,8 @@ use Rattle.gimli_base.specs.declared.width.Width.TheVariants.{Unknown}
 use Rattle.gimli_base.specs.Width.{widths, width_in, width_of, size_in, form_size}
 use Rattle.gimli_units.specs.Layout.{Layout, byte, number, section_or, address, uleb, sleb, offset}
 use Rattle.gimli_units.specs.Layout.{word_offset, reference, offset_leb, offset_leb_and, block}
-use Rattle.gimli_units.specs.Layout.{block_leb, text, nothing, constant, forms, found_in, layout_of}
+use Rattle.gimli_units.specs.Layout.{block_leb, text, nothing, constant, forms, layout_in}
+use Rattle.gimli_units.specs.Layout.{layout_of}
 use Rattle.gimli_units.specs.Passing.{size_of, known_size}
 
 -- the width of a layout
@@ -56,14 +57,14 @@ size_as e (text f) = refl
 
 found_as : (form : ℕ) (rs : List (ℕ × Layout))
     → width_in form (map (λ r. (r.0, width_as r.1)) rs)
-    ≡ elim (found_in form rs) [ Some l ↦ width_as l | None ↦ Unknown ]
+    ≡ elim (layout_in form rs) [ Some l ↦ width_as l | None ↦ Unknown ]
 found_as form [] = refl
 found_as form (r ∷ rs) = cases (form == r.0) (found_as form rs)
   where
     cases : (t : Bool) → width_in form (map (λ r. (r.0, width_as r.1)) rs)
-        ≡ elim (found_in form rs) [ Some l ↦ width_as l | None ↦ Unknown ]
+        ≡ elim (layout_in form rs) [ Some l ↦ width_as l | None ↦ Unknown ]
         → (if t then width_as r.1 else width_in form (map (λ r. (r.0, width_as r.1)) rs))
-        ≡ elim (if t then Some r.1 else found_in form rs) [ Some l ↦ width_as l | None ↦ Unknown ]
+        ≡ elim (if t then Some r.1 else layout_in form rs) [ Some l ↦ width_as l | None ↦ Unknown ]
     cases true others = refl
     cases false others = others
 
@@ -72,7 +73,7 @@ pub form_size-known : (e : Encoding) (form : ℕ) → form_size e form ≡ known
 unfolding width_of known_size layout_of
 form_size-known e form =
     ap (λ ws. size_in e (width_in form ws)) widths_as ∙ ap (λ w. size_in e w) (found_as form forms)
-    ∙ cases (found_in form forms)
+    ∙ cases (layout_in form forms)
   where
     cases : (o : Option Layout)
         → size_in e (elim o [ Some l ↦ width_as l | None ↦ Unknown ])

@@ -8,7 +8,7 @@ use Rattle.gimli_base.specs.Offset.{answer_of}
 use Rattle.gimli_base.specs.View.{View, cut}
 use Rattle.gimli_base.specs.Reading.{Reads}
 use Rattle.gimli_base.specs.Table.{found}
-use Rattle.gimli_base.specs.Later.{IsLater}
+use Rattle.gimli_base.specs.View.{IsLater}
 use Rattle.gimli_units.specs.declared.entry.DebuggingInformationEntry.{DebuggingInformationEntry}
 use Rattle.gimli_units.specs.Entry.{Entry, entry_of, entry_at, abbreviation_at, takes_memory}
 use Rattle.gimli_units.specs.Entry.{null_entry, is_null}
@@ -108,7 +108,7 @@ pub record IsSameUnit (old new : CursorView) : Type 0 where
   pub follows : new.follows ≡ old.follows
 
 -- The entry that a step answered is the one that stands at its offset, which is not before what
--- stood next before the step; and the reader is just behind it, at the depth that it makes.
+-- stood next before the step; and the reader is just after it, at the depth that it makes.
 pub record IsTrueEntry (limit : ℕ) (old new : CursorView) : Type 0 where
   pub is : Ok (new.entry, new.raw.rest) ≡ next_of limit old.raw (view_from old.raw new.offset)
   pub depth : new.raw.depth ≡ depth_after new.entry new.depth
@@ -132,14 +132,14 @@ pub record IsRefused (limit : ℕ) (old : CursorView) (e : Error) (new : CursorV
   pub depth : new.raw.depth ≡ new.depth
 
 -- a pair of offset and depth is that of the first row ahead that passes a test, or of one before
--- it, or of the place behind the last, where none does
+-- it, or of the place after the last, where none does
 abbrev pub IsPlaceAhead : ℕ → (Row → Bool) → RawPlace → ℕ → ℤ → Type 0
 IsPlaceAhead limit test p offset depth =
     IsPlaceUntil test (rows_of limit p).stop (rows_of limit p).stop_depth offset depth
     (rows_of limit p).rows
 
 -- the pair is that of a row that is passed or taken, where the first that passes a test is, or of
--- the place behind the last
+-- the place after the last
 abbrev pub IsAheadOf : ℕ → (Row → Bool) → CursorView → CursorView → Type 0
 IsAheadOf limit test old new = IsPlaceAhead limit test old.raw new.offset new.depth
 
@@ -178,12 +178,12 @@ IsReadUpTo limit old new =
     new.reads + reads_ahead (rows_from limit old.raw new.offset new.depth)
     ≡ old.reads + reads_ahead (rows_of limit old.raw) + 1
 
--- behind a current entry the reader has the depth that the entry makes
+-- after a current entry the reader has the depth that the entry makes
 abbrev pub StandsBehind : CursorView → Type 0
 StandsBehind c = is_null c.entry ≡ false → c.raw.depth ≡ depth_after c.entry c.depth
 
 -- What holds of every cursor: the reads and the depths are few beside the bytes that are left, and
--- it stands behind its entry, past the offset where that begins.
+-- it stands after its entry, past the offset where that begins.
 pub record IsSound (c : CursorView) : Type 0 where
   pub few : c.reads + length c.raw.rest.bytes < 2 ^ 63
   pub shallow : unsigned_abs c.depth + length c.raw.rest.bytes < 2 ^ 63

@@ -5,7 +5,7 @@ use Rattle.std.specs.Ordering.{int_eq}
 use Rattle.gimli_base.specs.declared.error.Error.{Error}
 use Rattle.gimli_units.specs.Entry.{Entry, is_null}
 use Rattle.gimli_units.specs.Rows.{Row, Ahead}
-use Rattle.gimli_units.specs.RowSteps.{no_row}
+use Rattle.gimli_units.specs.Rows.{no_row}
 
 -- A place: the rows that are ahead, the current entry, if there is one, and a pair of offset and
 -- depth. Where there is a current entry, the pair is its own. After a refusal no row is ahead, and
@@ -29,7 +29,7 @@ abbrev pub is_entry : Row → Bool
 is_entry r = not (is_null r.entry)
 
 -- Where there is no row to take: at the end of the bytes the pair is the one that is given; a
--- refusal ends the walk, and the pair is that of the place behind the last row. `end` is the offset
+-- refusal ends the walk, and the pair is that of the place after the last row. `end` is the offset
 -- of the end of the bytes.
 abbrev pub ran_out : ℕ → Ahead → ℕ → ℤ → Moved
 ran_out end a offset depth = elim a.refusal [
@@ -87,11 +87,11 @@ abbrev pub last_depth : ℤ → List Row → ℤ
 last_depth depth [] = depth
 last_depth depth (r ∷ rest) = last_depth r.depth rest
 
--- the least row ahead
+-- the first row ahead
 unfoldable pub next_row : ℕ → Place → Moved
 next_row end p = arrive end p.ahead p.offset p.depth (λ r. true) p.ahead.rows
 
--- the least row ahead that is no null; at the end of the bytes the pair is that of the last null
+-- the first row ahead that is no null; at the end of the bytes the pair is that of the last null
 -- passed
 unfoldable pub next_in_depth_first_order : ℕ → Place → Moved
 next_in_depth_first_order end p =
@@ -102,7 +102,7 @@ next_in_depth_first_order end p =
 abbrev pub has_depth : ℤ → Row → Bool
 has_depth depth r = int_eq r.depth depth
 
--- the least row of this depth; at the end of the bytes the pair is `offset` and that depth
+-- the first row of this depth; at the end of the bytes the pair is `offset` and that depth
 unfoldable pub seek : ℕ → ℤ → ℕ → Ahead → Moved
 seek end depth offset a = arrive end a offset depth is_entry (skip_until (has_depth depth) a.rows)
 
@@ -111,7 +111,7 @@ seek end depth offset a = arrive end a offset depth is_entry (skip_until (has_de
 unfoldable pub first_of_rows : ℕ → ℤ → ℕ → Ahead → Moved
 first_of_rows end depth offset a = arrive end a offset depth is_entry a.rows
 
--- the next sibling: from a current entry the least row of its depth, and without one nothing moves
+-- the next sibling: from a current entry the first row of its depth, and without one nothing moves
 unfoldable pub next_of_depth : ℕ → Place → Moved
 next_of_depth end p = elim p.current [
   | None ↦ record { outcome = Ok false; place = p }
@@ -119,7 +119,7 @@ next_of_depth end p = elim p.current [
 ]
 
 -- a pair of offset and depth is that of the first of these rows that passes a test, or of one
--- before it, or of the place behind them, where none does
+-- before it, or of the place after them, where none does
 abbrev pub IsPlaceUntil : (Row → Bool) → ℕ → ℤ → ℕ → ℤ → List Row → Type 0
 IsPlaceUntil test stop stop_depth offset depth [] = (offset ≡ stop) × (depth ≡ stop_depth)
 IsPlaceUntil test stop stop_depth offset depth (r ∷ rest) =

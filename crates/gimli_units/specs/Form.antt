@@ -1,4 +1,4 @@
--- The value of a form at a view, and the view behind it (DWARF 5, 7.5.5 and 7.5.6).
+-- The value of a form at a view, and the view after it (DWARF 5, 7.5.5 and 7.5.6).
 use Rattle.std.specs.Prelude.{ℕ, ℤ, zero, suc, ◌==◌, ◌&&◌, ◌||◌, Bool, true, false, if◌then◌else◌}
 use Rattle.std.specs.Prelude.{List, [], ◌∷◌, length, Option, Some, None, Ok, Err}
 use Rattle.gimli_base.specs.declared.common.Encoding.{Encoding}
@@ -89,10 +89,10 @@ unfoldable pub form_at : ℕ → View → Reads ℕ
 form_at form v = chain (length v.bytes) form v
 
 -- the number that stands in a declaration, which an indirect one has none of
-abbrev pub number_of : ℕ → Option ℤ → Option ℤ
-number_of form c = if form == 0x16 then None else c
+abbrev pub declared_number : ℕ → Option ℤ → Option ℤ
+declared_number form c = if form == 0x16 then None else c
 
 -- the value of a form; a chain that ends at implicit_const has no number
 unfoldable pub value_at : ℕ → Encoding → ℕ → Option ℤ → ℕ → View → Reads Value
 value_at limit e name c form v =
-    form_at form v >>= λ p. direct_at limit e name (number_of form c) p.0 p.1
+    form_at form v >>= λ p. direct_at limit e name (declared_number form c) p.0 p.1

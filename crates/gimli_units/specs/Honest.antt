@@ -11,7 +11,7 @@ use Rattle.gimli_units.specs.Rows.{Row}
 abbrev pub closes : ℤ → Row → Bool
 closes depth r = is_null r.entry && int_eq r.depth (depth +ℤ pos 1)
 
--- the offset just after the closer: behind the least null of depth one more, among the rows behind
+-- the offset just past the closer, which is the first null one deeper among the rows that follow
 abbrev pub past : ℤ → List Row → Option ℕ
 past depth [] = None
 past depth (r ∷ rest) = if closes depth r then Some r.next else past depth rest
@@ -26,12 +26,12 @@ abbrev pub within : ℕ → ℕ → Option ℕ → Option ℕ
 within low high None = None
 within low high (Some t) = if nat_le low t && nat_le t high then Some t else None
 
--- where it leads, if it can be followed: not before what is behind the row, and not past the end of
+-- where it leads, if it can be followed: not before what is after the row, and not past the end of
 -- the bytes
 abbrev pub usable : ℕ → Row → Option ℕ
 usable end r = within r.next end (target (kind_of r.entry))
 
--- a row, with the rows behind it: if its reference can be followed, it leads just past the closer
+-- a row, with the rows after it: if its reference can be followed, it leads just past the closer
 abbrev pub IsHonest : ℕ → Row → List Row → Type 0
 IsHonest end r rest = (t : ℕ) → usable end r ≡ Some t → past r.depth rest ≡ Some t
 

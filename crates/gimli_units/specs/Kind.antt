@@ -10,13 +10,14 @@ pub data Kind : Type 0 where
   leaf : Kind
   parent : Option ℕ → Kind  -- with where the first DW_AT_sibling leads, if that is a UnitRef
 
-abbrev pub reference : Value → Option ℕ
-reference (UnitRef o) = Some o.0
-reference x = None
+abbrev pub unit_reference : Value → Option ℕ
+unit_reference (UnitRef o) = Some o.0
+unit_reference x = None
 
 -- where the first DW_AT_sibling leads, if that is a UnitRef
 abbrev pub sibling_of : List Attr → Option ℕ
-sibling_of attributes = elim (first_of 0x01 attributes) [ Some a ↦ reference a.value | None ↦ None ]
+sibling_of attributes =
+    elim (first_of 0x01 attributes) [ Some a ↦ unit_reference a.value | None ↦ None ]
 
 abbrev pub kind_of : Entry → Kind
 kind_of e = if is_null e then null else if e.has_children then parent (sibling_of e.attributes)

@@ -134,10 +134,10 @@ forms =
     (0x3f01, offset_leb_and 4 addr_index_offset) ∷  -- own_addrx_offset
     []
 
-abbrev pub found_in : ℕ → List (ℕ × Layout) → Option Layout
-found_in form [] = None
-found_in form (r ∷ rs) = if form == r.0 then Some r.1 else found_in form rs
+abbrev pub layout_in : ℕ → List (ℕ × Layout) → Option Layout
+layout_in form [] = None
+layout_in form (r ∷ rs) = if form == r.0 then Some r.1 else layout_in form rs
 
 unfoldable pub layout_of : ℕ → Option Layout
 unfolding forms
-layout_of form = found_in form forms
+layout_of form = layout_in form forms

@@ -4,16 +4,13 @@ pub mod Form
 pub mod Passing
 pub mod Entry
 pub mod Rows
-pub mod EntryReads
 pub mod RawPlace
-pub mod RowSteps
 pub mod Kind
 pub mod Honest
 pub mod CursorPlace
 pub mod CursorMoves
 pub mod CursorRead
 pub mod CursorLent
-pub mod RowChain
 pub mod UnitKind
 pub mod Unit
 pub mod CursorStart
@@ -24,4 +21,3 @@ pub mod NormalValue
 pub mod UnitHeld
 pub mod UnitRows
 pub mod FirstFalse
-pub mod LeastFalse

@@ -51,9 +51,9 @@ sdata_of (Udata n) = if nat_lt n (2 ^ 63) then Some (pos n) else None
 sdata_of _ = None
 
 -- an offset into a section
-abbrev pub offset_of : Value → Option ℕ
-offset_of (SecOffset o) = Some o
-offset_of _ = None
+abbrev pub sec_offset_of : Value → Option ℕ
+sec_offset_of (SecOffset o) = Some o
+sec_offset_of _ = None
 
 -- an expression
 abbrev pub exprloc_of : Value → Option View
@@ -62,19 +62,19 @@ exprloc_of (Block v) = Some v
 exprloc_of _ = None
 
 -- the bytes of a text that was found
-abbrev pub found_text : Result View Error → Option View
-found_text (Ok v) = Some v
-found_text (Err e) = None
+abbrev pub bytes_found : Result View Error → Option View
+bytes_found (Ok v) = Some v
+bytes_found (Err e) = None
 
 -- a text, which may stand in `.debug_str`
 abbrev pub string_of : View → Value → Option View
 string_of strings (String v) = Some v
-string_of strings (DebugStrRef o) = found_text (text_from o.0 strings)
+string_of strings (DebugStrRef o) = bytes_found (text_from o.0 strings)
 string_of strings _ = None
 
 -- a text, which may also stand in `.debug_str` of the supplementary file, where that is given
 abbrev pub string_sup_of : View → Option View → Value → Option View
-string_sup_of strings (Some others) (DebugStrRefSup o) = found_text (text_from o.0 others)
+string_sup_of strings (Some others) (DebugStrRefSup o) = bytes_found (text_from o.0 others)
 string_sup_of strings others x = string_of strings x
 
 -- an answer below a limit
@@ -96,8 +96,8 @@ as_u8 f x = into f (below (2 ^ 8) (udata_of x))
 abbrev pub as_u16 : (ℕ → Value) → Value → Option Value
 as_u16 f x = into f (below (2 ^ 16) (udata_of x))
 
-abbrev pub as_offset : (ℕ → Value) → Value → Option Value
-as_offset f x = into f (offset_of x)
+abbrev pub as_sec_offset : (ℕ → Value) → Value → Option Value
+as_sec_offset f x = into f (sec_offset_of x)
 
 abbrev pub as_exprloc : Value → Option Value
 as_exprloc x = into (λ v. Exprloc (record { 0 = v })) (exprloc_of x)
@@ -171,15 +171,15 @@ endianity n = Endianity (record { 0 = n })
 -- the conversions of each name, in the order in which they are tried
 unfoldable pub conversions : List (ℕ × List (Value → Option Value))
 conversions =
-    (0x02, as_exprloc ∷ as_offset loclists ∷ []) ∷  -- location
-    (0x19, as_exprloc ∷ as_offset loclists ∷ []) ∷  -- string_length
-    (0x2a, as_exprloc ∷ as_offset loclists ∷ []) ∷  -- return_addr
-    (0x40, as_exprloc ∷ as_offset loclists ∷ []) ∷  -- frame_base
-    (0x46, as_exprloc ∷ as_offset loclists ∷ []) ∷  -- segment
-    (0x48, as_exprloc ∷ as_offset loclists ∷ []) ∷  -- static_link
-    (0x4a, as_exprloc ∷ as_offset loclists ∷ []) ∷  -- use_location
-    (0x4d, as_exprloc ∷ as_offset loclists ∷ []) ∷  -- vtable_elem_location
-    (0x38, as_udata Udata ∷ as_exprloc ∷ as_offset loclists ∷ []) ∷  -- data_member_location
+    (0x02, as_exprloc ∷ as_sec_offset loclists ∷ []) ∷  -- location
+    (0x19, as_exprloc ∷ as_sec_offset loclists ∷ []) ∷  -- string_length
+    (0x2a, as_exprloc ∷ as_sec_offset loclists ∷ []) ∷  -- return_addr
+    (0x40, as_exprloc ∷ as_sec_offset loclists ∷ []) ∷  -- frame_base
+    (0x46, as_exprloc ∷ as_sec_offset loclists ∷ []) ∷  -- segment
+    (0x48, as_exprloc ∷ as_sec_offset loclists ∷ []) ∷  -- static_link
+    (0x4a, as_exprloc ∷ as_sec_offset loclists ∷ []) ∷  -- use_location
+    (0x4d, as_exprloc ∷ as_sec_offset loclists ∷ []) ∷  -- vtable_elem_location
+    (0x38, as_udata Udata ∷ as_exprloc ∷ as_sec_offset loclists ∷ []) ∷  -- data_member_location
     (0x0b, as_udata Udata ∷ as_exprloc ∷ []) ∷  -- byte_size
     (0x0c, as_udata Udata ∷ as_exprloc ∷ []) ∷  -- bit_offset
     (0x0d, as_udata Udata ∷ as_exprloc ∷ []) ∷  -- bit_size
@@ -217,17 +217,17 @@ conversions =
     (0x84, as_exprloc ∷ []) ∷  -- call_target_clobbered
     (0x85, as_exprloc ∷ []) ∷  -- call_data_location
     (0x86, as_exprloc ∷ []) ∷  -- call_data_value
-    (0x10, as_offset line ∷ []) ∷  -- stmt_list
-    (0x2c, as_offset ranges ∷ []) ∷  -- start_scope
-    (0x55, as_offset ranges ∷ []) ∷  -- ranges
-    (0x43, as_offset macinfo ∷ []) ∷  -- macro_info
-    (0x79, as_offset macro ∷ []) ∷  -- macros
-    (0x72, as_offset str_offsets_base ∷ []) ∷  -- str_offsets_base
-    (0x73, as_offset addr_base ∷ []) ∷  -- addr_base
-    (0x2133, as_offset addr_base ∷ []) ∷  -- GNU_addr_base
-    (0x74, as_offset rnglists_base ∷ []) ∷  -- rnglists_base
-    (0x2132, as_offset rnglists_base ∷ []) ∷  -- GNU_ranges_base
-    (0x8c, as_offset loclists_base ∷ []) ∷  -- loclists_base
+    (0x10, as_sec_offset line ∷ []) ∷  -- stmt_list
+    (0x2c, as_sec_offset ranges ∷ []) ∷  -- start_scope
+    (0x55, as_sec_offset ranges ∷ []) ∷  -- ranges
+    (0x43, as_sec_offset macinfo ∷ []) ∷  -- macro_info
+    (0x79, as_sec_offset macro ∷ []) ∷  -- macros
+    (0x72, as_sec_offset str_offsets_base ∷ []) ∷  -- str_offsets_base
+    (0x73, as_sec_offset addr_base ∷ []) ∷  -- addr_base
+    (0x2133, as_sec_offset addr_base ∷ []) ∷  -- GNU_addr_base
+    (0x74, as_sec_offset rnglists_base ∷ []) ∷  -- rnglists_base
+    (0x2132, as_sec_offset rnglists_base ∷ []) ∷  -- GNU_ranges_base
+    (0x8c, as_sec_offset loclists_base ∷ []) ∷  -- loclists_base
     (0x2131, as_udata dwo_id ∷ []) ∷  -- GNU_dwo_id
     []
 

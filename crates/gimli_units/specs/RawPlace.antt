@@ -23,12 +23,12 @@ next_offset_of p = offset_of_view p.end p.rest
 abbrev pub below_flag : Bool → ℤ → ℤ
 below_flag flag depth = if flag then depth +ℤ pos 1 else depth
 
--- the depth behind the code of a declaration, or of a null
+-- the depth after the code of a declaration, or of a null
 abbrev pub depth_read : Option Declaration → ℤ → ℤ
 depth_read None depth = depth -ℤ pos 1
 depth_read (Some d) depth = below_flag d.has_children depth
 
--- the depth behind an entry: a flag adds one, and a null takes one
+-- the depth after an entry: a flag adds one, and a null takes one
 abbrev pub depth_after : Entry → ℤ → ℤ
 depth_after e depth =
     if is_null e then below_flag e.has_children depth -ℤ pos 1 else below_flag e.has_children depth

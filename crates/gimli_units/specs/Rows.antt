@@ -1,4 +1,4 @@
--- The rows of a unit: its entries one behind the other, with how they end, and the depth of each
+-- The rows of a unit: its entries one after the other, with how they end, and the depth of each
 -- (DWARF 5, 2.3 and 7.5.2).
 use Rattle.std.specs.Prelude.{ℕ, zero, suc, ◌-◌, ◌==◌, ℤ, pos, ◌+ℤ◌, ◌-ℤ◌, if◌then◌else◌, List, []}
 use Rattle.std.specs.Prelude.{◌∷◌, ◌++◌, length, count_by, Option, Some, None, Ok, Err}
@@ -7,14 +7,14 @@ use Rattle.gimli_base.specs.View.{View}
 use Rattle.gimli_base.specs.Reading.{Reads}
 use Rattle.gimli_units.specs.Entry.{Entry, is_null}
 
--- an entry where it stands, with the offset of what is behind it
+-- an entry where it stands, with the offset of what is after it
 pub record Sited : Type 0 where
   pub offset : ℕ
   pub next : ℕ
   pub entry : Entry
 
--- Entries one behind the other, with the refusal that ends them, if it isn't the end of the bytes,
--- and the offset of the place behind the last.
+-- Entries one after the other, with the refusal that ends them, if it isn't the end of the bytes,
+-- and the offset of the place after the last.
 pub record Entries : Type 0 where
   pub sited : List Sited
   pub refusal : Option Error
@@ -46,14 +46,14 @@ entries_within next end (suc n) v =
 unfoldable pub entries_at : (View → Reads Entry) → ℕ → View → Entries
 entries_at next end v = entries_within next end (length v.bytes) v
 
--- the depth of the place behind these entries: the children flags among them, less the nulls
+-- the depth of the place after these entries: the children flags among them, less the nulls
 unfoldable pub depth_behind : ℤ → List Sited → ℤ
 depth_behind start before =
     start
     +ℤ (pos (count_by (λ s. s.entry.has_children) before)
     -ℤ pos (count_by (λ s. is_null s.entry) before))
 
--- an entry with its offset and its depth, and the offset of what is behind it
+-- an entry with its offset and its depth, and the offset of what is after it
 pub record Row : Type 0 where
   pub offset : ℕ
   pub next : ℕ
@@ -68,7 +68,7 @@ rows_behind start before (s ∷ rest) =
     ∷ rows_behind start (before ++ s ∷ []) rest
 
 -- The rows that are ahead of a place, and how they end. `stop` and `stop_depth` are the offset and
--- the depth of the place behind the last row.
+-- the depth of the place after the last row.
 pub record Ahead : Type 0 where
   pub rows : List Row
   pub refusal : Option Error
@@ -85,3 +85,8 @@ ahead_at next end depth v =
       stop = es.stop;
       stop_depth = depth_behind depth es.sited;
     }
+
+-- no row
+abbrev pub no_row : Option Error → ℕ → ℤ → Ahead
+no_row refusal stop stop_depth =
+    record { rows = []; refusal = refusal; stop = stop; stop_depth = stop_depth }

@@ -70,7 +70,7 @@ unfoldable pub to_root : ℕ → Ahead → TreeMoved
 to_root end rows = rooted (first_of_rows end (pos 0) 0 rows)
 
 -- A row of an open list's depth was sought: an entry is the node, and a null, or the end of the
--- bytes, closes the list. Behind a refusal no row is ahead, so that every list ends.
+-- bytes, closes the list. After a refusal no row is ahead, so that every list ends.
 abbrev pub found_in : ℤ → Lists → Moved → TreeMoved
 found_in depth outer m = elim m.outcome [
   | Err e ↦
@@ -92,7 +92,7 @@ found_in depth outer m = elim m.outcome [
   ]
 ]
 
--- Next: in an open list the least row ahead of its depth
+-- Next: in an open list the first row ahead of its depth
 unfoldable pub to_next : ℕ → TreePlace → TreeMoved
 to_next end p = elim p.lists [
   | [] ↦ record { told = no_node; place = p }

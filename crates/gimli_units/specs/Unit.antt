@@ -144,7 +144,7 @@ unfoldable pub unit_entry_at : ℕ → UnitView → Map → ℕ → Result Entry
 unit_entry_at limit u declared offset =
     entry_in limit u.encoding declared offset (range_from u offset)
 
--- what is read at an offset of a unit: an entry or a null with what is left behind it, or a refusal
+-- what is read at an offset of a unit: an entry or a null with what is left after it, or a refusal
 abbrev pub unit_read_at : ℕ → UnitView → Map → ℕ → Reads Entry
 unit_read_at limit u declared offset =
     entry_at limit u.encoding declared (cut (offset - header_size u) u.entries)

@@ -5,8 +5,8 @@ ghost use Rattle.std.specs.Option.{option_map};
 ghost use Rattle.gimli_base.specs.Offset.{answer_of};
 ghost use Rattle.gimli_base.specs.Reading.{read};
 ghost use Rattle.gimli_units.specs.Value.{map_value, map_attribute};
-ghost use Rattle.gimli_units.specs.Kind.{reference};
-ghost use Rattle.gimli_units.specs.NormalValue.{udata_of, sdata_of, offset_of, exprloc_of};
+ghost use Rattle.gimli_units.specs.Kind.{unit_reference};
+ghost use Rattle.gimli_units.specs.NormalValue.{udata_of, sdata_of, sec_offset_of, exprloc_of};
 ghost use Rattle.gimli_units.specs.NormalValue.{string_of, string_sup_of, below};
 ghost use Rattle.gimli_units.specs.Entry.{attribute_at};
 
@@ -70,7 +70,7 @@ impl<R: Reader> Attribute<R> {
     // Where it leads in its unit, if it is a reference there.
     pub(crate) fn reference(&self) -> Option<UnitOffset<R::Offset>>
         ensures { option_map (λ o. R.Offset.number o.0) result
-            ≡ reference (map_value R.view R.Offset.number self.now.value) }
+            ≡ unit_reference (map_value R.view R.Offset.number self.now.value) }
     {
         self.value.reference()
     }
@@ -108,7 +108,7 @@ impl<R: Reader> Attribute<R> {
     /// The value as an offset into a section that the name gives, where it is one.
     pub fn offset_value(&self) -> Option<R::Offset>
         ensures { option_map R.Offset.number result
-            ≡ offset_of (map_value R.view R.Offset.number self.now.value) }
+            ≡ sec_offset_of (map_value R.view R.Offset.number self.now.value) }
     {
         self.value.offset_value()
     }

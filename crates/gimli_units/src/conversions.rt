@@ -3,7 +3,7 @@
 ghost use Rattle.std.specs.Prelude.{◌≡◌, ◌<◌, ◌≤◌, ◌*◌, ◌^◌, nat_lt, if◌then◌else◌, pos, ◌-ℤ◌};
 ghost use Rattle.std.specs.Option.{option_map};
 ghost use Rattle.gimli_units.specs.Value.{map_value};
-ghost use Rattle.gimli_units.specs.NormalValue.{udata_of, sdata_of, offset_of, exprloc_of};
+ghost use Rattle.gimli_units.specs.NormalValue.{udata_of, sdata_of, sec_offset_of, exprloc_of};
 ghost use Rattle.gimli_units.specs.NormalValue.{string_of, string_sup_of, below};
 
 use crate::AttributeValue;
@@ -85,7 +85,7 @@ impl<R: Reader> AttributeValue<R> {
     /// The value as an offset into a section that the name gives, where it is one.
     pub fn offset_value(&self) -> Option<R::Offset>
         ensures { option_map R.Offset.number result
-            ≡ offset_of (map_value R.view R.Offset.number self.now) }
+            ≡ sec_offset_of (map_value R.view R.Offset.number self.now) }
     {
         match self {
             AttributeValue::SecOffset(offset) => Some(*offset),

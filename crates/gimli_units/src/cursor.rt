@@ -18,11 +18,11 @@ use gimli_base::{Reader, ReaderOffset, Result};
 use std::alloc::Allocator;
 use std::marker::Model;
 
-/// A cursor over the entries of a unit, which lie one behind the other as a tree is written in
+/// A cursor over the entries of a unit, which lie one after the other as a tree is written in
 /// depth-first order (DWARF 5, 2.3).
 ///
 /// `next_entry` answers whether there was an entry or a null, and the other steps lend the entry.
-/// Behind a refusal the walk is over.
+/// After a refusal the walk is over.
 #[derive(Drop)]
 #[derive_where(Debug)]
 pub struct EntriesCursor<'abbrev, R: Reader, A: Allocator> {

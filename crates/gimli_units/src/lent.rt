@@ -16,6 +16,8 @@ impl<'abbrev, R: Reader, A: Allocator> EntriesCursor<'abbrev, R, A> {
     ///
     /// Refusals: those of `next_entry`.
     pub fn next_dfs(&mut self) -> Result<Option<&DebuggingInformationEntry<R, A>>>
+        // Once the loan ends the cursor is as `HasWalked` says, and what was lent was its current
+        // entry.
         ensures* leaves { let row = the_row (record { mir = named 0; lft = [] }) R.row A.row
             R.Endian.row R.Offset.row R.Endian.Kept.row (record { view = R.view })
             (record { debug_output = R.debug_output })
@@ -34,8 +36,9 @@ impl<'abbrev, R: Reader, A: Allocator> EntriesCursor<'abbrev, R, A> {
 
     /// Goes to the next sibling of the current entry, and lends it: the next entry of its depth,
     /// before the null that closes their list. Answers `None` where there is none, and then there
-    /// is no current entry; at the end of the input the cursor is set back to the entry's offset
-    /// and depth. Without a current entry it answers `None` and moves nothing.
+    /// is no current entry; at a null that closes the list, offset and depth are the null's, and at
+    /// the end of the input the cursor is set back to the entry's offset and depth. Without a
+    /// current entry it answers `None` and moves nothing.
     ///
     /// Where the cursor follows references, an entry whose `DW_AT_sibling` leads on in the unit is
     /// left for where it leads, with its children unread. So it answers as plain walking does where
@@ -44,6 +47,8 @@ impl<'abbrev, R: Reader, A: Allocator> EntriesCursor<'abbrev, R, A> {
     ///
     /// Refusals: those of `next_entry`.
     pub fn next_sibling(&mut self) -> Result<Option<&DebuggingInformationEntry<R, A>>>
+        // Once the loan ends the cursor is as `HasWalkedOver` says, and what was lent was its
+        // current entry.
         ensures* leaves { let row = the_row (record { mir = named 0; lft = [] }) R.row A.row
             R.Endian.row R.Offset.row R.Endian.Kept.row (record { view = R.view })
             (record { debug_output = R.debug_output })

@@ -1,4 +1,4 @@
-//! Units and their entries: headers, attributes, and the reading of entries one behind the other.
+//! Units and their entries: headers, attributes, and the reading of entries one after the other.
 #![tactic(auto)]
 
 mod attribute;

@@ -1,4 +1,4 @@
-//! Entries that are read one behind the other.
+//! Entries that are read one after the other.
 
 ghost use Rattle.std.specs.Prelude.{◌≡◌, ◌+◌, ◌-◌, ◌<◌, ◌≤◌, ◌^◌, ◌==◌, ◌↔◌, pos, ◌-ℤ◌, not};
 ghost use Rattle.std.specs.Prelude.{length, map, IsTrue, IsOk, IfOk, IfErr, OnOk, OnErr, Option};
@@ -7,7 +7,7 @@ ghost use Rattle.std.specs.Option.{option_copied};
 ghost use Rattle.gimli_base.specs.Offset.{answer_of};
 ghost use Rattle.gimli_base.specs.View.{View, ended};
 ghost use Rattle.gimli_base.specs.Reading.{read, filled, UnlessMemory};
-ghost use Rattle.gimli_base.specs.Passed.{PassesAs};
+ghost use Rattle.gimli_base.specs.Reading.{PassesAs};
 ghost use Rattle.gimli_base.specs.Table.{Table, found};
 ghost use Rattle.gimli_units.specs.Value.{map_attribute};
 ghost use Rattle.gimli_units.specs.Entry.{attribute_at, attributes_at, abbreviation_at, entry_at};
@@ -116,8 +116,8 @@ impl<'abbrev, R: Reader, A: Allocator> EntriesRaw<'abbrev, R, A> {
         UnitOffset(self.end_offset.0.checked_sub(self.input.len()).unwrap())
     }
 
-    /// The depth of what is read next: it is one more behind an entry with children, and one less
-    /// behind a null.
+    /// The depth of what is read next: it is one more after an entry with children, and one less
+    /// after a null.
     #[inline]
     pub fn next_depth(&self) -> isize
         ensures { result ≡ self.now.depth }
@@ -174,7 +174,7 @@ impl<'abbrev, R: Reader, A: Allocator> EntriesRaw<'abbrev, R, A> {
         Ok(Some(abbreviation))
     }
 
-    // Goes behind a null that was read.
+    // Goes after a null that was read.
     #[inline(always)]
     fn go_behind_null(&mut self, rest: R)
         requires { length (R.view rest).bytes < length self.old.rest.bytes }
@@ -184,7 +184,7 @@ impl<'abbrev, R: Reader, A: Allocator> EntriesRaw<'abbrev, R, A> {
         self.depth -= 1;
     }
 
-    // Goes behind an entry that was read, to its children where it has some.
+    // Goes after an entry that was read, to its children where it has some.
     #[inline(always)]
     fn go_behind_entry(&mut self, rest: R, has_children: bool)
         requires { length (R.view rest).bytes < length self.old.rest.bytes }
@@ -251,7 +251,7 @@ impl<'abbrev, R: Reader, A: Allocator> EntriesRaw<'abbrev, R, A> {
     }
 
     // Reads the attributes of these specifications, which begin at `start`, into an empty list, and
-    // goes behind their entry; where they are refused, the list is left anywhere. They are read on
+    // goes after their entry; where they are refused, the list is left anywhere. They are read on
     // a reader whose address no call gets, so that it stays in registers.
     #[inline(never)]
     fn read_behind(

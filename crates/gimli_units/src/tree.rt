@@ -167,7 +167,7 @@ pub struct EntriesTreeNode<'abbrev, 'tree, R: Reader, A: Allocator> {
     tree: &'tree mut EntriesTree<'abbrev, R, A>,
 }
 
-/// The children of a node of a tree, one behind the other. Whatever was left unread below one does
+/// The children of a node of a tree, one after the other. Whatever was left unread below one does
 /// not change which comes next, where the sibling references that are followed are honest.
 #[derive(Drop)]
 #[derive_where(Debug)]
@@ -176,9 +176,9 @@ pub struct EntriesTreeIter<'abbrev, 'tree, R: Reader, A: Allocator> {
     tree: &'tree mut EntriesTree<'abbrev, R, A>,
     // the depth of the children
     depth: isize,
-    // whether the list is open: it is closed behind its last child, and from the first where no
+    // whether the list is open: it is closed after its last child, and from the first where no
     // children follow
-    open: bool,
+    is_open: bool,
 }
 
 impl<'abbrev, R: Reader, A: Allocator> EntriesTree<'abbrev, R, A> {
@@ -231,20 +231,20 @@ impl<'abbrev, 'tree, R: Reader, A: Allocator> EntriesTreeNode<'abbrev, 'tree, R,
     pub fn children(self) -> EntriesTreeIter<'abbrev, 'tree, R, A>
         ensures same_reference { result.tree.ghost_name ≡ self.entry.tree.ghost_name }
         ensures same_tree { result.tree.now ≡ self.entry.tree.now }
-        ensures open { result.open ≡ self.entry.tree.now.cursor.entry.has_children }
+        ensures opens { result.is_open ≡ self.entry.tree.now.cursor.entry.has_children }
         ensures children { is_null self.entry.tree.now.cursor.entry ≡ false
-            → list_of result.open result.depth ≡ children_of (node_at self.entry.tree.now) }
-        ensures inside { is_null self.entry.tree.now.cursor.entry ≡ false → result.open ≡ true
+            → list_of result.is_open result.depth ≡ children_of (node_at self.entry.tree.now) }
+        ensures inside { is_null self.entry.tree.now.cursor.entry ≡ false → result.is_open ≡ true
             → IsInside result.depth result.tree.now }
         ensures shallow { unsigned_abs result.depth < 2 ^ 63 }
         ensures tree { IsTree result.tree.now }
     {
-        let open = self.tree.entry().has_children();
+        let is_open = self.tree.entry().has_children();
         let depth = self.tree.next_depth();
         EntriesTreeIter {
             tree: self.tree,
             depth,
-            open,
+            is_open,
         }
     }
 }
@@ -268,35 +268,35 @@ impl<'abbrev, 'tree, R: Reader, A: Allocator> EntriesTreeIter<'abbrev, 'tree, R,
     /// until `root` is asked for.
     pub fn advance(&mut self) -> Result<bool>
         ensures same_reference { self.new.tree.ghost_name ≡ self.old.tree.ghost_name }
-        ensures gone_on { self.old.open ≡ true → unsigned_abs self.old.depth < 2 ^ 63
+        ensures gone_on { self.old.is_open ≡ true → unsigned_abs self.old.depth < 2 ^ 63
             → HasGoneOn R.Offset.limit self.old.depth self.old.tree.now result self.new.tree.now }
         ensures moved { (result ≡ Ok false → ⊥)
-            → (self.old.open ≡ true)
+            → (self.old.is_open ≡ true)
             × HasGoneOn R.Offset.limit self.old.depth self.old.tree.now result self.new.tree.now }
         ensures depth { self.new.depth ≡ self.old.depth }
-        ensures opened { result ≡ Ok true → self.new.open ≡ true }
-        ensures closes { result ≡ Ok false → self.new.open ≡ false }
-        ensures stays { OnErr result (self.new.open ≡ true) }
-        ensures closed { self.old.open ≡ false
+        ensures opened { result ≡ Ok true → self.new.is_open ≡ true }
+        ensures closes { result ≡ Ok false → self.new.is_open ≡ false }
+        ensures stays { OnErr result (self.new.is_open ≡ true) }
+        ensures closed { self.old.is_open ≡ false
             → (result ≡ Ok false) × (self.new.tree.now ≡ self.old.tree.now) }
         ensures over { IsOver self.old.tree.now.cursor → result ≡ Ok false }
     {
-        if !self.open {
+        if !self.is_open {
             return Ok(false);
         }
         if self.depth == isize::MIN {
-            self.open = false;
+            self.is_open = false;
             return Ok(false);
         }
         let found = self.tree.go_to_next(self.depth)?;
         if !found {
-            self.open = false;
+            self.is_open = false;
             return Ok(false);
         }
         Ok(true)
     }
 
-    /// The entry that was read last: behind an `advance` that answered true, the child.
+    /// The entry that was read last: after an `advance` that answered true, the child.
     pub fn entry(&self) -> &DebuggingInformationEntry<R, A>
         ensures entry { entry_of R.view R.Offset.number result.now
             ≡ self.now.tree.now.cursor.entry }
@@ -307,7 +307,7 @@ impl<'abbrev, 'tree, R: Reader, A: Allocator> EntriesTreeIter<'abbrev, 'tree, R,
         tree.entry()
     }
 
-    /// The node that the tree stands on: behind an `advance` that answered true, the child.
+    /// The node that the tree stands on: after an `advance` that answered true, the child.
     pub fn node<'me>(&'me mut self) -> EntriesTreeNode<'abbrev, 'me, R, A>
         ensures tree { result.tree.now ≡ self.old.tree.now }
     {
@@ -334,16 +334,16 @@ impl<'abbrev, 'tree, R: Reader, A: Allocator> EntriesTreeIter<'abbrev, 'tree, R,
             (told_next (answer_of (option_map (λ node. node.tree.now)) result)
             ≡ (to_next self.old.tree.now.start.end
             (in_lists R.Offset.limit self.old.tree.now
-            (list_of self.old.open self.old.depth ∷ []))).told) }
+            (list_of self.old.is_open self.old.depth ∷ []))).told) }
         ensures place { IsHonestFor R.Offset.limit self.old.depth self.old.tree.now.cursor
             → IfOk result
             (λ o.
             IfSome o
             (λ node. on_node R.Offset.limit node.tree.now
-            (list_of self.old.open self.old.depth ∷ [])
+            (list_of self.old.is_open self.old.depth ∷ [])
             ≡ (to_next self.old.tree.now.start.end
             (in_lists R.Offset.limit self.old.tree.now
-            (list_of self.old.open self.old.depth ∷ []))).place)) }
+            (list_of self.old.is_open self.old.depth ∷ []))).place)) }
         ensures true_child { IfOk result
             (λ o.
             IfSome o
@@ -353,7 +353,7 @@ impl<'abbrev, 'tree, R: Reader, A: Allocator> EntriesTreeIter<'abbrev, 'tree, R,
         ensures refused { IfErr result
             (λ e. (last : CursorView) × IsRefused R.Offset.limit self.old.tree.now.cursor e last
             × IsRefusedWithin R.Offset.limit self.old.depth self.old.tree.now.cursor last) }
-        ensures taken { unsigned_abs self.old.depth < 2 ^ 63 → self.old.open ≡ true
+        ensures taken { unsigned_abs self.old.depth < 2 ^ 63 → self.old.is_open ≡ true
             → self.old.tree.now.cursor.depth ≡ self.old.depth → (t : ℕ)
             → followed_to self.old.tree.now.cursor ≡ Some t
             → UnlessMemory result
@@ -386,9 +386,9 @@ impl<'abbrev, 'tree, R: Reader, A: Allocator> EntriesTreeIter<'abbrev, 'tree, R,
             → IfOk result (λ o. IfSome o (λ node. IsInside self.old.depth node.tree.now)) }
         ensures as_advance { let gone_on =
             HasGoneOn R.Offset.limit self.old.depth self.old.tree.now in
-            self.old.open ≡ true → unsigned_abs self.old.depth < 2 ^ 63
+            self.old.is_open ≡ true → unsigned_abs self.old.depth < 2 ^ 63
             → (last : TreeView) × gone_on (answer_of is_some result) last }
-        ensures closed { self.old.open ≡ false → result ≡ Ok None }
+        ensures closed { self.old.is_open ≡ false → result ≡ Ok None }
         ensures over { IsOver self.old.tree.now.cursor → result ≡ Ok None }
     {
         if !self.advance()? {

@@ -74,7 +74,7 @@ impl<'abbrev, R: Reader, A: Allocator> EntriesTree<'abbrev, R, A> {
 }
 
 impl<'abbrev, R: Reader, A: Allocator> EntriesTreeWalker<'abbrev, R, A> {
-    /// The node that the walk stands on: behind a `root` or a `next` that found one, until the next
+    /// The node that the walk stands on: after a `root` or a `next` that found one, until the next
     /// step.
     pub fn entry(&self) -> Option<&DebuggingInformationEntry<R, A>>
         ensures { option_map (λ e. node_held R.view R.Offset.number e.now) result

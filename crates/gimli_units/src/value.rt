@@ -115,12 +115,12 @@ pub enum AttributeValue<R, Offset = <R as Reader>::Offset> {
 impl<R: Reader> AttributeValue<R> {
     ghost use Rattle.std.specs.Option.{option_map};
     ghost use Rattle.gimli_units.specs.Value.{map_value};
-    ghost use Rattle.gimli_units.specs.Kind.{reference};
+    ghost use Rattle.gimli_units.specs.Kind.{unit_reference};
 
     // Where it leads in its unit, if it is a reference there.
     pub(crate) fn reference(&self) -> Option<UnitOffset<R::Offset>>
         ensures { option_map (λ o. R.Offset.number o.0) result
-            ≡ reference (map_value R.view R.Offset.number self.now) }
+            ≡ unit_reference (map_value R.view R.Offset.number self.now) }
     {
         match self {
             AttributeValue::UnitRef(offset) => Some(*offset),

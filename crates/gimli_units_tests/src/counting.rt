@@ -75,7 +75,7 @@ impl<'a> Reader for Counting<'a> {
 }
 
 // How often a reader skips where it passes forms with the bytes that stand before an empty block. The block is a part
-// of the reader behind them, so it has the count.
+// of the reader after them, so it has the count.
 fn skips_of(
     rt: &impl Abort,
     alloc: Global,

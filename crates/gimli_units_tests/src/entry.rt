@@ -92,7 +92,7 @@ fn next_of<R: Reader>(raw: &EntriesRaw<'_, R, Global>) -> (u64, isize) {
     (raw.next_offset().0.into_u64(), raw.next_depth())
 }
 
-// Tries a copy of a reader behind its first entry.
+// Tries a copy of a reader after its first entry.
 fn tries_copied_reader<R: Reader>(
     rt: &impl Abort,
     raw: &mut EntriesRaw<'_, R, Global>,

@@ -37,7 +37,7 @@ fn tries_unknown_form(rt: &impl Abort, table: &Abbreviations<Global>, form: u16,
     }
 }
 
-// Tries each code that is no form; the LEB128 numbers of all codes stand one behind the other, three bytes each.
+// Tries each code that is no form; the LEB128 numbers of all codes stand one after the other, three bytes each.
 fn tries_unknown_forms(
     rt: &impl Abort,
     table: &Abbreviations<Global>,

@@ -16,7 +16,7 @@ fn tries_text(rt: &impl Abort, attribute: &Attribute<Input<'_>>, bytes: &[u8], p
     assert_eq!(rt; text.offset_id(), ReaderOffsetId(place));
 }
 
-// Tries that attributes are texts one behind the other from the place 12 on, all empty.
+// Tries that attributes are texts one after the other from the place 12 on, all empty.
 fn tries_empty_texts(rt: &impl Abort, attributes: &[Attribute<Input<'_>>]) {
     let mut place = 12;
     for attribute in attributes {

@@ -66,7 +66,7 @@ pub(crate) fn raw_of<'abbrev, R: Reader>(
     unit.entries_raw(table, None)
 }
 
-/// The first entry of these, under the table with which the declared bytes begin, and the offset behind it.
+/// The first entry of these, under the table with which the declared bytes begin, and the offset after it.
 pub(crate) fn first_of<'a>(
     rt: &impl Abort,
     alloc: Global,

@@ -103,7 +103,7 @@ fn reaches_the_last_offset(rt: HostRuntime) {
     assert_eq!(rt; UnitOffset(0x13).to_unit_section_offset(&unit), last);
     assert_eq!(rt; UnitOffset(0x13).to_debug_types_offset(&unit), Some(types));
     assert_eq!(rt; UnitOffset(0x13).to_debug_info_offset(&unit), None);
-    // behind another unit
+    // after another unit
     let unit = unit_in(SectionId::DebugTypes, 0x20);
     tries_last(&rt, &unit, None);
     assert!(rt; !UnitOffset(usize::MAX).is_in_bounds(&unit));

@@ -52,7 +52,7 @@ pub(crate) fn specification(
     }
 }
 
-// The declaration that the words behind the call give.
+// The declaration that the words after the call give.
 fn parse_specification(case: &Case) -> Option<AttributeSpecification> {
     let name = parse_code(case.word(1)?)?;
     let form = parse_code(case.word(2)?)?;
@@ -244,13 +244,13 @@ fn write_conversions_of_value<R: Reader>(
     }
 }
 
-// Writes the bytes of an expression behind their name.
+// Writes the bytes of an expression after their name.
 fn write_expression<R: Reader>(out: &mut Vec<u8>, bytes: &R) -> io::Result<()> {
     write!(out, " exprloc ")?;
     write_bytes(out, bytes)
 }
 
-// Writes a number behind its name, if there is one.
+// Writes a number after its name, if there is one.
 fn write_number(out: &mut Vec<u8>, name: &str, number: Option<u64>) -> io::Result<()> {
     match number {
         Some(number) => write!(out, " {name} {number}"),

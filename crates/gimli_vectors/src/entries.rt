@@ -60,7 +60,7 @@ fn write_shown<R: Reader>(
     write_attributes(out, entry.attrs())
 }
 
-/// Writes the entries of a unit, one behind the other, from an offset on or from the first, up to the one that is refused.
+/// Writes the entries of a unit, one after the other, from an offset on or from the first, up to the one that is refused.
 pub(crate) fn write_entries<R: Reader>(
     out: &mut Vec<u8>,
     alloc: Global,
@@ -226,7 +226,7 @@ fn write_declared(out: &mut Vec<u8>, declared: &Abbreviation<Global>) -> io::Res
     write!(out, " {count}")
 }
 
-/// Writes the declarations of codes that stand one behind the other, up to the one that is refused.
+/// Writes the declarations of codes that stand one after the other, up to the one that is refused.
 pub(crate) fn write_codes<R: Reader>(
     out: &mut Vec<u8>,
     alloc: Global,

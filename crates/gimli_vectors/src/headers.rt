@@ -7,7 +7,7 @@ use gimli_units::{UnitHeader, UnitOffset, UnitType};
 use std::io::{self, Write};
 use test_tables::{Case, write_refusal};
 
-/// The unit that the words `info INDEX` or `types INDEX` behind the call name.
+/// The unit that the words `info INDEX` or `types INDEX` after the call name.
 pub(crate) fn unit_of<R: Reader>(case: &Case, sections: &[R]) -> Option<UnitHeader<R>> {
     let section = sections.first()?;
     let index = case.number(2)?;

@@ -28,7 +28,7 @@ fn parse_pairs(alloc: Global, words: &[String], last: &str) -> Option<Vec<Attrib
     Some(pairs)
 }
 
-// The declarations behind a word `then`.
+// The declarations after a word `then`.
 fn parse_behind(alloc: Global, words: &[String]) -> Option<Vec<AttributeSpecification>> {
     match words.iter().position(|word| word.as_str() == "then") {
         Some(index) => parse_pairs(alloc, words.get(index.checked_add(1)?..)?, ""),
@@ -36,7 +36,7 @@ fn parse_behind(alloc: Global, words: &[String]) -> Option<Vec<AttributeSpecific
     }
 }
 
-/// Writes what passing attributes together answers, and behind `then` what reading others does, one behind the other.
+/// Writes what passing attributes together answers, and after `then` what reading others does, one after the other.
 pub(crate) fn write_passed_list<R: Reader>(
     out: &mut Vec<u8>,
     alloc: Global,
@@ -63,7 +63,7 @@ pub(crate) fn write_passed_list<R: Reader>(
     write_steps(out, &mut raw, &then)
 }
 
-// Writes what reading attributes one behind the other answers, and where the reader stands then.
+// Writes what reading attributes one after the other answers, and where the reader stands then.
 fn write_steps<R: Reader>(
     out: &mut Vec<u8>,
     raw: &mut EntriesRaw<'_, R, Global>,

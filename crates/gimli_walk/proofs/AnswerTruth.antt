@@ -1,5 +1,5 @@
 -- What the answers of a run are whatever the references: true, and each that of its step from the
--- place behind the one before.
+-- place after the one before.
 use Rattle.std.proofs.Common.{◌≡◌, ℕ, ◌-◌, ◌≤◌, pos, Bool, true, false, List, [], ◌∷◌, length}
 use Rattle.std.proofs.Common.{Option, Some, None, Result, Ok, Err, inl, inr, ◌⊎◌, refl, sym, ap}
 use Rattle.std.proofs.Common.{◌∙◌, subst, arith, add-zero}
@@ -32,7 +32,7 @@ use Rattle.gimli_walk.specs.Runs.{run_of, RunsAs}
 use Rattle.gimli_units.specs.UnitRows.{unit_rows_at, start_view, IsHonestFrom}
 use Rattle.gimli_walk.specs.Cursors.{Answer, step_of, told, start_of, answers_at, HoldsFrom}
 use Rattle.gimli_walk.specs.Cursors.{IsStopped, is_sibling, any_sibling}
-use Rattle.gimli_walk.specs.TrueAnswers.{IsBehind, IsTrueAnswer, AreTrueAnswers, place_behind}
+use Rattle.gimli_walk.specs.TrueAnswers.{IsAfterEntry, IsTrueAnswer, AreTrueAnswers, place_behind}
 use Rattle.gimli_walk.specs.TrueAnswers.{IsHonestBeside, IsNoSibling, a_null, at_end, IsStepped}
 use Rattle.gimli_walk.specs.TrueAnswers.{AreStepped, usable_of, IsTaken, AreTakenFrom, AreTaken}
 use Rattle.gimli_walk.specs.TrueAnswers.{IsRunFrom}
@@ -45,7 +45,7 @@ pub here_is : (p : RawPlace) → view_from p (next_offset_of p) ≡ p.rest
 here_is p = let none : next_offset_of p - next_offset_of p ≡ 0 = omega arith in
     ap (λ n. cut n p.rest) none ∙ rw add-zero refl
 
--- where a reference leads is not before what is behind its row
+-- where a reference leads is not before what is after its row
 pub low_bound : (low high : ℕ) (o : Option ℕ) (to : ℕ) → within low high o ≡ Some to → low ≤ to
 low_bound low high None to is = absurd (cc)
 low_bound low high (Some x) to is = cases (nat_le low x && nat_le x high) refl is
@@ -98,10 +98,10 @@ module _ (limit : ℕ) (u : UnitView) (t : Table)
           (λ k. let y : ◌≡◌ {A = Result Bool Error} (Err e) (Ok true) = sym is ∙ k in cc) in
           absurd (cc)
 
-  -- what is read next stands behind an entry, or a null, that was read
+  -- what is read next stands after an entry, or a null, that was read
   behind_entry : (c new : CursorView) (o : Result Bool Error) → StandsIn u t c
       → new.raw.end ≡ c.raw.end → IsTrueEntry limit c new
-      → IsBehind limit u (found t) (answer_at o new) new.entry
+      → IsAfterEntry limit u (found t) (answer_at o new) new.entry
   behind_entry c new o stands same y = record {
     rest = new.raw.rest;
     read = y.is ∙ unit_bytes limit u t fits c stands new.offset y.after;
@@ -155,7 +155,7 @@ module _ (limit : ℕ) (u : UnitView) (t : Table)
         (step_stands u t c new stands answered.step.unit answered.step.further) more,
   )
 
-  -- the place of a cursor is the one behind its answer
+  -- the place of a cursor is the one after its answer
   pub rows_here : (c : CursorView) → StandsIn u t c
       → rows_of limit c.raw ≡ rows_from limit (entries_of u t) (next_offset_of c.raw) c.raw.depth
   rows_here c stands =

@@ -6,7 +6,7 @@ use Rattle.std.specs.Fmt.{digits, digits_onto, digit_glyph}
 use Rattle.std.proofs.lemmas.Bool.{eq-eqb, ne_eqb}
 use Rattle.std.proofs.lemmas.List.{drop-set}
 
--- what follows stays behind the digits
+-- what follows stays after the digits
 onto-append : (k base n : ℕ) (xs ys : List ℕ)
     → digits_onto k base false n (xs ++ ys) ≡ digits_onto k base false n xs ++ ys
 onto-append zero base n xs ys = refl

@@ -18,7 +18,7 @@ use Rattle.gimli_units.specs.Entry.{entry_at}
 use Rattle.gimli_units.specs.Rows.{ahead_at}
 use Rattle.gimli_units.specs.Unit.{UnitView, whole_length}
 use Rattle.gimli_headers.specs.Header.{unit_at}
-use Rattle.gimli_headers.specs.Units.{UnitsPlace, next_unit, units_ahead, units_of, answered}
+use Rattle.gimli_headers.specs.Units.{UnitsPlace, next_unit, units_ahead, units_of, before_units}
 use Rattle.gimli_walk.specs.declared.lines.Stop.{Stop}
 use Rattle.gimli_walk.specs.declared.lines.Stop.TheVariants.{Memory, Write}
 use Rattle.gimli_walk.specs.Lines.{Text, error_line}
@@ -29,7 +29,7 @@ use Rattle.gimli_walk.proofs.WrittenLines.{Appends-trans, Appends-none}
 use Rattle.gimli_walk.proofs.StoppedLines.{until_only, until_more, until_same}
 use Rattle.gimli_walk.proofs.RowLines.{some_lines_of}
 
--- the outcome of lines behind others of this status
+-- the outcome of lines after others of this status
 abbrev pub behind_status : ℕ → Result ℕ Stop → Result ℕ Stop
 behind_status status (Ok next) = Ok (max status next)
 behind_status status (Err s) = Err s
@@ -78,20 +78,20 @@ module _ (limit : ℕ) (abbreviations : View) where
 
   -- no unit is left
   pub dump_ended : (a : Option (List ℕ)) (p next : UnitsPlace)
-      → units_ahead limit DebugInfo p ≡ answered (Ok None) (units_ahead limit DebugInfo next)
+      → units_ahead limit DebugInfo p ≡ before_units (Ok None) (units_ahead limit DebugInfo next)
       → WroteUntil a a (place_dump p) (Ok 0)
   dump_ended a p next is = rw is (record { lines = Appends-none a; same_status = refl })
 
   -- a refusal ends the units
   pub dump_refused : (a b : Option (List ℕ)) (p next : UnitsPlace) (e : Error)
-      → units_ahead limit DebugInfo p ≡ answered (Err e) (units_ahead limit DebugInfo next)
+      → units_ahead limit DebugInfo p ≡ before_units (Err e) (units_ahead limit DebugInfo next)
       → Appends a b (error_line (number_of e)) → WroteUntil a b (place_dump p) (Ok 1)
   dump_refused a b p next e is h = rw is (until_only a b (error_line (number_of e)) 1 h)
 
-  -- a unit, and then those behind it
+  -- a unit, and then those after it
   pub dump_more : (a b c : Option (List ℕ)) (p next : UnitsPlace) (u : UnitView) (status : ℕ)
       (r : Result ℕ Stop) → units_ahead limit DebugInfo p
-      ≡ answered (Ok (Some u)) (units_ahead limit DebugInfo next)
+      ≡ before_units (Ok (Some u)) (units_ahead limit DebugInfo next)
       → WroteUntil a b (unit_dump limit abbreviations u) (Ok status)
       → WroteUntil b c (place_dump next) r → WroteUntil a c (place_dump p) (behind_status status r)
   dump_more a b c p next u status r is first second =
@@ -101,7 +101,8 @@ module _ (limit : ℕ) (abbreviations : View) where
 
   -- a unit that is stopped
   pub dump_cut : (a b : Option (List ℕ)) (p next : UnitsPlace) (u : UnitView) (s : Stop)
-      → units_ahead limit DebugInfo p ≡ answered (Ok (Some u)) (units_ahead limit DebugInfo next)
+      → units_ahead limit DebugInfo p
+      ≡ before_units (Ok (Some u)) (units_ahead limit DebugInfo next)
       → WroteUntil a b (unit_dump limit abbreviations u) (Err s)
       → WroteUntil a b (place_dump p) (Err s)
   dump_cut a b p next u s is first =
@@ -115,7 +116,7 @@ module _ (limit : ℕ) (abbreviations : View) where
   dump_whole a b p v r is wrote =
       until_same a b (place_dump p) _ r (ap (λ q. place_dump q) is) wrote
 
--- the statuses of lines behind others are joined in any order
+-- the statuses of lines after others are joined in any order
 pub behind_behind : (n m : ℕ) (r : Result ℕ Stop)
     → behind_status n (behind_status m r) ≡ behind_status (max n m) r
 behind_behind n m (Ok x) = let e : max n (max m x) ≡ max (max n m) x = omega arith in ap Ok e

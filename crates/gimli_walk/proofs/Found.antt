@@ -12,7 +12,7 @@ use Rattle.gimli_base.specs.View.{ended}
 use Rattle.gimli_lists.specs.declared.aranges.entries.ArangeEntry.{ArangeEntry}
 use Rattle.gimli_lists.specs.Aranges.{ArangesPlace, answer_to, tuples_of, first_of_tuples}
 use Rattle.gimli_lists.specs.Aranges.{next_arange, aranges_of}
-use Rattle.gimli_lists.specs.ArangeSets.{ArangeSet, SetsPlace, whole_length, set_at, sets_within}
+use Rattle.gimli_lists.specs.ArangeSets.{ArangeSet, SetsPlace, set_length, set_at, sets_within}
 use Rattle.gimli_lists.specs.ArangeSets.{sets_ahead, next_set}
 use Rattle.gimli_walk.specs.UnitOfAddress.{holds, unit_among}
 
@@ -82,9 +82,9 @@ module _ (address : ℕ) where
       cases true e = rw e refl
       cases false e = rw e refl
 
--- what the reading of a set gives of it, and the place behind it
+-- what the reading of a set gives of it, and the place after it
 abbrev next_by : SetsPlace → Reads ArangeSet → Option (Result ArangeSet Error) × SetsPlace
-next_by p (Ok q) = (Some (Ok q.0), record { rest = q.1; offset = p.offset + whole_length q.0 })
+next_by p (Ok q) = (Some (Ok q.0), record { rest = q.1; offset = p.offset + set_length q.0 })
 next_by p (Err e) = (Some (Err e), record { rest = ended p.rest; offset = p.offset })
 
 some_next : (p : SetsPlace) (r : Reads ArangeSet) → (next_by p r).0 ≡ None → ⊥

@@ -7,10 +7,10 @@ use Rattle.gimli_base.specs.Refusal.{number_of}
 use Rattle.gimli_base.specs.View.{View}
 use Rattle.gimli_base.specs.Table.{found}
 use Rattle.gimli_units.specs.Entry.{Entry, entry_at}
-use Rattle.gimli_units.specs.EntryReads.{entry_at-shorter}
+use Rattle.gimli_units.proofs.EntryReads.{entry_at-shorter}
 use Rattle.gimli_units.specs.RawPlace.{RawPlace, next_offset_of, depth_after}
 use Rattle.gimli_units.specs.Rows.{Ahead, ahead_at}
-use Rattle.gimli_units.specs.RowSteps.{ahead_ended, ahead_refused, ahead_more}
+use Rattle.gimli_units.proofs.RowSteps.{ahead_ended, ahead_refused, ahead_more}
 use Rattle.gimli_walk.specs.declared.lines.Stop.{Stop}
 use Rattle.gimli_walk.specs.declared.lines.Stop.TheVariants.{Memory}
 use Rattle.gimli_walk.specs.Lines.{Text, row_line, end_line, error_line_at}
@@ -54,7 +54,7 @@ module _ (limit : ℕ) (old new : Option (List ℕ)) (p : RawPlace) where
       e some refused) in
       rw is (until_only old new (error_line_at (number_of e) (next_offset_of p)) 1 h)
 
--- a row's line, and then those of the rows behind it
+-- a row's line, and then those of the rows after it
 pub rows_more : (limit : ℕ) (old mid new : Option (List ℕ)) (p : RawPlace) (e : Entry) (w : View)
     (r : Result ℕ Stop)
     → (length p.rest.bytes ≡ 0 → ⊥)

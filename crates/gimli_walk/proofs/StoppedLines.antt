@@ -46,7 +46,7 @@ pub until_same : (a b : Option (List ℕ)) (t u : Text) (r : Result ℕ Stop) �
     → WroteUntil a b t r → WroteUntil a b u r
 until_same a b t u r e w = let P : Text → Type 0 = λ x. WroteUntil a b x r in subst P e w
 
--- behind lines that were stopped for memory comes the line that says so
+-- after lines that were stopped for memory comes the line that says so
 pub front_ends : (a b c : Option (List ℕ)) (text : Text) → WroteFront a b text
     → Appends b c memory_line → Wrote a c text 1
 front_ends a b c text front h =

@@ -7,7 +7,7 @@ use Rattle.std.specs.Prelude.{if◌then◌else◌, unwrap_or}
 use Rattle.gimli_base.specs.declared.error.Error.{Error}
 use Rattle.gimli_base.specs.declared.error.Error.TheVariants.{OutOfMemory}
 use Rattle.gimli_base.specs.Offset.{answer_of}
-use Rattle.gimli_base.specs.Later.{IsLater-length}
+use Rattle.gimli_base.proofs.Later.{IsLater-length}
 use Rattle.gimli_base.specs.Reading.{Reads}
 use Rattle.gimli_base.specs.Table.{Table, found}
 use Rattle.gimli_base.specs.View.{View, cut}
@@ -54,12 +54,12 @@ later_offset old new same further =
 
 module _ (limit : ℕ) (u : UnitView) (t : Table)
     (fits : length u.entries.bytes ≤ whole_length u) where
-  -- the entry that a cursor stands on, and its reader is right behind it
+  -- the entry that a cursor stands on, and its reader is right after it
   abbrev StandsOn : CursorView → Type 0
   StandsOn c = Ok (c.entry, c.raw.rest)
       ≡ entry_at limit u.encoding (found t) (cut (c.offset - header_size u) u.entries)
 
-  -- A run stands in the unit; where it stands on a node, the reader is right behind it, and behind
+  -- A run stands in the unit; where it stands on a node, the reader is right after it, and after
   -- the last node.
   pub record IsIn (s : Standing) : Type 0 where
     pub start : StandsIn u t (before_first true s.tree.start)
@@ -350,7 +350,7 @@ module _ (limit : ℕ) (u : UnitView) (t : Table)
       let g = turn_grown s.is_on s.lists last s step a new turned b in
       (g.past, tree_growing steps new all (last_node last step a) more g.behind)
 
-  -- a node that Next gave: the tree stands on it, right behind it, in a list of its depth
+  -- a node that Next gave: the tree stands on it, right after it, in a list of its depth
   abbrev IsHeld : Told → Standing → Type 0
   IsHeld (a_node n) s =
       StandsOn s.tree.cursor × (node_at s.tree ≡ n)

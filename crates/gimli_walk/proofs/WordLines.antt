@@ -66,13 +66,13 @@ check_honest limit info abbreviations = first (unit_at limit DebugInfo 0 info)
     first (Ok p) = declared p.0 (map_at p.0.abbreviations abbreviations)
     first (Err e) = tt
 
--- a premise may be asked for behind the status
+-- a premise may be asked for after the status
 pub if_ok_asks : {E H : Type 0} → (P : ℕ → Type 0) (r : Result ℕ E) → (H → IfOk r P)
     → IfOk r (λ s. H → P s)
 if_ok_asks P (Ok s) says = says
 if_ok_asks P (Err e) says = tt
 
--- what a walk says is said behind a flush
+-- what a walk says is said after a flush
 pub SaysWalk-kept : (mode : Mode) (old b c : Option (List ℕ)) (info table : List ℕ) (status : ℕ)
     → SaysWalk mode old b info table status → Keeps b c → SaysWalk mode old c info table status
 SaysWalk-kept mode old b c info table status says k =

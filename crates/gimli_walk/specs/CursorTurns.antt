@@ -31,7 +31,7 @@ pub record HasStepped (limit : ℕ) (s : CursorStep) (old : CursorView) (outcome
   pub further : IsFurther old new
   pub unit : IsSameUnit old new
 
--- the answer of a step behind which a cursor stands here
+-- the answer of a step after which a cursor stands here
 abbrev pub answer_at : Result Bool Error → CursorView → Answer
 answer_at outcome c =
     record {

@@ -118,15 +118,15 @@ abbrev pub tag_of : Option Entry → ℕ
 tag_of None = 0
 tag_of (Some e) = e.tag.0
 
-abbrev pub flag_of : Option Entry → Bool
-flag_of None = false
-flag_of (Some e) = e.has_children
+abbrev pub children_flag_of : Option Entry → Bool
+children_flag_of None = false
+children_flag_of (Some e) = e.has_children
 
 -- the outcome, and the pair with the tag and the children flag of the current entry, both 0 where
 -- there is none
 abbrev pub answer_line : Answer → List ℕ
 answer_line a = outcome_text a.outcome
-    ++ row_line a.offset a.depth (tag_of a.current) (flag_of a.current)
+    ++ row_line a.offset a.depth (tag_of a.current) (children_flag_of a.current)
 
 -- 1 where one of these answers is a refusal
 abbrev pub status_of : List Answer → ℕ

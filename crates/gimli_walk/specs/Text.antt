@@ -116,7 +116,7 @@ abbrev pub text_of : Mode → List ℕ → List ℕ → Text
 text_of mode info abbreviations =
     sections_text (2 ^ 64) (mode_text (2 ^ 64) mode) (little info) (little abbreviations)
 
--- whether `.debug_info` begins with a unit; memory is asked for behind its header alone
+-- whether `.debug_info` begins with a unit; memory is asked for after its header alone
 abbrev pub is_read : Reads UnitView → Bool
 is_read (Ok p) = true
 is_read (Err e) = false

@@ -18,25 +18,25 @@ use Rattle.gimli_units.specs.UnitRows.{unit_rows_at, unit_rows_from, IsHonestAt}
 use Rattle.gimli_walk.specs.Cursors.{Answer, told, step_of, is_sibling, any_sibling, answers_at}
 use Rattle.gimli_walk.specs.Cursors.{start_of, IsStopped}
 
--- What is read next is what stands behind the bytes of this entry, at the depth that the entry
+-- What is read next is what stands after the bytes of this entry, at the depth that the entry
 -- makes.
-pub record IsBehind (limit : ℕ) (u : UnitView) (declared : Map) (a : Answer) (e : Entry) : Type
+pub record IsAfterEntry (limit : ℕ) (u : UnitView) (declared : Map) (a : Answer) (e : Entry) : Type
     0 where
   pub rest : View
   pub read : Ok (e, rest) ≡ unit_read_at limit u declared a.offset
   pub next_offset : a.next_offset ≡ offset_of_view (whole_length u) rest
   pub next_depth : a.next_depth ≡ depth_after e a.depth
 
--- Nothing is left to be read behind an answer, and the next depth is its own.
+-- Nothing is left to be read after an answer, and the next depth is its own.
 abbrev pub IsLast : UnitView → Answer → Type 0
 IsLast u a = (a.next_offset ≡ whole_length u) × (a.next_depth ≡ a.depth)
 
 -- An answer is true, whatever the references: its entry is what the unit has at its offset, and
--- what is read next stands behind it; a null and a refusal stand at its offset too, and behind a
+-- what is read next stands after it; a null and a refusal stand at its offset too, and after a
 -- refusal nothing is left.
 pub record IsTrueAnswer (limit : ℕ) (u : UnitView) (declared : Map) (a : Answer) : Type 0 where
   pub entry : (e : Entry) → a.current ≡ Some e → unit_entry_at limit u declared a.offset ≡ Ok e
-  pub behind : (e : Entry) → a.current ≡ Some e → IsBehind limit u declared a e
+  pub behind : (e : Entry) → a.current ≡ Some e → IsAfterEntry limit u declared a e
   pub null : a.outcome ≡ Ok true → a.current ≡ None
       → unit_entry_at limit u declared a.offset ≡ Err (NoEntryAtGivenOffset a.offset)
   pub none : (a.outcome ≡ Ok true → ⊥) → a.current ≡ None
@@ -49,7 +49,7 @@ AreTrueAnswers limit u declared [] = Unit {0}
 AreTrueAnswers limit u declared (a ∷ rest) =
     IsTrueAnswer limit u declared a × AreTrueAnswers limit u declared rest
 
--- the place behind an answer: ahead are the unit's rows from its next offset on, the first of which
+-- the place after an answer: ahead are the unit's rows from its next offset on, the first of which
 -- has its next depth
 abbrev pub place_behind : ℕ → UnitView → Map → Answer → Place
 place_behind limit u declared a = record {
@@ -78,11 +78,11 @@ IsHonestBeside end p =
     p.ahead
 
 -- No sibling was found: a null stands ahead at the answer's offset, and what is read next stands
--- behind it; or nothing is left, and the offset is the current entry's.
+-- after it; or nothing is left, and the offset is the current entry's.
 pub data IsNoSibling (limit : ℕ) (u : UnitView) (declared : Map) (p : Place) (b : Answer) : Type
     0 where
   a_null : next_offset p.ahead ≤ b.offset → (e : Entry) → is_null e ≡ true
-      → IsBehind limit u declared b e → IsNoSibling limit u declared p b
+      → IsAfterEntry limit u declared b e → IsNoSibling limit u declared p b
   at_end : b.next_offset ≡ whole_length u → b.offset ≡ p.offset → IsNoSibling limit u declared p b
 
 -- An answer is that of a step from a place: the definition's, but for a step to a sibling from an
@@ -99,7 +99,7 @@ pub record IsStepped (limit : ℕ) (u : UnitView) (declared : Map) (follows : Bo
   pub no_sibling : is_sibling s ≡ true → b.outcome ≡ Ok false → (e : Entry) → p.current ≡ Some e
       → (b.depth ≡ p.depth) × IsNoSibling limit u declared p b
 
--- The answers of these steps from a place: each is that of its step from the place behind the
+-- The answers of these steps from a place: each is that of its step from the place after the
 -- answer before it.
 abbrev pub AreStepped : ℕ → UnitView → Map → Bool → Place → List CursorStep → List Answer → Type 0
 AreStepped limit u declared follows p [] all = Unit {0}
@@ -116,7 +116,7 @@ usable_of end a = elim a.current [
       (record { offset = a.offset; next = a.next_offset; depth = a.depth; entry = e })
 ]
 
--- An answer, and that of a step to a sibling behind it: where the first one's reference can be
+-- An answer, and that of a step to a sibling after it: where the first one's reference can be
 -- followed, it is followed, and the second answers what stands there, with the entry's depth.
 abbrev pub IsTaken : ℕ → UnitView → Map → CursorStep → Answer → Answer → Type 0
 IsTaken limit u declared s a b =

@@ -92,7 +92,7 @@ AreGrowing last (s ∷ steps) [] = Unit {0}
 AreGrowing last (s ∷ steps) (a ∷ all) =
     IsPastLast last s a × AreGrowing (last_node last s a) steps all
 
--- A node that Next gave, and the answer of the Next straight behind it: where the entry that stands
+-- A node that Next gave, and the answer of the Next straight after it: where the entry that stands
 -- at its offset has a reference that can be followed, it is followed, and what stands there is
 -- answered, at the node's depth.
 abbrev pub IsTakenFrom : ℕ → UnitView → Map → Told → Told → Type 0
@@ -116,7 +116,7 @@ abbrev pub IsTakenBehind : ℕ → UnitView → Map → Option Told → TreeStep
 IsTakenBehind limit u declared before s b =
     elim before [ None ↦ Unit {0} | Some a ↦ is_next s ≡ true → IsTakenFrom limit u declared a b ]
 
--- references are followed, from each Next to the Next straight behind it
+-- references are followed, from each Next to the Next straight after it
 abbrev pub AreTakenBehind : ℕ → UnitView → Map → Option Told → List TreeStep → List Told → Type 0
 AreTakenBehind limit u declared before [] all = Unit {0}
 AreTakenBehind limit u declared before (s ∷ steps) [] = Unit {0}
@@ -124,7 +124,7 @@ AreTakenBehind limit u declared before (s ∷ steps) (a ∷ all) =
     IsTakenBehind limit u declared before s a
     × AreTakenBehind limit u declared (if is_next s then Some a else None) steps all
 
--- Where a run stands: its place, and the entry that was read last; none behind a null, the end of a
+-- Where a run stands: its place, and the entry that was read last; none after a null, the end of a
 -- list or a refusal.
 pub record Reached : Type 0 where
   pub place : TreePlace
@@ -135,9 +135,9 @@ abbrev pub before_all : Ahead → Reached
 before_all rows = record { place = before_steps rows; last = None }
 
 -- An open list of this depth, in lists around it, was asked for its next node, whatever the
--- references: a node is an entry of that depth that stands ahead, and what is read next is behind
+-- references: a node is an entry of that depth that stands ahead, and what is read next is after
 -- it; the list ends with a null of that depth that stands ahead, or where nothing is left; what is
--- refused stands ahead, and nothing is left behind it.
+-- refused stands ahead, and nothing is left after it.
 pub data IsListFound (limit : ℕ) (u : UnitView) (declared : Map) (depth : ℤ) (outer : Lists)
     (old : Reached) (told : Told) (new : Reached) : Type 0 where
   true_node : (n : Node) (rest : View) → told ≡ a_node n → next_offset old.place.ahead ≤ n.offset
@@ -214,7 +214,7 @@ pub record IsListNext (limit : ℕ) (u : UnitView) (declared : Map) (depth : ℤ
       (first_of_rows (whole_length u) depth n.offset (unit_rows_from limit u declared t depth))
   pub found : IsListFound limit u declared depth outer old told new
 
--- a step that is the definition's whatever the references, behind which this was read last
+-- a step that is the definition's whatever the references, after which this was read last
 abbrev pub IsMoved : UnitView → Ahead → TreeStep → Reached → Told → Reached → Option Node → Type 0
 IsMoved u rows s old told new last =
     (record { told = told; place = new.place } ≡ tree_step (whole_length u) rows s old.place)

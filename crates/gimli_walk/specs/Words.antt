@@ -63,15 +63,15 @@ pub record SaysNothing (words : Words) : Type 0 where
   pub no_tree : AsksTree words → ⊥
 
 -- the step of a cursor that a letter names: `e`, `d` or `s`
-abbrev pub cursor_step : ℕ → Option CursorStep
-cursor_step letter =
+abbrev pub cursor_step_of : ℕ → Option CursorStep
+cursor_step_of letter =
     if letter == 101 then Some NextEntry else
     if letter == 100 then Some NextDfs else
     if letter == 115 then Some NextSibling else None
 
 -- the step of a tree that a letter names: `r`, `n`, `i` or `o`
-abbrev pub tree_step : ℕ → Option TreeStep
-tree_step letter =
+abbrev pub tree_step_of : ℕ → Option TreeStep
+tree_step_of letter =
     if letter == 114 then Some Root else
     if letter == 110 then Some Next else
     if letter == 105 then Some Enter else

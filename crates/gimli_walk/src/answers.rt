@@ -37,7 +37,7 @@ fn write_outcome<W: Write>(out: &mut W, outcome: &AnswerResult<bool>) -> Result<
     }
 }
 
-// Writes the line of what a step answered, behind which the cursor stands where it does.
+// Writes the line of what a step answered, after which the cursor stands where it does.
 fn write_answer<R: Reader, A: Allocator, W: Write>(
     out: &mut W,
     outcome: &AnswerResult<bool>,
@@ -101,7 +101,7 @@ fn write_told<R: Reader, A: Allocator + Copy, W: Write>(
     };
     let told = run_steps(cursor, steps, &mut lines);
     let AnswerLines { out, refused } = lines;
-    // No effect at run time. The proof reads what is behind `out` from this use.
+    // No effect at run time. The proof reads what is after `out` from this use.
     let _ = &*out;
     match told {
         Ok(()) => Ok(u8::from(refused)),

@@ -36,7 +36,7 @@ use std::result::Result as StdResult;
 /// A step of a cursor.
 #[derive(Clone, Copy, Debug, PartialEq, Eq)]
 pub enum CursorStep {
-    /// The next entry, or the null behind it.
+    /// The next entry, or the null after it.
     NextEntry,
     /// The next entry that is no null.
     NextDfs,
@@ -262,9 +262,9 @@ fn start_cursor<'abbrev, R: Reader, A: Allocator + Copy>(
 ///
 /// Where the rows from the start are honest, or no step looks for a sibling, they are the
 /// definition's answers. Whatever the references, each is true: its entry is what the unit has at
-/// its offset, and what is read next stands behind it. And each is that of its step from the place
-/// behind the answer before, but for a sibling that is sought by references that are not honest,
-/// which stands ahead all the same. A `NextSibling` straight behind an entry follows its reference
+/// its offset, and what is read next stands after it. And each is that of its step from the place
+/// after the answer before, but for a sibling that is sought by references that are not honest,
+/// which stands ahead all the same. A `NextSibling` straight after an entry follows its reference
 /// where it can be followed. Refusal: `OffsetOutOfBounds` of the start. Where memory is refused the
 /// run is stopped, and holds the answers before.
 pub fn run_cursor<R: Reader, A: Allocator + Copy>(

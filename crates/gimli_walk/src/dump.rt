@@ -28,7 +28,9 @@ use std::io::Write;
 use std::result::Result as StdResult;
 
 /// Writes each unit of `.debug_info`, and its rows, and answers the exit status: 1 where a refusal
-/// was met, else 0. The sections are little endian.
+/// was met, else 0. The sections are little endian. A refused row or table ends its unit with a
+/// line `error`, and the next unit follows; a refused header ends the text with one. Of an empty
+/// section nothing is written, and the status is 0.
 ///
 /// Where memory is refused, whole lines from the front are written and then `error 24`, and the
 /// status is 1; without a unit no memory is asked for. Nothing is said of what is written where a

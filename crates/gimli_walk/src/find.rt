@@ -76,8 +76,9 @@ fn write_none<W: Write>(out: &mut W) -> StdResult<(), WriteFault>
     out.write_all(b"none\n").map_err(|_| WriteFault)
 }
 
-/// Writes where the unit begins to which an address belongs, and answers the exit status: 1 where a
-/// refusal was met, else 0. The section is little endian. No memory is asked for. Nothing is said
+/// Writes where the unit begins to which an address belongs, as `unit OFFSET`, or `none`, or
+/// `error` and the number of the refusal, and answers the exit status: 1 where a refusal was met,
+/// else 0. The section is little endian. No memory is asked for. Nothing is said
 /// of what is written where a write fails.
 pub fn find_text<W: Write>(address: u64, aranges: &[u8], out: &mut W) -> StdResult<u8, WriteFault>
     ensures { let text = find_of address aranges.now in

@@ -3,7 +3,7 @@
 ghost use Rattle.std.specs.Prelude.{◌≡◌, ◌↔◌, ℕ, Option, None, IfOk, IfSome, IsTrue};
 ghost use Rattle.std.specs.List.{filter_map, AllPass};
 ghost use Rattle.std.specs.Str.Parse.{digits_value};
-ghost use Rattle.gimli_walk.specs.Words.{cursor_step, tree_step, AreSteps, is_lower_digit};
+ghost use Rattle.gimli_walk.specs.Words.{cursor_step_of, tree_step_of, AreSteps, is_lower_digit};
 ghost use Rattle.gimli_walk.specs.Words.{IsAddress};
 
 use crate::{CursorStep, TreeStep};
@@ -19,7 +19,7 @@ pub(crate) trait Lettered: Copy {
 }
 
 impl Lettered for CursorStep {
-    ghost names = { cursor_step };
+    ghost names = { cursor_step_of };
 
     fn of_letter(letter: u8) -> Option<CursorStep> {
         match letter {
@@ -32,7 +32,7 @@ impl Lettered for CursorStep {
 }
 
 impl Lettered for TreeStep {
-    ghost names = { tree_step };
+    ghost names = { tree_step_of };
 
     fn of_letter(letter: u8) -> Option<TreeStep> {
         match letter {

@@ -3,7 +3,7 @@
 ghost use Rattle.std.specs.Prelude.{IsTrue};
 ghost use Rattle.gimli_base.specs.Offset.{answer_of};
 ghost use Rattle.gimli_base.specs.Reading.{is_size};
-ghost use Rattle.gimli_lists.specs.Ranges.{range_of, range_answers};
+ghost use Rattle.gimli_lists.specs.Ranges.{resolved_of, range_answers};
 ghost use Rattle.gimli_walk.specs.Runs.{RunsAs, told_run};
 
 use crate::run::{Run, run_all};
@@ -16,7 +16,7 @@ use std::alloc::Allocator;
 ///
 /// Offsets count from `base` on, until an entry gives another base address. Addresses that are
 /// named by their index are those of the table that begins at `addr_base` in `addr`. The encoding's
-/// size of addresses has to be 1, 2, 4 or 8. Refusal: `UnexpectedEof`, where the offset lies behind
+/// size of addresses has to be 1, 2, 4 or 8. Refusal: `UnexpectedEof`, where the offset lies after
 /// the section's end.
 #[tactic(auto, unfolding(gimli_lists::specs::Places::list_answers))]
 pub fn run_ranges<R: Reader, A: Allocator + Copy>(
@@ -31,7 +31,7 @@ pub fn run_ranges<R: Reader, A: Allocator + Copy>(
     requires { IsTrue (is_size encoding.address_size) }
     ensures { let addresses = ⟦<DebugAddr<R> as Section<R>>⟧.content addr.now in
         let sections = ⟦<RangeLists<R> as HasLists>⟧.lists lists.now in
-        RunsAs (answer_of (told_run (answer_of range_of)) result)
+        RunsAs (answer_of (told_run (answer_of resolved_of)) result)
         (range_answers R.Offset.limit (R.Offset.number offset.0) encoding base addresses
         (R.Offset.number addr_base.0) sections) }
 {

@@ -71,7 +71,7 @@ pub(crate) fn write_rows<R: Reader, A: Allocator + Copy, W: Write>(
     }
 }
 
-/// Writes the line that tells that memory was refused, behind lines that were stopped for it, and
+/// Writes the line that tells that memory was refused, after lines that were stopped for it, and
 /// answers their status.
 pub(crate) fn end_lines<W: Write>(written: Result<u8, Stop>, out: &mut W) -> Result<u8, WriteFault>
     ensures lines { (start : _) (text : Text) → WroteUntil start (W.contents out.old) text written →

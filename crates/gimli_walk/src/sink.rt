@@ -22,7 +22,7 @@ pub(crate) trait Sink<R: Reader, A: Allocator> {
     // whether it writes
     ghost writes: { Bool };
 
-    /// Takes what a step answered, behind which the cursor stands where it does. Where memory is
+    /// Takes what a step answered, after which the cursor stands where it does. Where memory is
     /// refused nothing is taken.
     fn tell(
         &mut self,

@@ -114,7 +114,7 @@ fn write_told<R: Reader, A: Allocator, W: Write>(
     };
     let told = run_steps(walker, steps, &mut lines);
     let NodeLines { out, refused } = lines;
-    // No effect at run time. The proof reads what is behind `out` from this use.
+    // No effect at run time. The proof reads what is after `out` from this use.
     let _ = &*out;
     match told {
         Ok(()) => Ok(u8::from(refused)),

@@ -8,7 +8,7 @@ ghost use Rattle.gimli_walk.specs.Dump.{dump_of};
 ghost use Rattle.gimli_walk.specs.UnitOfAddress.{find_of};
 ghost use Rattle.gimli_walk.specs.Words.{word, AsksRows, AsksCheck, AsksDump, AsksFind, AsksCursor};
 ghost use Rattle.gimli_walk.specs.Words.{AsksPlain, AsksTree, SaysNothing};
-ghost use Rattle.gimli_walk.specs.Words.{cursor_step, tree_step, cursor_mode, tree_mode};
+ghost use Rattle.gimli_walk.specs.Words.{cursor_step_of, tree_step_of, cursor_mode, tree_mode};
 ghost use Rattle.gimli_walk.specs.Words.{OfTwoFiles, OfFile, SaysWalk, BySteps, AtAddress};
 
 use crate::letters::{Lettered, address_in, are_steps, steps_in};
@@ -18,7 +18,7 @@ use std::io::Write;
 
 const USAGE: &str = "usage: gimli_walk rows|cursor|tree INFO ABBREV [STEPS]\n";
 
-/// Does what the words behind the program's name say, and answers the exit status.
+/// Does what the words after the program's name say, and answers the exit status.
 ///
 /// `rows`, `check` and `dump` stand before the names of two files, those of `.debug_info` and
 /// `.debug_abbrev`; `cursor`, `plain` and `tree` before these and the letters of steps; `find`
@@ -59,17 +59,17 @@ pub fn run_words<A: Allocator + Copy, F: FnMut(&str) -> Option<Vec<u8>>, W: Writ
         (λ bytes. WroteAll old new (find_of address bytes))) result }
     ensures cursor { let old = W.contents out.old in
         let new = W.contents out.new in
-        AsksCursor words.now → BySteps cursor_step (word words.now 3) old new (λ steps.
+        AsksCursor words.now → BySteps cursor_step_of (word words.now 3) old new (λ steps.
         OfTwoFiles F.FnMut (λ v. v.items) read (word words.now 1) (word words.now 2) old new
         (SaysWalk (cursor_mode true steps) old new)) result }
     ensures plain { let old = W.contents out.old in
         let new = W.contents out.new in
-        AsksPlain words.now → BySteps cursor_step (word words.now 3) old new (λ steps.
+        AsksPlain words.now → BySteps cursor_step_of (word words.now 3) old new (λ steps.
         OfTwoFiles F.FnMut (λ v. v.items) read (word words.now 1) (word words.now 2) old new
         (SaysWalk (cursor_mode false steps) old new)) result }
     ensures tree { let old = W.contents out.old in
         let new = W.contents out.new in
-        AsksTree words.now → BySteps tree_step (word words.now 3) old new (λ steps.
+        AsksTree words.now → BySteps tree_step_of (word words.now 3) old new (λ steps.
         OfTwoFiles F.FnMut (λ v. v.items) read (word words.now 1) (word words.now 2) old new
         (SaysWalk (tree_mode steps) old new)) result }
 {
@@ -105,7 +105,7 @@ fn walk_cursor<A: Allocator + Copy, F: FnMut(&str) -> Option<Vec<u8>>, W: Write,
         let new = W.contents out.new in
         let info = word words.entry 0 in
         let table = word words.entry 1 in
-        BySteps cursor_step (word words.entry 2) old new (λ steps.
+        BySteps cursor_step_of (word words.entry 2) old new (λ steps.
         OfTwoFiles F.FnMut (λ v. v.items) read info table old new
         (SaysWalk (cursor_mode follows steps) old new)) result }
 {
@@ -137,7 +137,7 @@ fn walk_tree<A: Allocator + Copy, F: FnMut(&str) -> Option<Vec<u8>>, W: Write, E
         let new = W.contents out.new in
         let info = word words.entry 0 in
         let table = word words.entry 1 in
-        BySteps tree_step (word words.entry 2) old new (λ steps.
+        BySteps tree_step_of (word words.entry 2) old new (λ steps.
         OfTwoFiles F.FnMut (λ v. v.items) read info table old new
         (SaysWalk (tree_mode steps) old new)) result }
 {

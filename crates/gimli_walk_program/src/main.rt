@@ -6,7 +6,7 @@ use std::io::{self, BufWriter, ErrorKind};
 use std::process::ExitCode;
 use std::{env, fs};
 
-// The words behind the program's name, or none where one is no UTF-8. Refusal: that of memory.
+// The words after the program's name, or none where one is no UTF-8. Refusal: that of memory.
 fn words_of(rt: &HostRuntime) -> io::Result<Vec<String>> {
     let mut words = Vec::new(rt.alloc());
     match env::args(rt) {

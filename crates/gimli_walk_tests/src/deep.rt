@@ -10,7 +10,7 @@ const TABLE: [u8; 6] = [0x01, 0x2e, 0x01, 0x00, 0x00, 0x00];
 #[test]
 fn walks_into_60000_nested_lists(rt: HostRuntime) -> Result<(), Fail> {
     let alloc = rt.alloc();
-    // behind the length field are seven bytes of the header
+    // after the length field are seven bytes of the header
     let [low, high] = (DEPTH + 7).to_le_bytes();
     let mut info = Vec::from_slice(alloc, &[low, high, 0, 0, 0x04, 0, 0, 0, 0, 0, 0x04])?;
     let mut steps = Vec::from_slice(alloc, &[TreeStep::Root])?;

@@ -20,9 +20,9 @@ fn table_bytes(alloc: Global) -> Result<Vec<u8>, AllocError> {
     Ok(bytes)
 }
 
-// A unit of version 4 with one entry, of code 1 and so many bytes more, which count up and begin again behind 255.
+// A unit of version 4 with one entry, of code 1 and so many bytes more, which count up and begin again after 255.
 fn unit_bytes(alloc: Global, count: u16) -> Result<Vec<u8>, AllocError> {
-    // behind the length field are seven bytes of the header, and the code
+    // after the length field are seven bytes of the header, and the code
     let [low, high] = count.saturating_add(8).to_le_bytes();
     let header = [low, high, 0, 0, 0x04, 0, 0, 0, 0, 0, 0x04];
     let mut bytes = Vec::from_slice(alloc, &header)?;

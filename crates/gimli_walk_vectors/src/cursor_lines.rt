@@ -110,7 +110,7 @@ pub(crate) fn write_beginning<R: Reader, W: Write>(
     write_reads(out, cursor.reads())
 }
 
-/// Writes the number of reads, behind which the line ends.
+/// Writes the number of reads, after which the line ends.
 pub(crate) fn write_reads<W: Write>(out: &mut W, reads: usize) -> io::Result<()> {
     write!(out, " reads {reads}\n")
 }

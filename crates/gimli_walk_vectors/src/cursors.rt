@@ -29,7 +29,7 @@ fn take<R: Reader>(cursor: &mut Cursor<'_, R>, step: CursorStep) -> Answer<bool>
     }
 }
 
-/// Writes what a walk's text says of each step, and behind ` > ` what is read next, and the number of reads; then the
+/// Writes what a walk's text says of each step, and after ` > ` what is read next, and the number of reads; then the
 /// status.
 pub(crate) fn write_cursor<R: Reader, W: Write>(
     alloc: Global,
@@ -94,7 +94,7 @@ fn cursor_at<'table, R: Reader>(
     }
 }
 
-/// Writes where a cursor stands at a start, and what it shows behind each step.
+/// Writes where a cursor stands at a start, and what it shows after each step.
 pub(crate) fn write_cursor_at<R: Reader, W: Write>(
     alloc: Global,
     case: &Case,

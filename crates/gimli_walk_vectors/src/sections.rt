@@ -9,9 +9,9 @@ use test_tables::Case;
 /// The sections of a case.
 #[derive(Drop)]
 pub(crate) struct Sections<R> {
-    /// The bytes behind the first `:`.
+    /// The bytes after the first `:`.
     pub(crate) first: R,
-    /// Those behind the second, if there is one.
+    /// Those after the second, if there is one.
     pub(crate) second: Option<R>,
 }
 

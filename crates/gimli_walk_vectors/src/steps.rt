@@ -34,7 +34,7 @@ pub(crate) fn parse_tree_steps(alloc: Global, word: Option<&str>) -> Option<Vec<
     Some(steps)
 }
 
-/// Parts of an answer, joined by `; `, each without what stands behind a mark.
+/// Parts of an answer, joined by `; `, each without what stands after a mark.
 pub(crate) fn cut_parts(alloc: Global, answer: &str, mark: &str) -> Option<String> {
     let mut cut = String::new(alloc);
     for part in answer.split("; ") {

@@ -6,7 +6,7 @@ use std::alloc::Global;
 use std::io::{self, Write};
 use test_tables::{Case, Tally};
 
-/// Tries what is written of a case. Behind ` > ` an answer says what a reader shows besides, and that is no part of
+/// Tries what is written of a case. After ` > ` an answer says what a reader shows besides, and that is no part of
 /// the text.
 pub(crate) fn try_text<W: Write>(
     alloc: Global,
@@ -62,7 +62,7 @@ fn read_file(alloc: Global, case: &Case, name: &str) -> Option<Vec<u8>> {
     }
 }
 
-// The words behind the call: `""` stands for a word without letters, and `_` for a space.
+// The words after the call: `""` stands for a word without letters, and `_` for a space.
 fn words_of(alloc: Global, case: &Case) -> io::Result<Vec<String>> {
     let mut words = Vec::new(alloc);
     for word in case.words.iter().skip(1) {

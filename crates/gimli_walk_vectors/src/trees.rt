@@ -32,7 +32,7 @@ impl Climb {
     }
 }
 
-/// Writes what a walk's text says of each step, and behind ` > ` the number of reads since the last root; then the
+/// Writes what a walk's text says of each step, and after ` > ` the number of reads since the last root; then the
 /// status.
 pub(crate) fn write_tree<R: Reader, W: Write>(
     alloc: Global,
@@ -98,7 +98,7 @@ pub(crate) fn write_tree_at<R: Reader, W: Write>(
     }
 }
 
-// Writes the number of reads since the last root, behind which the line ends.
+// Writes the number of reads since the last root, after which the line ends.
 fn write_reads<R: Reader, W: Write>(out: &mut W, tree: &Tree<'_, R>) -> io::Result<()> {
     let reads = tree.reads();
     write!(out, " > reads {reads}\n")
@@ -188,7 +188,7 @@ fn write_list<R: Reader, W: Write>(
     }
 }
 
-// Writes a refusal, behind which there is no node.
+// Writes a refusal, after which there is no node.
 fn write_fault<W: Write>(out: &mut W, climb: &mut Climb, error: Error) -> io::Result<()> {
     climb.is_node = false;
     climb.is_refused = true;

@@ -30,9 +30,9 @@ impl Order {
 pub struct Case {
     /// The byte orders.
     pub order: Order,
-    /// The call, and behind it its arguments.
+    /// The call, and after it its arguments.
     pub words: Vec<String>,
-    /// The sections, each the bytes behind a `:`.
+    /// The sections, each the bytes after a `:`.
     pub sections: Vec<Vec<u8>>,
     /// What the call answers over a reader whose offsets have 64 bits.
     pub wide: String,
@@ -46,7 +46,7 @@ impl Case {
         Some(self.words.get(index)?.as_str())
     }
 
-    /// The decimal number, or the hexadecimal behind `0x`, at an index.
+    /// The decimal number, or the hexadecimal after `0x`, at an index.
     pub fn number(&self, index: usize) -> Option<u64> {
         let word = self.word(index)?;
         match word.strip_prefix("0x") {

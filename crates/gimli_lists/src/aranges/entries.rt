@@ -5,7 +5,7 @@ ghost use Rattle.std.specs.Prelude.{[]};
 ghost use Rattle.std.specs.Iterator.{at_most};
 ghost use Rattle.std.specs.Option.{option_to_list, option_transpose};
 ghost use Rattle.gimli_base.specs.Reading.{is_size};
-ghost use Rattle.gimli_lists.specs.Aranges.{ArangesPlace, next_tuple, raw_entry, converted};
+ghost use Rattle.gimli_lists.specs.Aranges.{ArangesPlace, next_tuple, raw_entry, converted_arange};
 ghost use Rattle.gimli_lists.specs.Aranges.{answer_to, first_of_tuples, next_raw_entry};
 ghost use Rattle.gimli_lists.specs.Aranges.{next_arange, raw_entries, aranges_of, aranges_ahead};
 ghost use Rattle.gimli_lists.specs.Aranges.{IsNextArange};
@@ -16,7 +16,7 @@ use gimli_base::{Encoding, Reader, ReaderAddress, ReaderOffset, Result};
 use std::fmt::Debug;
 use std::marker::Model;
 
-/// The ranges of a set, one behind the other.
+/// The ranges of a set, one after the other.
 #[derive(Debug, Drop)]
 pub struct ArangeEntryIter<R: Reader> {
     input: R,
@@ -57,7 +57,7 @@ impl<R: Reader> ArangeEntryIter<R> {
     /// stands for none, are passed; a range of length 0 is not.
     ///
     /// Refusal: `AddressOverflow`, where the end does not fit the size of an address; the call
-    /// after it goes on behind that tuple.
+    /// after it goes on after that tuple.
     #[inline(always)]
     pub fn next(&mut self) -> Result<Option<ArangeEntry>>
         ensures value { result ≡ option_transpose (next_arange self.old).0 }
@@ -95,7 +95,7 @@ impl<R: Reader> ArangeEntryIter<R> {
     ///
     /// Refusal: `AddressOverflow`, where the end does not fit the size of an address.
     pub fn convert_raw(&self, entry: ArangeEntry) -> Result<Option<ArangeEntry>>
-        ensures { result ≡ converted self.now.encoding.address_size entry }
+        ensures { result ≡ converted_arange self.now.encoding.address_size entry }
     {
         convert(entry, self.encoding.address_size)
     }
@@ -209,7 +209,7 @@ fn next_entry<R: Reader>(input: &mut R, address_size: u8) -> Result<Option<Arang
 #[inline(always)]
 fn convert(entry: ArangeEntry, address_size: u8) -> Result<Option<ArangeEntry>>
     requires { IsTrue (is_size address_size) }
-    ensures { result ≡ converted address_size entry }
+    ensures { result ≡ converted_arange address_size entry }
 {
     let begin = entry.range.begin;
     let length = entry.length;

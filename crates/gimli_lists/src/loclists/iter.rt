@@ -12,10 +12,11 @@ ghost use Rattle.gimli_lists.specs.LocationEntry.{location_entry_of, location_gr
 ghost use Rattle.gimli_lists.specs.LocationReads.{location_grammar-takes};
 ghost use Rattle.gimli_lists.specs.Locations.{location_of, locations_ahead};
 ghost use Rattle.gimli_lists.specs.Places.{next_raw, raw_list_ahead, ListPlace, converted, InList};
-ghost use Rattle.gimli_lists.specs.Places.{IsBehind, IsSpent, read_from, IsNext};
+ghost use Rattle.gimli_lists.specs.Places.{IsAfterEntries, IsSpent, read_from, IsNext};
 ghost use Rattle.gimli_lists.specs.RawList.{IsFirstOf};
-ghost use Rattle.gimli_lists.specs.RangeEntry.{entry_of};
-ghost use Rattle.gimli_lists.specs.Resolved.{answered, transposed};
+ghost use Rattle.gimli_lists.specs.RangeEntry.{range_entry_of};
+ghost use Rattle.gimli_lists.specs.Resolved.{answered};
+ghost use Rattle.gimli_base.specs.Reading.{transposed};
 ghost use Rattle.gimli_lists.specs.WithPayload.{with_payload};
 
 use crate::loclists::LocationListEntry;
@@ -76,7 +77,7 @@ impl<R: Reader> LocListIter<R> {
         }
     }
 
-    /// The next entry as it is written, or none behind the last. The answer is for `convert_raw`,
+    /// The next entry as it is written, or none after the last. The answer is for `convert_raw`,
     /// which has to see each entry in turn.
     ///
     /// Refusals: those of `RawLocListIter::next`; nothing is left then.
@@ -108,7 +109,7 @@ impl<R: Reader> LocListIter<R> {
     ) -> Result<Option<LocationListEntry<R>>>
         ensures { (answer_of (option_map (location_of R.view)) result, self.new)
             ≡ converted R.Offset.limit
-            (with_payload (R.view expr.0) (entry_of R.Offset.number entry)) self.old }
+            (with_payload (R.view expr.0) (range_entry_of R.Offset.number entry)) self.old }
     {
         let size = self.raw.address_size();
         let mut base = self.base_address;
@@ -127,7 +128,7 @@ impl<R: Reader> LocListIter<R> {
     }
 
     /// What an entry stands for: a location, or none. An entry that gives a base address changes
-    /// the base for those behind it. A default location has the addresses from 0 to the greatest
+    /// the base for those after it. A default location has the addresses from 0 to the greatest
     /// number of 64 bits, whatever their size.
     ///
     /// No location is given where it begins at or above the least address that stands for none, or
@@ -187,19 +188,19 @@ impl<R: Reader> LocListIter<R> {
         self.locate(entry, expr)
     }
 
-    /// The next location, or none behind the last.
+    /// The next location, or none after the last.
     ///
-    /// Refusals: those of `RawLocListIter::next`, behind which nothing is left, and those of
-    /// `convert_raw`, behind which the rest of the list is left. Nothing is left behind the last
+    /// Refusals: those of `RawLocListIter::next`, after which nothing is left, and those of
+    /// `convert_raw`, after which the rest of the list is left. Nothing is left after the last
     /// entry either.
     pub fn next(&mut self) -> Result<Option<LocationListEntry<R>>>
         ensures ahead { locations_ahead R.Offset.limit self.old
             ≡ answered (answer_of (option_map (location_of R.view)) result)
             (locations_ahead R.Offset.limit self.new) }
 
-        // The entries that stand for nothing are read, and the one behind them; the base before the
+        // The entries that stand for nothing are read, and the one after them; the base before the
         // others is at hand.
-        ensures place { IsBehind (location_grammar R.Offset.limit) R.Offset.limit
+        ensures place { IsAfterEntries (location_grammar R.Offset.limit) R.Offset.limit
             (read_from (location_grammar R.Offset.limit) R.Offset.limit self.old) self.old
             self.new }
         ensures same { InList self.old self.new }

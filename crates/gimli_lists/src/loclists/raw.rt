@@ -9,9 +9,9 @@ ghost use Rattle.gimli_lists.specs.LocationEntry.{location_entry_of, short_expre
 ghost use Rattle.gimli_lists.specs.LocationEntry.{expression_at, indexed_length_at};
 ghost use Rattle.gimli_lists.specs.LocationEntry.{new_location_at, location_grammar};
 ghost use Rattle.gimli_lists.specs.LocationReads.{location_grammar-takes};
-ghost use Rattle.gimli_lists.specs.Places.{RawPlace, next_raw, raw_list_ahead};
+ghost use Rattle.gimli_lists.specs.Places.{RawListPlace, next_raw, raw_list_ahead};
 ghost use Rattle.gimli_lists.specs.RawList.{IsFirstOf, old_entry_at};
-ghost use Rattle.gimli_lists.specs.Resolved.{transposed};
+ghost use Rattle.gimli_base.specs.Reading.{transposed};
 
 use crate::lists::ListsFormat;
 use crate::raw::{RawEntry, take_entry};
@@ -156,7 +156,7 @@ impl<R: Reader> RawLocListEntry<R> {
     }
 }
 
-// The expression behind a length of 2 bytes; where it is refused, the input is left anywhere.
+// The expression after a length of 2 bytes; where it is refused, the input is left anywhere.
 #[inline]
 fn read_short_expression<R: Reader>(input: &mut R) -> Result<Expression<R>>
     ensures { read (answer_of (λ e. R.view e.0) result) (R.view input.new)
@@ -303,7 +303,7 @@ impl<R: Reader> RawEntry<R> for RawLocListEntry<R> {
     ghost takes_bytes = { location_grammar-takes R.Offset.limit };
 }
 
-/// The entries of a location list as they are written, one behind the other.
+/// The entries of a location list as they are written, one after the other.
 #[derive(Debug, Drop)]
 pub struct RawLocListIter<R: Reader> {
     input: R,
@@ -312,7 +312,7 @@ pub struct RawLocListIter<R: Reader> {
 }
 
 impl<R: Reader> Model for RawLocListIter<R> {
-    ghost Value = { RawPlace };
+    ghost Value = { RawListPlace };
 
     ghost view = { λ i.
         record { rest = R.view i.input; encoding = i.encoding; format = i.format } };
@@ -337,12 +337,12 @@ impl<R: Reader> RawLocListIter<R> {
         self.encoding.address_size
     }
 
-    /// The next entry, or none behind the last, which the end of the list or of the section ends.
+    /// The next entry, or none after the last, which the end of the list or of the section ends.
     ///
     /// Its expression is the input's bytes at their place, without the length before them.
     /// Refusals: `UnexpectedEof`, `BadUnsignedLeb128`, `UnsupportedAddressSize`,
     /// `UnsupportedOffset` for an index or a length that does not fit, `UnknownLocListsEntry`.
-    /// Nothing is left behind the end, and behind a refusal.
+    /// Nothing is left after the end, and after a refusal.
     pub fn next(&mut self) -> Result<Option<RawLocListEntry<R>>>
         ensures value { (
           answer_of (option_map (location_entry_of R.view R.Offset.number)) result,

@@ -8,12 +8,13 @@ ghost use Rattle.gimli_base.specs.Address.{min_tombstone, table_address};
 ghost use Rattle.gimli_base.specs.Offset.{answer_of};
 ghost use Rattle.gimli_base.specs.Reading.{is_size};
 ghost use Rattle.gimli_lists.specs.Places.{next_raw, raw_list_ahead, ListPlace, converted, InList};
-ghost use Rattle.gimli_lists.specs.Places.{IsBehind, IsSpent, read_from, IsNext};
+ghost use Rattle.gimli_lists.specs.Places.{IsAfterEntries, IsSpent, read_from, IsNext};
 ghost use Rattle.gimli_lists.specs.RawList.{IsFirstOf};
-ghost use Rattle.gimli_lists.specs.RangeEntry.{entry_of, range_grammar};
+ghost use Rattle.gimli_lists.specs.RangeEntry.{range_entry_of, range_grammar};
 ghost use Rattle.gimli_lists.specs.RangeReads.{range_grammar-takes};
-ghost use Rattle.gimli_lists.specs.Ranges.{range_of, ranges_ahead};
-ghost use Rattle.gimli_lists.specs.Resolved.{base_given, resolve, answered, transposed};
+ghost use Rattle.gimli_lists.specs.Ranges.{resolved_of, ranges_ahead};
+ghost use Rattle.gimli_lists.specs.Resolved.{base_given, resolve, answered};
+ghost use Rattle.gimli_base.specs.Reading.{transposed};
 
 use crate::rnglists::Range;
 use crate::rnglists::raw::{RawRngListEntry, RawRngListIter};
@@ -71,14 +72,17 @@ impl<R: Reader> RngListIter<R> {
         }
     }
 
-    /// The next entry as it is written, or none behind the last. The answer is for `convert_raw`,
+    /// The next entry as it is written, or none after the last. The answer is for `convert_raw`,
     /// which has to see each entry in turn.
     ///
     /// Refusals: those of `RawRngListIter::next`; nothing is left then.
     pub fn next_raw(&mut self) -> Result<Option<RawRngListEntry<R::Offset>>>
-        ensures value { (answer_of (option_map (entry_of R.Offset.number)) result, self.new.raw)
+        ensures value { (
+          answer_of (option_map (range_entry_of R.Offset.number)) result,
+          self.new.raw,
+        )
             ≡ next_raw (range_grammar R.Offset.limit) self.old.raw }
-        ensures ahead { IsFirstOf (answer_of (option_map (entry_of R.Offset.number)) result)
+        ensures ahead { IsFirstOf (answer_of (option_map (range_entry_of R.Offset.number)) result)
             (raw_list_ahead (range_grammar R.Offset.limit) self.old.raw)
             (raw_list_ahead (range_grammar R.Offset.limit) self.new.raw) }
         ensures same { self.new ≡ record self.old { raw = self.new.raw } }
@@ -91,7 +95,7 @@ impl<R: Reader> RngListIter<R> {
     }
 
     /// What an entry stands for: a range, or none. An entry that gives a base address changes the
-    /// base for those behind it.
+    /// base for those after it.
     ///
     /// No range is given where it begins at or above the least address that stands for none, or not
     /// below its end, nor by a pair of offsets from a base that stands for none. Refusals, of the
@@ -99,8 +103,8 @@ impl<R: Reader> RngListIter<R> {
     /// rest of the list stay then.
     #[tactic(auto, unfolding(crate::specs::Places::converted))]
     pub fn convert_raw(&mut self, raw_range: RawRngListEntry<R::Offset>) -> Result<Option<Range>>
-        ensures { (answer_of (option_map range_of) result, self.new)
-            ≡ converted R.Offset.limit (entry_of R.Offset.number raw_range) self.old }
+        ensures { (answer_of (option_map resolved_of) result, self.new)
+            ≡ converted R.Offset.limit (range_entry_of R.Offset.number raw_range) self.old }
     {
         let size = self.raw.address_size();
         let mut base = self.base_address;
@@ -115,19 +119,20 @@ impl<R: Reader> RngListIter<R> {
         range
     }
 
-    /// The next range, or none behind the last.
+    /// The next range, or none after the last.
     ///
-    /// Refusals: those of `RawRngListIter::next`, behind which nothing is left, and those of
-    /// `convert_raw`, behind which the rest of the list is left. Nothing is left behind the last
-    /// entry either.
+    /// Refusals: those of `RawRngListIter::next`, after which nothing is left, and those of
+    /// `convert_raw`, after which the rest of the list is left. Both can be `UnexpectedEof` or
+    /// `UnsupportedOffset`; the next call tells, since a list that is over answers none. Nothing is
+    /// left after the last entry either.
     pub fn next(&mut self) -> Result<Option<Range>>
         ensures ahead { ranges_ahead R.Offset.limit self.old
-            ≡ answered (answer_of (option_map range_of) result)
+            ≡ answered (answer_of (option_map resolved_of) result)
             (ranges_ahead R.Offset.limit self.new) }
 
-        // The entries that stand for nothing are read, and the one behind them; the base before the
+        // The entries that stand for nothing are read, and the one after them; the base before the
         // others is at hand.
-        ensures place { IsBehind (range_grammar R.Offset.limit) R.Offset.limit
+        ensures place { IsAfterEntries (range_grammar R.Offset.limit) R.Offset.limit
             (read_from (range_grammar R.Offset.limit) R.Offset.limit self.old) self.old self.new }
         ensures same { InList self.old self.new }
         ensures takes { MatchResult result
@@ -163,9 +168,9 @@ impl<R: Reader> EntryWalk for RngListIter<R> {
 
     ghost place = { λ s. s };
 
-    ghost written = { entry_of R.Offset.number };
+    ghost written = { range_entry_of R.Offset.number };
 
-    ghost resolved = { range_of };
+    ghost resolved = { resolved_of };
 
     #[inline]
     fn take_raw(&mut self) -> Result<Option<RawRngListEntry<R::Offset>>> {
@@ -185,7 +190,7 @@ impl<R: Reader> Iterator for RngListIter<R> {
 
     ghost next_gives = { λ s r t.
         IsNext (range_grammar R.Offset.limit) R.Offset.limit s
-        (answer_of (option_map range_of) (transposed r)) t };
+        (answer_of (option_map resolved_of) (transposed r)) t };
 
     ghost remaining = { λ s. at_most (length s.raw.rest.bytes) };
 
@@ -208,17 +213,17 @@ pub(crate) fn resolve_entry<R: Reader>(
     debug_addr_base: DebugAddrBase<R::Offset>,
 ) -> Result<Option<Range>>
     requires { IsTrue (is_size size) }
-    ensures value { answer_of (option_map range_of) result
+    ensures value { answer_of (option_map resolved_of) result
         ≡ resolve size
         (λ index. table_address R.Offset.limit size (R.Offset.number debug_addr_base.0) index
         (⟦<DebugAddr<R> as Section<R>>⟧.content debug_addr.now)) base.old
-        (entry_of R.Offset.number entry) }
+        (range_entry_of R.Offset.number entry) }
     ensures given { base.new
         ≡ unwrap_or
         (base_given
         (λ index. table_address R.Offset.limit size (R.Offset.number debug_addr_base.0) index
-        (⟦<DebugAddr<R> as Section<R>>⟧.content debug_addr.now)) (entry_of R.Offset.number entry))
-        base.old }
+        (⟦<DebugAddr<R> as Section<R>>⟧.content debug_addr.now))
+        (range_entry_of R.Offset.number entry)) base.old }
 {
     match entry {
         RawRngListEntry::BaseAddress { addr } => {

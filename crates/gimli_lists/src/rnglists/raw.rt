@@ -8,10 +8,11 @@ ghost use Rattle.gimli_base.specs.Address.{ones_sized};
 ghost use Rattle.gimli_base.specs.Offset.{answer_of};
 ghost use Rattle.gimli_base.specs.Reading.{read, is_size};
 ghost use Rattle.gimli_lists.specs.RawList.{IsFirstOf, pair_at, old_entry_at, index_at};
-ghost use Rattle.gimli_lists.specs.RangeEntry.{entry_of, nothing_at, new_entry_at, range_grammar};
+ghost use Rattle.gimli_lists.specs.RangeEntry.{range_entry_of, nothing_at, new_entry_at};
+ghost use Rattle.gimli_lists.specs.RangeEntry.{range_grammar};
 ghost use Rattle.gimli_lists.specs.RangeReads.{range_grammar-takes};
-ghost use Rattle.gimli_lists.specs.Places.{RawPlace, next_raw, raw_list_ahead};
-ghost use Rattle.gimli_lists.specs.Resolved.{transposed};
+ghost use Rattle.gimli_lists.specs.Places.{RawListPlace, next_raw, raw_list_ahead};
+ghost use Rattle.gimli_base.specs.Reading.{transposed};
 
 use crate::lists::ListsFormat;
 use crate::raw::{RawEntry, take_entry};
@@ -185,7 +186,8 @@ fn parse_bare<R: Reader>(
     input: &mut R,
     address_size: u8,
 ) -> Result<Option<RawRngListEntry<R::Offset>>>
-    ensures { read (answer_of (option_map (entry_of R.Offset.number)) result) (R.view input.new)
+    ensures { read (answer_of (option_map (range_entry_of R.Offset.number)) result)
+        (R.view input.new)
         ≡ old_entry_at nothing_at address_size (R.view input.old) }
 {
     let range = RawRange::parse(input, address_size)?;
@@ -207,7 +209,8 @@ fn parse_rle<R: Reader>(
     input: &mut R,
     address_size: u8,
 ) -> Result<Option<RawRngListEntry<R::Offset>>>
-    ensures { read (answer_of (option_map (entry_of R.Offset.number)) result) (R.view input.new)
+    ensures { read (answer_of (option_map (range_entry_of R.Offset.number)) result)
+        (R.view input.new)
         ≡ new_entry_at R.Offset.limit address_size (R.view input.old) }
 {
     let code = DwRle(input.read_u8()?);
@@ -255,7 +258,7 @@ impl<R: Reader> RawEntry<R> for RawRngListEntry<R::Offset> {
 
     ghost grammar = { range_grammar R.Offset.limit };
 
-    ghost written = { entry_of R.Offset.number };
+    ghost written = { range_entry_of R.Offset.number };
 
     fn parse(
         input: &mut R,
@@ -271,7 +274,7 @@ impl<R: Reader> RawEntry<R> for RawRngListEntry<R::Offset> {
     ghost takes_bytes = { range_grammar-takes R.Offset.limit };
 }
 
-/// The entries of a range list as they are written, one behind the other.
+/// The entries of a range list as they are written, one after the other.
 #[derive(Debug, Drop)]
 pub struct RawRngListIter<R: Reader> {
     input: R,
@@ -280,7 +283,7 @@ pub struct RawRngListIter<R: Reader> {
 }
 
 impl<R: Reader> Model for RawRngListIter<R> {
-    ghost Value = { RawPlace };
+    ghost Value = { RawListPlace };
 
     ghost view = { λ i.
         record { rest = R.view i.input; encoding = i.encoding; format = i.format } };
@@ -305,18 +308,18 @@ impl<R: Reader> RawRngListIter<R> {
         self.encoding.address_size
     }
 
-    /// The next entry, or none behind the last, which the end of the list or of the section ends.
+    /// The next entry, or none after the last, which the end of the list or of the section ends.
     ///
     /// Refusals: `UnexpectedEof`, `BadUnsignedLeb128`, `UnsupportedAddressSize`,
     /// `UnsupportedOffset` for an index that does not fit, `UnknownRangeListsEntry`. Nothing is
-    /// left behind the end, and behind a refusal.
+    /// left after the end, and after a refusal.
     pub fn next(&mut self) -> Result<Option<RawRngListEntry<R::Offset>>>
-        ensures value { (answer_of (option_map (entry_of R.Offset.number)) result, self.new)
+        ensures value { (answer_of (option_map (range_entry_of R.Offset.number)) result, self.new)
             ≡ next_raw (range_grammar R.Offset.limit) self.old }
 
         // An entry stands in front of those that are left; no entry and a refusal say how the list
         // ends.
-        ensures ahead { IsFirstOf (answer_of (option_map (entry_of R.Offset.number)) result)
+        ensures ahead { IsFirstOf (answer_of (option_map (range_entry_of R.Offset.number)) result)
             (raw_list_ahead (range_grammar R.Offset.limit) self.old)
             (raw_list_ahead (range_grammar R.Offset.limit) self.new) }
         ensures takes { MatchResult result
@@ -331,9 +334,9 @@ impl<R: Reader> Iterator for RawRngListIter<R> {
     type Item = Result<RawRngListEntry<R::Offset>>;
 
     ghost next_gives = { λ s r t.
-        ((answer_of (option_map (entry_of R.Offset.number)) (transposed r), t)
+        ((answer_of (option_map (range_entry_of R.Offset.number)) (transposed r), t)
         ≡ next_raw (range_grammar R.Offset.limit) s)
-        × IsFirstOf (answer_of (option_map (entry_of R.Offset.number)) (transposed r))
+        × IsFirstOf (answer_of (option_map (range_entry_of R.Offset.number)) (transposed r))
         (raw_list_ahead (range_grammar R.Offset.limit) s)
         (raw_list_ahead (range_grammar R.Offset.limit) t) };
 

@@ -16,7 +16,7 @@ pub steps-preserved : goal.steps-preserved
 steps-preserved g c =
     let e = c.advance.ensures in
     let yes = c.in_ok-advance.was ∙ ap Ok c.if-branch.true in
-    let was = was_open c.steps.children.«open» c.advance.result (λ k. (e.closed k).0) yes in
+    let was = was_open c.steps.children.is_open c.advance.result (λ k. (e.closed k).0) yes in
     let gone = rw yes at e.gone_on was (c.steps.invariant.0 was) in
     let fewer = fewer_left g.R.Offset.ReaderOffset.limit _ _ _ gone in
     let few = c.steps.invariant.1 in (

@@ -1,6 +1,6 @@
 use Rattle.std.proofs.Common.{rules, arith, ◌≡◌, Ok}
-use Rattle.gimli_base.specs.Later.{split_at-front}
-use Rattle.gimli_base.specs.Taken.{taken_length, initial_length_at-takes, split_at-takes}
+use Rattle.gimli_base.proofs.Later.{split_at-front}
+use Rattle.gimli_base.proofs.Taken.{taken_length, initial_length_at-takes, split_at-takes}
 use Rattle.gimli_units.specs.Unit.{UnitView}
 use Rattle.gimli_units.specs.UnitKind.{map_type}
 use Rattle.gimli_headers.specs.Header.{unit_at, fields_at}

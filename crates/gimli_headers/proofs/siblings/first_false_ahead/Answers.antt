@@ -1,5 +1,5 @@
 use Rattle.std.proofs.Common.{◌≡◌, ◌∷◌, ℤ, refl, sym, ap, ◌∙◌, rules, length}
-use Rattle.gimli_units.specs.EntryReads.{entry_at-shorter}
+use Rattle.gimli_units.proofs.EntryReads.{entry_at-shorter}
 use Rattle.gimli_units.specs.RawPlace.{RawPlace}
 use Rattle.gimli_units.specs.Rows.{Row}
 use Rattle.gimli_units.specs.CursorMoves.{rows_of}

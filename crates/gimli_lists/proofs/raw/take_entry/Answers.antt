@@ -1,6 +1,6 @@
 use Rattle.std.proofs.Common.{◌≡◌, arith, ap, length, rules, Ok, Err, None, Some}
 use Rattle.gimli_base.specs.View.{View}
-use Rattle.gimli_lists.specs.Places.{RawPlace, next_raw}
+use Rattle.gimli_lists.specs.Places.{RawListPlace, next_raw}
 use Rattle.gimli_lists.proofs.PlaceSteps.{Next, first_from}
 use Rattle.gimli_lists.specs.RawList.{next_entry}
 use Rattle.gimli_lists.proofs.raw.take_entry.Goals as goal
@@ -15,7 +15,7 @@ pub returns-then-is_empty-clause-ahead : goal.returns-then-is_empty-clause-ahead
 unfolding next_entry next_raw
 returns-then-is_empty-clause-ahead g c =
     let e = g.E.RawEntry in
-    let place : RawPlace =
+    let place : RawListPlace =
     record {
       rest = g.R.Reader.view c.args.input.now;
       encoding = c.args.encoding;
@@ -29,7 +29,7 @@ pub returns-in-Ok-Some-clause-ahead : goal.returns-in-Ok-Some-clause-ahead
 unfolding next_entry next_raw
 returns-in-Ok-Some-clause-ahead g c =
     let e = g.E.RawEntry in
-    let place : RawPlace =
+    let place : RawListPlace =
     record {
       rest = g.R.Reader.view c.args.input.now;
       encoding = c.args.encoding;
@@ -42,7 +42,7 @@ pub returns-in-Ok-None-clause-ahead : goal.returns-in-Ok-None-clause-ahead
 unfolding next_entry next_raw
 returns-in-Ok-None-clause-ahead g c =
     let e = g.E.RawEntry in
-    let place : RawPlace =
+    let place : RawListPlace =
     record {
       rest = g.R.Reader.view c.args.input.now;
       encoding = c.args.encoding;
@@ -55,7 +55,7 @@ pub returns-in-Err-clause-ahead : goal.returns-in-Err-clause-ahead
 unfolding next_entry next_raw
 returns-in-Err-clause-ahead g c =
     let e = g.E.RawEntry in
-    let place : RawPlace =
+    let place : RawListPlace =
     record {
       rest = g.R.Reader.view c.args.input.now;
       encoding = c.args.encoding;

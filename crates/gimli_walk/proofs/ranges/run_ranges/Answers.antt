@@ -2,7 +2,7 @@ use Rattle.gimli_lists.specs.Places.{answers_ahead}
 use Rattle.gimli_lists.proofs.PlaceSteps.{first_answer, list_answers-listed}
 use Rattle.gimli_lists.specs.RangeEntry.{range_grammar}
 use Rattle.gimli_lists.specs.RangeReads.{range_grammar-takes}
-use Rattle.gimli_lists.specs.Ranges.{range_of}
+use Rattle.gimli_lists.specs.Ranges.{resolved_of}
 use Rattle.gimli_walk.specs.Runs.{run-from_yields}
 use Rattle.gimli_walk.proofs.ranges.run_ranges.Goals as goal
 
@@ -15,5 +15,5 @@ returns g c =
     let all = c.run_all.ensures in
     rw listed
     (run-from_yields _ _ (answers_ahead grammar limit)
-    (first_answer grammar (range_grammar-takes limit) limit range_of) _ _ _ all.front all.fewer
+    (first_answer grammar (range_grammar-takes limit) limit resolved_of) _ _ _ all.front all.fewer
     all.whole)

@@ -1,7 +1,7 @@
 use Rattle.std.proofs.Common.{◌≡◌, refl, rules, length, ap, ◌∙◌, ℤ, w64, to_z, of_z, Ok, Err}
 use Rattle.std.proofs.lemmas.Int.{to_z-of_z}
 use Rattle.gimli_base.specs.declared.error.Error.TheVariants.{OutOfMemory}
-use Rattle.gimli_units.specs.EntryReads.{entry_at-shorter}
+use Rattle.gimli_units.proofs.EntryReads.{entry_at-shorter}
 use Rattle.gimli_units.specs.RawPlace.{next_offset_of}
 use Rattle.gimli_units.specs.Entry.{entry_of}
 use Rattle.gimli_walk.specs.declared.lines.Stop.TheVariants.{Memory}

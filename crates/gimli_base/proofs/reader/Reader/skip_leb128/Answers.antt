@@ -1,5 +1,5 @@
 use Rattle.std.proofs.Common.{rules, arith, sym, ◌∙◌}
-use Rattle.gimli_base.specs.Later.{IsLater-length, byte_at-later}
+use Rattle.gimli_base.proofs.Later.{IsLater-length, byte_at-later}
 use Rattle.gimli_base.proofs.PassTurns.{pass_ended, pass_last, pass_more}
 use Rattle.gimli_base.proofs.reader.Reader.skip_leb128.Goals as goal
 

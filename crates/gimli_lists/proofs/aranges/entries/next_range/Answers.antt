@@ -1,6 +1,6 @@
 use Rattle.std.proofs.Common.{rules, ◌≡◌, ◌∙◌, sym, ap, Ok, Err, Some, None}
 use Rattle.std.specs.Option.{option_transpose}
-use Rattle.gimli_lists.specs.Aranges.{converted}
+use Rattle.gimli_lists.specs.Aranges.{converted_arange}
 use Rattle.gimli_lists.proofs.ArangeSteps.{NextRaw, range_none, range_refused, range_found}
 use Rattle.gimli_lists.proofs.ArangeSteps.{range_dropped}
 use Rattle.gimli_lists.proofs.aranges.entries.next_range.Goals as goal
@@ -12,7 +12,8 @@ returns-in_err-entry-clause-value g c =
     let w = g.R.Reader.view c.next_entry.new.input in
     let raw : NextRaw z c.requires v (Some c.in-Some.raw_entry) w =
     record { entry = search rules; left = search rules } in
-    let refused : Err c.in_err-entry.field-0.0 ≡ converted z c.in-Some.raw_entry = search rules in
+    let refused : Err c.in_err-entry.field-0.0
+    ≡ converted_arange z c.in-Some.raw_entry = search rules in
     let is : c.from_residual-in_err-entry.result ≡ Err c.in_err-entry.field-0.0 = search rules in
     is ∙ ap (λ p. option_transpose p.0)
     (sym (c.loop-raw_entry.invariant.same ∙ range_refused z c.requires v _ w _ raw refused))
@@ -24,7 +25,8 @@ returns-in_err-entry-clause-left g c =
     let w = g.R.Reader.view c.next_entry.new.input in
     let raw : NextRaw z c.requires v (Some c.in-Some.raw_entry) w =
     record { entry = search rules; left = search rules } in
-    let refused : Err c.in_err-entry.field-0.0 ≡ converted z c.in-Some.raw_entry = search rules in
+    let refused : Err c.in_err-entry.field-0.0
+    ≡ converted_arange z c.in-Some.raw_entry = search rules in
     ap (λ p. p.1)
     (sym (c.loop-raw_entry.invariant.same ∙ range_refused z c.requires v _ w _ raw refused))
 
@@ -35,7 +37,8 @@ returns-in-Some-2-clause-value g c =
     let w = g.R.Reader.view c.next_entry.new.input in
     let raw : NextRaw z c.requires v (Some c.in-Some.raw_entry) w =
     record { entry = search rules; left = search rules } in
-    let found : Ok (Some c.in-Some-2.entry) ≡ converted z c.in-Some.raw_entry = search rules in
+    let found : Ok (Some c.in-Some-2.entry)
+    ≡ converted_arange z c.in-Some.raw_entry = search rules in
     ap (λ p. option_transpose p.0)
     (sym (c.loop-raw_entry.invariant.same ∙ range_found z c.requires v _ w _ raw found))
 
@@ -46,7 +49,8 @@ returns-in-Some-2-clause-left g c =
     let w = g.R.Reader.view c.next_entry.new.input in
     let raw : NextRaw z c.requires v (Some c.in-Some.raw_entry) w =
     record { entry = search rules; left = search rules } in
-    let found : Ok (Some c.in-Some-2.entry) ≡ converted z c.in-Some.raw_entry = search rules in
+    let found : Ok (Some c.in-Some-2.entry)
+    ≡ converted_arange z c.in-Some.raw_entry = search rules in
     ap (λ p. p.1)
     (sym (c.loop-raw_entry.invariant.same ∙ range_found z c.requires v _ w _ raw found))
 
@@ -57,7 +61,7 @@ loop-raw_entry-preserved g c =
     let w = g.R.Reader.view c.next_entry.new.input in
     let raw : NextRaw z c.requires v (Some c.in-Some.raw_entry) w =
     record { entry = search rules; left = search rules } in
-    let dropped : Ok None ≡ converted z c.in-Some.raw_entry = search rules in
+    let dropped : Ok None ≡ converted_arange z c.in-Some.raw_entry = search rules in
     record {
       same = c.loop-raw_entry.invariant.same ∙ range_dropped z c.requires v _ w raw dropped;
       shorter = search rules;

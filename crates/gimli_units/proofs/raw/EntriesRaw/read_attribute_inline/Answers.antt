@@ -1,7 +1,7 @@
 use Rattle.std.proofs.Common.{arith, ap, length}
 use Rattle.gimli_base.specs.View.{View}
-use Rattle.gimli_base.specs.Later.{IsLater-length}
-use Rattle.gimli_units.specs.EntryReads.{attribute_at-later}
+use Rattle.gimli_base.proofs.Later.{IsLater-length}
+use Rattle.gimli_units.proofs.EntryReads.{attribute_at-later}
 use Rattle.gimli_units.proofs.raw.EntriesRaw.read_attribute_inline.Goals as goal
 
 pub invariant_of-self : goal.invariant_of-self

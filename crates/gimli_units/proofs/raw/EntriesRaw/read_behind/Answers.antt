@@ -1,7 +1,7 @@
 use Rattle.std.proofs.Common.{arith, length, ap}
 use Rattle.gimli_base.specs.View.{View}
-use Rattle.gimli_base.specs.Later.{IsLater-length}
-use Rattle.gimli_units.specs.EntryReads.{attributes_at-later}
+use Rattle.gimli_base.proofs.Later.{IsLater-length}
+use Rattle.gimli_units.proofs.EntryReads.{attributes_at-later}
 use Rattle.gimli_units.specs.RawPlace.{RawPlace}
 use Rattle.gimli_units.proofs.raw.EntriesRaw.read_behind.Goals as goal
 

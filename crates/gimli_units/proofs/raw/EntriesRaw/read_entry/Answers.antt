@@ -1,8 +1,8 @@
 use Rattle.std.proofs.Common.{arith, length, ap}
 use Rattle.gimli_base.specs.View.{View}
-use Rattle.gimli_base.specs.Later.{IsLater-length}
+use Rattle.gimli_base.proofs.Later.{IsLater-length}
 use Rattle.gimli_units.specs.RawPlace.{RawPlace}
-use Rattle.gimli_units.specs.EntryReads.{abbreviation_at-later}
+use Rattle.gimli_units.proofs.EntryReads.{abbreviation_at-later}
 use Rattle.gimli_units.proofs.raw.EntriesRaw.read_entry.Goals as goal
 
 pub go_behind_null-requires : goal.go_behind_null-requires

@@ -21,7 +21,7 @@ pub returns-then-not-branch-clause-answers : goal.returns-then-not-branch-clause
 returns-then-not-branch-clause-answers g c fits honest =
     let no : c.advance.result ≡ Ok false = search rules in
     end_told g.R.Offset.ReaderOffset.limit c.args.self.now.tree.now c.advance.new.self.tree.now
-    c.args.self.now.depth c.args.self.now.«open»
+    c.args.self.now.depth c.args.self.now.is_open
     (λ o. rw no at c.advance.ensures.gone_on o fits) honest
 
 pub returns-in_err-advance-clause-as_advance : goal.returns-in_err-advance-clause-as_advance

@@ -1,6 +1,6 @@
 use Rattle.std.proofs.Common.{refl, sym, ap, ◌∙◌}
 use Rattle.gimli_base.specs.Reading.{is_size}
-use Rattle.gimli_lists.specs.EntryMoves.{zero-address}
+use Rattle.gimli_lists.proofs.ListSteps.{zero-address}
 use Rattle.gimli_lists.specs.Places.{ListPlace, converted}
 use Rattle.gimli_lists.proofs.loclists.iter.LocListIter.convert_raw.Goals as goal
 

@@ -1,6 +1,6 @@
 use Rattle.std.proofs.Common.{subst, sym, IsTrue}
 use Rattle.gimli_base.specs.Reading.{is_size}
-use Rattle.gimli_lists.specs.Places.{RawPlace}
+use Rattle.gimli_lists.specs.Places.{RawListPlace}
 use Rattle.gimli_lists.proofs.PlaceSteps.{next_raw-same}
 use Rattle.gimli_lists.specs.RangeEntry.{range_grammar}
 use Rattle.gimli_lists.specs.RangeReads.{range_grammar-takes}
@@ -11,4 +11,5 @@ invariant_of-self g c =
     let limit = g.R.Offset.ReaderOffset.limit in
     let same = next_raw-same (range_grammar limit) (range_grammar-takes limit) limit _ _ _
     c.next.ensures.value in
-    subst (λ (p : RawPlace). IsTrue (is_size p.encoding.address_size)) (sym same) c.self.invariant
+    subst (λ (p : RawListPlace). IsTrue (is_size p.encoding.address_size)) (sym same)
+    c.self.invariant

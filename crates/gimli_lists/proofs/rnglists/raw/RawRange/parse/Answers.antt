@@ -1,4 +1,4 @@
-use Rattle.gimli_lists.specs.EntryMoves.{address_at-sized}
+use Rattle.gimli_lists.proofs.ListSteps.{address_at-sized}
 use Rattle.gimli_lists.proofs.rnglists.raw.RawRange.parse.Goals as goal
 
 pub returns-clause-size : goal.returns-clause-size

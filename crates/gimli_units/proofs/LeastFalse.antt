@@ -1,33 +1,66 @@
--- The first sibling reference that is false is the one of the least offset (DWARF 5, 2.3).
-use Rattle.std.specs.Prelude.{◌≡◌, ◌⊎◌, ℕ, ◌<◌, ◌≤◌, ℤ, pos, Bool, true, false, if◌then◌else◌, List}
-use Rattle.std.specs.Prelude.{[], ◌∷◌, length, Option, Some, Ok}
-use Rattle.std.proofs.Common.{refl, sym, ◌∙◌, arith, inl, inr}
+-- The first sibling reference that is false is the one of the least offset, and there is none
+-- exactly where the rows are honest (DWARF 5, 2.3).
+use Rattle.std.specs.Prelude.{◌≡◌, ℕ, ◌<◌, ◌≤◌, ℤ, pos, Bool, true, false, if◌then◌else◌, List}
+use Rattle.std.specs.Prelude.{[], ◌∷◌, length, Option, Some, Ok, ◌==◌, not, None}
+use Rattle.std.proofs.Common.{refl, sym, ◌∙◌, arith, inl, inr, ap}
 use Rattle.gimli_base.specs.declared.error.Error.{Error}
 use Rattle.gimli_base.specs.View.{View}
 use Rattle.gimli_base.specs.Reading.{Reads}
 use Rattle.gimli_base.specs.Abbreviations.{Map}
 use Rattle.gimli_units.specs.Entry.{Entry, entry_at}
-use Rattle.gimli_units.specs.EntryReads.{entry_at-shorter}
+use Rattle.gimli_units.proofs.EntryReads.{entry_at-shorter}
 use Rattle.gimli_units.specs.RawPlace.{depth_after}
 use Rattle.gimli_units.specs.Rows.{Row, Ahead, offset_of_view}
-use Rattle.gimli_units.specs.RowChain.{AreRows, exist_rows}
-use Rattle.gimli_units.specs.Honest.{IsHonest}
-use Rattle.gimli_units.specs.FirstFalse.{is_false, first_false, not_false, honest_is_not}
+use Rattle.gimli_units.proofs.RowChain.{AreRows, exist_rows}
+use Rattle.gimli_units.specs.Honest.{IsHonest, past, usable, AreHonest}
+use Rattle.gimli_units.specs.FirstFalse.{misses, is_false, first_false, IsFalseAt, IsLeastFalse}
 use Rattle.gimli_units.specs.Unit.{UnitView, whole_length}
 use Rattle.gimli_units.specs.UnitRows.{unit_rows_at, unit_rows}
+use Rattle.std.proofs.lemmas.Bool.{eq-eqb, eqb-true}
 
--- at this offset stands one of these rows, and it is not honest
-abbrev pub IsFalseAt : ℕ → ℕ → List Row → Type 0
-IsFalseAt end offset [] = ⊥
-IsFalseAt end offset (r ∷ rest) =
-    ((r.offset ≡ offset) × (IsHonest end r rest → ⊥)) ⊎ IsFalseAt end offset rest
+-- a row whose reference is not false is honest
+pub not_false : (end : ℕ) (r : Row) (rest : List Row) → is_false end r rest ≡ false
+    → IsHonest end r rest
+not_false end r rest = cases (usable end r) (past r.depth rest)
+  where
+    cases : (u p : Option ℕ) → ◌≡◌ {A = Bool} (elim u [ None ↦ false | Some t ↦ misses t p ]) false
+        → (t : ℕ) → u ≡ Some t → p ≡ Some t
+    cases None p h t e = absurd (cc)
+    cases (Some x) None h t e = absurd (cc)
+    cases (Some x) (Some y) h t e = same (y == x) refl h
+      where
+        same : (b : Bool) → (y == x) ≡ b → not b ≡ false → ◌≡◌ {A = Option ℕ} (Some y) (Some t)
+        same true is h = ap Some (eqb-true y x is) ∙ e
+        same false is h = absurd (cc)
 
--- and at none before it
-abbrev pub IsLeastFalse : ℕ → ℕ → List Row → Type 0
-IsLeastFalse end offset rows =
-    IsFalseAt end offset rows × ((other : ℕ) → IsFalseAt end other rows → offset ≤ other)
+-- and the reference of an honest row is not false
+pub honest_is_not : (end : ℕ) (r : Row) (rest : List Row) → IsHonest end r rest
+    → is_false end r rest ≡ false
+honest_is_not end r rest = cases (usable end r) (past r.depth rest)
+  where
+    cases : (u p : Option ℕ) → ((t : ℕ) → u ≡ Some t → p ≡ Some t)
+        → ◌≡◌ {A = Bool} (elim u [ None ↦ false | Some t ↦ misses t p ]) false
+    cases None p h = refl
+    cases (Some x) p h = rw (h x refl, eq-eqb x x refl) refl
 
--- no row stands before an offset, nor before one that it lies behind
+-- where there is no first, the rows are honest
+pub none_false : (end : ℕ) (rows : List Row) → first_false end rows ≡ None → AreHonest end rows
+none_false end [] h = tt
+none_false end (r ∷ rest) h = cases (is_false end r rest) refl (none_false end rest) h
+  where
+    cases : (b : Bool) → is_false end r rest ≡ b
+        → (first_false end rest ≡ None → AreHonest end rest)
+        → ◌≡◌ {A = Option ℕ} (if b then Some r.offset else first_false end rest) None
+        → AreHonest end (r ∷ rest)
+    cases true is more h = absurd (cc)
+    cases false is more h = (not_false end r rest is, more h)
+
+-- where they are honest, there is none
+pub honest_none : (end : ℕ) (rows : List Row) → AreHonest end rows → first_false end rows ≡ None
+honest_none end [] h = refl
+honest_none end (r ∷ rest) h = rw (honest_is_not end r rest h.0) (honest_none end rest h.1)
+
+-- no row stands before an offset, nor before one that it lies after
 abbrev Grow : ℕ → List Row → Type 0
 Grow low [] = Unit {0}
 Grow low (r ∷ rest) = (low ≤ r.offset) × Grow r.offset rest

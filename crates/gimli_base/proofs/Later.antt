@@ -13,19 +13,12 @@ use Rattle.gimli_base.specs.declared.error.Error.TheVariants.{UnknownReservedLen
 use Rattle.gimli_base.specs.declared.common.Format.{Format}
 use Rattle.gimli_base.specs.declared.common.Format.TheVariants.{Dwarf32, Dwarf64}
 use Rattle.gimli_base.specs.Offset.{offset_of}
-use Rattle.gimli_base.specs.View.{View, cut, front, ended}
+use Rattle.gimli_base.specs.View.{View, cut, front, ended, IsLater}
 use Rattle.gimli_base.specs.Reading.{Reads, ◌>>=◌, made, eof, byte_at, skip_at, split_at, bytes_at}
 use Rattle.gimli_base.specs.Reading.{uint_at, number, as_offset, offset_at, word_size_of}
 use Rattle.gimli_base.specs.Reading.{uleb_within, uleb_at, uleb16_at, sleb_within, sleb_at, find_at}
 use Rattle.gimli_base.specs.Reading.{text_at, address_at, address_size_at, is_size, sized_offset_at}
 use Rattle.gimli_base.specs.Reading.{skip_leb_at, initial_length_at, initial_length_size_of}
-
--- w is v some bytes later, at least so many
-pub record IsLater (least : ℕ) (v w : View) : Type 0 where
-  pub count : ℕ
-  pub enough : least ≤ count
-  pub within : count ≤ length v.bytes
-  pub is : w ≡ cut count v
 
 -- what is read leaves a later view
 abbrev pub LeavesLater : {A : Type 0} → ℕ → View → Reads A → Type 0

@@ -9,12 +9,13 @@ use Rattle.gimli_base.specs.View.{View}
 use Rattle.gimli_base.specs.Reading.{Reads, ◌>>=◌, byte_at, uint_at, uint_offset_at, offset_at}
 use Rattle.gimli_base.specs.Reading.{sized_offset_at, address_at, split_at, text_at, uleb_at}
 use Rattle.gimli_base.specs.Reading.{uleb16_at, sleb_at, word_size_of}
-use Rattle.gimli_base.specs.Later.{LeavesLater, IsLater-none, IsLater-length, then_leaves_later}
-use Rattle.gimli_base.specs.Later.{made_leaves_later, if_leaves_later, ok_leaves_later}
-use Rattle.gimli_base.specs.Later.{err_leaves_later, weaker_leaves_later, byte_at-later}
-use Rattle.gimli_base.specs.Later.{uint_at-later, as_offset-later, offset_at-later}
-use Rattle.gimli_base.specs.Later.{address_at-later, split_at-later, uleb_at-later, uleb16_at-later}
-use Rattle.gimli_base.specs.Later.{sleb_at-later, sized_offset_at-later, text_at-later}
+use Rattle.gimli_base.proofs.Later.{LeavesLater, IsLater-none, IsLater-length, then_leaves_later}
+use Rattle.gimli_base.proofs.Later.{made_leaves_later, if_leaves_later, ok_leaves_later}
+use Rattle.gimli_base.proofs.Later.{err_leaves_later, weaker_leaves_later, byte_at-later}
+use Rattle.gimli_base.proofs.Later.{uint_at-later, as_offset-later, offset_at-later}
+use Rattle.gimli_base.proofs.Later.{address_at-later, split_at-later, uleb_at-later}
+use Rattle.gimli_base.proofs.Later.{uleb16_at-later, sleb_at-later, sized_offset_at-later}
+use Rattle.gimli_base.proofs.Later.{text_at-later}
 use Rattle.gimli_base.specs.Abbreviations.{Specification, Declaration, Map}
 use Rattle.gimli_units.specs.Value.{Value}
 use Rattle.gimli_units.specs.declared.value.AttributeValue.TheVariants.{SecOffset}
@@ -22,7 +23,7 @@ use Rattle.gimli_units.specs.Layout.{Layout, byte, number, section_or, address, 
 use Rattle.gimli_units.specs.Layout.{word_offset, reference, offset_leb, offset_leb_and, block}
 use Rattle.gimli_units.specs.Layout.{block_leb, text, nothing, constant, layout_of}
 use Rattle.gimli_units.specs.Form.{is_section_name, uleb_offset_at, value_in, direct_at, chain}
-use Rattle.gimli_units.specs.Form.{form_at, number_of, value_at}
+use Rattle.gimli_units.specs.Form.{form_at, declared_number, value_at}
 use Rattle.gimli_units.specs.Entry.{Entry, attribute_at, attributes_at, abbreviation_at, content_at}
 use Rattle.gimli_units.specs.Entry.{entry_at}
 
@@ -47,7 +48,7 @@ word_offset-later : (limit : ℕ) (format : Format) (v : View)
 word_offset-later limit format v =
     none_later (word_size_of format) v _ (offset_at-later limit format v)
 
--- that many bytes, behind their number
+-- that many bytes, after their number
 split-later : (v : View) (r : Reads ℕ) → LeavesLater 0 v r
     → LeavesLater 0 v (r >>= λ p. split_at p.0 p.1)
 split-later v r h = then_leaves_later 0 0 v r _ h
@@ -126,7 +127,7 @@ value_at-later : (limit : ℕ) (e : Encoding) (name : ℕ) (c : Option ℤ) (for
 unfolding value_at
 value_at-later limit e name c form v =
     then_leaves_later 0 0 v (form_at form v) _ (form_at-later form v)
-    (λ p. direct_at-later limit e name (number_of form c) p.0 p.1)
+    (λ p. direct_at-later limit e name (declared_number form c) p.0 p.1)
 
 pub attribute_at-later : (limit : ℕ) (e : Encoding) (s : Specification) (v : View)
     → LeavesLater 0 v (attribute_at limit e s v)

@@ -9,7 +9,7 @@ use Rattle.gimli_base.specs.Reading.{Reads}
 use Rattle.gimli_units.specs.Entry.{Entry}
 use Rattle.gimli_units.specs.RawPlace.{depth_after}
 use Rattle.gimli_units.specs.Rows.{Row, Ahead, offset_of_view, ahead_at}
-use Rattle.gimli_units.specs.RowSteps.{then_row, ahead_ended, ahead_refused, ahead_more}
+use Rattle.gimli_units.proofs.RowSteps.{then_row, ahead_ended, ahead_refused, ahead_more}
 
 module _ (next : View → Reads Entry) (end : ℕ) where
   -- a row that is read at a view of this depth, and the view that it leaves
@@ -64,7 +64,7 @@ module _ (next : View → Reads Entry) (end : ℕ) where
               rest p.1 (depth_after p.0 depth) (shorter v p.1 p.0 is),
             )
 
-    -- the rows ahead of a place are rows one behind the other
+    -- the rows ahead of a place are rows one after the other
     pub exist_rows : (v : View) (depth : ℤ) → AreAhead v depth (ahead_at next end depth v)
     exist_rows v depth = exist_within (length v.bytes) v depth (omega arith)
 

@@ -15,17 +15,11 @@ use Rattle.gimli_base.specs.View.{View, cut, ended}
 use Rattle.gimli_base.specs.Reading.{Reads, ◌>>=◌, made, eof, byte_at, skip_at, split_at, bytes_at}
 use Rattle.gimli_base.specs.Reading.{uint_at, as_offset, uint_offset_at, offset_at, word_size_of}
 use Rattle.gimli_base.specs.Reading.{sized_offset_at, address_at, text_at, uleb_within, uleb_at}
-use Rattle.gimli_base.specs.Reading.{uleb16_at, sleb_within, sleb_at, skip_leb_at}
-use Rattle.gimli_base.specs.Later.{cut-cut}
-use Rattle.gimli_base.specs.Taken.{TakesAfter, Takes, taken, byte_at-takes, split_at-takes}
-use Rattle.gimli_base.specs.Taken.{bytes_at-takes, uint_at-takes, as_offset-takes, offset_at-takes}
-use Rattle.gimli_base.specs.Taken.{sized_offset_at-takes, address_at-takes, text_at-takes}
-
--- what a pass leaves, where the read of the same bytes succeeds
-abbrev pub PassesAs : {A : Type 0} → Reads (Unit {0}) → Reads A → Type 0
-PassesAs {A} pass r =
-    (a : A) (w : View) → ◌≡◌ {A = Reads A} (Ok (a, w)) r
-    → ◌≡◌ {A = Reads (Unit {0})} pass (Ok (tt, w))
+use Rattle.gimli_base.specs.Reading.{uleb16_at, sleb_within, sleb_at, skip_leb_at, PassesAs}
+use Rattle.gimli_base.proofs.Later.{cut-cut}
+use Rattle.gimli_base.proofs.Taken.{TakesAfter, Takes, taken, byte_at-takes, split_at-takes}
+use Rattle.gimli_base.proofs.Taken.{bytes_at-takes, uint_at-takes, as_offset-takes, offset_at-takes}
+use Rattle.gimli_base.proofs.Taken.{sized_offset_at-takes, address_at-takes, text_at-takes}
 
 -- a read of as many bytes as its value says
 pub sized_passed : {A : Type 0} → (size : A → ℕ) (v : View) (r : Reads A) → TakesAfter 0 size v r

@@ -13,16 +13,16 @@ use Rattle.gimli_base.specs.Reading.{Reads, ◌>>=◌, made, eof, byte_at, split
 use Rattle.gimli_base.specs.Reading.{number, as_offset, offset_at, word_size_of, sized_offset_at}
 use Rattle.gimli_base.specs.Reading.{address_at, address_size_at, is_size, find_at, text_at}
 use Rattle.gimli_base.specs.Reading.{initial_length_at, initial_length_size_of}
-use Rattle.gimli_base.specs.Later.{cut-cut, split_at-front}
+use Rattle.gimli_base.proofs.Later.{cut-cut, split_at-front}
 
--- behind n bytes, the others of `total` are taken from v, and w is left
+-- after n bytes, the others of `total` are taken from v, and w is left
 pub record TakenAfter (n total : ℕ) (v w : View) : Type 0 where
   pub count : ℕ
   pub sum : n + count ≡ total
   pub within : count ≤ length v.bytes
   pub is : w ≡ cut count v
 
--- behind n bytes, the read takes the others of as many as its value says
+-- after n bytes, the read takes the others of as many as its value says
 abbrev pub TakesAfter : {A : Type 0} → ℕ → (A → ℕ) → View → Reads A → Type 0
 TakesAfter {A} n size v r =
     (a : A) (w : View) → ◌≡◌ {A = Reads A} (Ok (a, w)) r → TakenAfter n (size a) v w
@@ -31,7 +31,7 @@ TakesAfter {A} n size v r =
 abbrev pub Takes : {A : Type 0} → ℕ → View → Reads A → Type 0
 Takes n v r = TakesAfter 0 (λ _. n) v r
 
--- what is left is the view behind the bytes that were taken
+-- what is left is the view after the bytes that were taken
 pub taken : (total : ℕ) (v w : View) → TakenAfter 0 total v w
     → (total ≤ length v.bytes) × (w ≡ cut total v)
 taken total v w t =
@@ -63,7 +63,7 @@ TakenAfter-trans n k total u v w s t =
       is = t.is ∙ ap (cut t.count) s.is ∙ cut-cut s.count t.count u;
     }
 
--- the same, behind more bytes
+-- the same, after more bytes
 TakenAfter-more : (n k total : ℕ) (v w : View) → TakenAfter n total v w
     → TakenAfter (k + n) (k + total) v w
 TakenAfter-more n k total v w t =
@@ -81,7 +81,7 @@ ok_takes {A} n size v p t a w h =
     let P : A × View → Type 0 = λ q. TakenAfter n (size q.0) v q.1 in
     subst P (sym same) t
 
--- the same read, behind n bytes
+-- the same read, after n bytes
 pub behind_takes : {A : Type 0} → (n k total : ℕ) (v : View) (r : Reads A) → n + k ≡ total
     → Takes k v r → TakesAfter n (λ _. total) v r
 behind_takes n k total v r e h x w is =

@@ -1,7 +1,7 @@
 -- The rows ahead of a place, as the reading of an entry moves it (DWARF 5, 2.3).
 use Rattle.std.specs.Prelude.{◌≡◌, ℕ, zero, suc, ◌+◌, ◌-◌, ◌<◌, ◌≤◌, ◌==◌, ℤ, pos, ◌+ℤ◌, ◌-ℤ◌, Bool}
 use Rattle.std.specs.Prelude.{true, false, cond, if◌then◌else◌, List, [], ◌∷◌, ◌++◌, length}
-use Rattle.std.specs.Prelude.{count_by, Option, Some, None, Ok, Err}
+use Rattle.std.specs.Prelude.{count_by, Some, None, Ok, Err}
 use Rattle.std.specs.List.{fold}
 use Rattle.std.proofs.Common.{refl, sym, ap, ◌∙◌, arith, append_assoc, inl, inr}
 use Rattle.std.proofs.lemmas.Int.{ints}
@@ -13,18 +13,13 @@ use Rattle.gimli_base.specs.View.{View}
 use Rattle.gimli_base.specs.Reading.{Reads}
 use Rattle.gimli_units.specs.Entry.{Entry, is_null}
 use Rattle.gimli_units.specs.RawPlace.{below_flag, depth_after}
-use Rattle.gimli_units.specs.Rows.{Sited, Entries, Row, Ahead, offset_of_view, then_sited}
+use Rattle.gimli_units.specs.Rows.{Sited, Entries, Row, Ahead, offset_of_view, then_sited, no_row}
 use Rattle.gimli_units.specs.Rows.{entries_within, entries_at, depth_behind, rows_behind, ahead_at}
 
 -- a row before others
 abbrev pub then_row : Row → Ahead → Ahead
 then_row r a =
     record { rows = r ∷ a.rows; refusal = a.refusal; stop = a.stop; stop_depth = a.stop_depth }
-
--- no row
-abbrev pub no_row : Option Error → ℕ → ℤ → Ahead
-no_row refusal stop stop_depth =
-    record { rows = []; refusal = refusal; stop = stop; stop_depth = stop_depth }
 
 one_more : (null flag : Bool) (start : ℤ) (flags nulls : ℕ)
     → start +ℤ (pos (flags + cond flag 1 0) -ℤ pos (nulls + cond null 1 0))
@@ -41,7 +36,7 @@ count_last : (p : Sited → Bool) (xs : List Sited) (x : Sited) (a : ℕ)
 count_last p [] x a = refl
 count_last p (y ∷ ys) x a = count_last p ys x (a + cond (p y) 1 0)
 
--- the carried depth is the counted one: behind one more entry it is one more after a flag, and one
+-- the carried depth is the counted one: after one more entry it is one more after a flag, and one
 -- less after a null
 pub depth_behind-append : (start : ℤ) (before : List Sited) (s : Sited)
     → depth_behind start (before ++ s ∷ []) ≡ depth_after s.entry (depth_behind start before)
@@ -84,7 +79,7 @@ first_behind depth s =
     depth_behind-append depth [] s ∙ ap (depth_after s.entry) (depth_behind-none depth)
     ∙ sym (depth_behind-none (depth_after s.entry depth))
 
--- the depths of the entries behind a first one are counted from the depth behind it
+-- the depths of the entries after a first one are counted from the depth after it
 rows-first : (depth : ℤ) (s : Sited) (rest : List Sited)
     → rows_behind depth [] (s ∷ rest)
     ≡ record { offset = s.offset; next = s.next; depth = depth; entry = s.entry }

@@ -5,27 +5,29 @@ use Rattle.std.specs.Prelude.{if◌then◌else◌, Bool, true, false, List, [], 
 use Rattle.std.specs.Prelude.{reverse, length, Option, Some, None, unwrap_or, Result, Ok, Err, IfOk}
 use Rattle.std.specs.List.{All, enumerate_from, filter_map, prefix_len}
 use Rattle.std.specs.Option.{option_or}
-use Rattle.std.proofs.Common.{refl, sym, ap, ◌∙◌, arith, inl, inr}
+use Rattle.std.proofs.Common.{refl, sym, ap, ◌∙◌, arith, inl, inr, ◌≡◌, ℕ, nat_lt, Bool, true}
+use Rattle.std.proofs.Common.{false, Ok, Err}
 use Rattle.std.proofs.lemmas.List.{reverse-append}
 use Rattle.std.proofs.lemmas.List.Elements.{All-nil, All-cons, All-append, All-same}
 use Rattle.std.proofs.lemmas.Bool.{ne_eqb, ltb-true}
 use Rattle.std.proofs.lemmas.Bool.Decides.{eqb_tells}
 use Rattle.gimli_base.specs.declared.error.Error.{Error}
 use Rattle.gimli_base.specs.View.{View}
-use Rattle.gimli_base.specs.Reading.{Reads}
-use Rattle.gimli_lists.specs.RawList.{Entry, address_or_offset_pair, base_address, base_addressx}
-use Rattle.gimli_lists.specs.RawList.{startx_endx, startx_length, offset_pair, default_location}
-use Rattle.gimli_lists.specs.RawList.{start_end, start_length, EntryReads, Ending, end_of_list}
-use Rattle.gimli_lists.specs.RawList.{used_up, refused, RawList, no_entries, then_entry, then_list}
-use Rattle.gimli_lists.specs.RawList.{list_within, list_at}
+use Rattle.gimli_base.specs.Reading.{Reads, uint_at, address_at, is_size}
+use Rattle.gimli_lists.specs.RawList.{ListEntry, address_or_offset_pair, base_address}
+use Rattle.gimli_lists.specs.RawList.{base_addressx, startx_endx, startx_length, offset_pair}
+use Rattle.gimli_lists.specs.RawList.{default_location, start_end, start_length, EntryReads, Ending}
+use Rattle.gimli_lists.specs.RawList.{end_of_list, used_up, refused, RawList, no_entries}
+use Rattle.gimli_lists.specs.RawList.{then_entry, then_list, list_within, list_at}
 use Rattle.gimli_base.specs.Address.{min_tombstone, wrapped_sum}
 use Rattle.gimli_lists.specs.Resolved.{LookUp, Resolved, located, located_from, if_found}
 use Rattle.gimli_lists.specs.Resolved.{base_given, first_base, base_before, resolve, resolve_each}
 use Rattle.gimli_lists.specs.Resolved.{some_answer, last_answer, is_nothing, entries_read}
-use Rattle.gimli_lists.specs.Resolved.{entry_answers, resolved_list}
+use Rattle.gimli_lists.specs.Resolved.{entry_answers, resolved_list, IsSoundRange}
+use Rattle.gimli_base.specs.declared.error.Error.TheVariants.{UnsupportedAddressSize}
 
 -- the first base of entries with one more at their end
-first_base-last : {P : Type 0} → (look_up : LookUp) (es : List (Entry P)) (e : Entry P)
+first_base-last : {P : Type 0} → (look_up : LookUp) (es : List (ListEntry P)) (e : ListEntry P)
     → first_base look_up (es ++ e ∷ []) ≡ option_or (first_base look_up es) (base_given look_up e)
 first_base-last look_up [] e = none (base_given look_up e)
   where
@@ -42,14 +44,14 @@ first_base-last look_up (x ∷ es) e = either (base_given look_up x) (first_base
     either None h = h
     either (Some a) h = refl
 
--- the base behind an entry: the one that it gives, or the one before it
-abbrev pub base_after : {P : Type 0} → LookUp → ℕ → Entry P → ℕ
+-- the base after an entry: the one that it gives, or the one before it
+abbrev pub base_after : {P : Type 0} → LookUp → ℕ → ListEntry P → ℕ
 base_after look_up base e = unwrap_or (base_given look_up e) base
 
--- behind an entry, the base before a later entry is that of the entries between, with the base
--- behind the entry at hand
+-- after an entry, the base before a later entry is that of the entries between, with the base
+-- after the entry at hand
 pub base_before-later : {P : Type 0}
-    → (look_up : LookUp) (base : ℕ) (e : Entry P) (es : List (Entry P)) (i : ℕ)
+    → (look_up : LookUp) (base : ℕ) (e : ListEntry P) (es : List (ListEntry P)) (i : ℕ)
     → base_before look_up base (e ∷ es) (suc i)
     ≡ base_before look_up (base_after look_up base e) es i
 base_before-later look_up base e es i =
@@ -71,7 +73,8 @@ then_answers (Ok (Some x)) others = Ok x ∷ others
 then_answers (Err e) others = Err e ∷ others
 
 module _ {P : Type 0} (size : ℕ) (look_up : LookUp) where
-  resolve_later : (base : ℕ) (e : Entry P) (all : List (Entry P)) (k : ℕ) (es : List (Entry P))
+  resolve_later : (base : ℕ) (e : ListEntry P) (all : List (ListEntry P)) (k : ℕ)
+      (es : List (ListEntry P))
       → map (λ p. resolve size look_up (base_before look_up base (e ∷ all) p.0) p.1)
       (enumerate_from (suc k) es)
       ≡ map
@@ -79,7 +82,7 @@ module _ {P : Type 0} (size : ℕ) (look_up : LookUp) where
       (enumerate_from k es)
   resolve_later base e all k [] = refl
   resolve_later base e all k (x ∷ es) =
-      let f : ℕ × Entry P → Result (Option (Resolved P)) Error = λ p.
+      let f : ℕ × ListEntry P → Result (Option (Resolved P)) Error = λ p.
       resolve size look_up (base_before look_up base (e ∷ all) p.0) p.1 in
       let next : suc k + 1 ≡ suc (k + 1) = omega arith in
       ap (λ b. resolve size look_up b x ∷ map f (enumerate_from (suc k + 1) es))
@@ -91,9 +94,9 @@ module _ {P : Type 0} (size : ℕ) (look_up : LookUp) where
       (λ rs. resolve size look_up (base_before look_up (base_after look_up base e) all k) x
       ∷ rs) (resolve_later base e all (k + 1) es)
 
-  -- the answers of entries are the first one's, and then those of the others with the base behind
+  -- the answers of entries are the first one's, and then those of the others with the base after
   -- it
-  pub entry_answers-first : (base : ℕ) (e : Entry P) (es : List (Entry P))
+  pub entry_answers-first : (base : ℕ) (e : ListEntry P) (es : List (ListEntry P))
       → entry_answers size look_up base (e ∷ es)
       ≡ then_answers (resolve size look_up base e)
       (entry_answers size look_up (base_after look_up base e) es)
@@ -110,7 +113,7 @@ module _ {P : Type 0} (size : ℕ) (look_up : LookUp) where
       either (Err e) rs = refl
 
   -- and so are those of a list
-  pub resolved_list-first : (base : ℕ) (e : Entry P) (l : RawList P)
+  pub resolved_list-first : (base : ℕ) (e : ListEntry P) (l : RawList P)
       → resolved_list size look_up base (then_entry e l)
       ≡ then_answers (resolve size look_up base e)
       (resolved_list size look_up (base_after look_up base e) l)
@@ -127,7 +130,7 @@ module _ {P : Type 0} (size : ℕ) (look_up : LookUp) where
       either (Err e) rs = refl
 
   -- an entry that stands for nothing is read before the others
-  pub entries_read-more : (base : ℕ) (e : Entry P) (es : List (Entry P))
+  pub entries_read-more : (base : ℕ) (e : ListEntry P) (es : List (ListEntry P))
       → Ok None ≡ resolve size look_up base e
       → entries_read size look_up base (e ∷ es)
       ≡ suc (entries_read size look_up (base_after look_up base e) es)
@@ -142,7 +145,7 @@ module _ {P : Type 0} (size : ℕ) (look_up : LookUp) where
       ∙ ap (λ r. min (length (e ∷ es)) (prefix_len is_nothing (r ∷ others) + 1)) (sym h) ∙ sum
 
   -- an entry that stands for something is read alone
-  pub entries_read-one : (base : ℕ) (e : Entry P) (es : List (Entry P))
+  pub entries_read-one : (base : ℕ) (e : ListEntry P) (es : List (ListEntry P))
       → is_nothing (resolve size look_up base e) ≡ false
       → entries_read size look_up base (e ∷ es) ≡ 1
   entries_read-one base e es h =
@@ -155,14 +158,10 @@ module _ {P : Type 0} (size : ℕ) (look_up : LookUp) where
   unfolding resolved_list
   resolved_list-none base ending = refl
 
--- addresses that begin below their end, and below the least address that stands for none
-abbrev pub IsSound : {P : Type 0} → ℕ → Resolved P → Type 0
-IsSound size r = (r.begin < r.end) × (r.begin < min_tombstone size)
-
 -- a result that tells of what it gives, if it gives something
 abbrev pub GivesSound : {P : Type 0} → ℕ → Result (Option (Resolved P)) Error → Type 0
 GivesSound size (Ok None) = Unit {0}
-GivesSound size (Ok (Some x)) = IsSound size x
+GivesSound size (Ok (Some x)) = IsSoundRange size x
 GivesSound size (Err e) = Unit {0}
 
 module _ {P : Type 0} (size : ℕ) where
@@ -197,7 +196,7 @@ module _ {P : Type 0} (size : ℕ) where
   found-sound (Err e) f h = tt
 
   -- what an entry stands for begins below its end, and below the addresses that stand for none
-  pub resolve-sound : (look_up : LookUp) (base : ℕ) (e : Entry P)
+  pub resolve-sound : (look_up : LookUp) (base : ℕ) (e : ListEntry P)
       → GivesSound size (resolve size look_up base e)
   resolve-sound look_up base (address_or_offset_pair begin end p) =
       located_from-sound base begin end p
@@ -218,11 +217,11 @@ module _ {P : Type 0} (size : ℕ) where
 
 -- what holds of the ranges among answers
 abbrev pub AllSound : {P : Type 0} → ℕ → List (Result (Resolved P) Error) → Type 0
-AllSound size answers = All (λ a. IfOk a (IsSound size)) answers
+AllSound size answers = All (λ a. IfOk a (IsSoundRange size)) answers
 
 module _ {P : Type 0} (size : ℕ) (look_up : LookUp) where
   abbrev Sound : Result (Resolved P) Error → Type 0
-  Sound a = IfOk a (IsSound size)
+  Sound a = IfOk a (IsSoundRange size)
 
   then_answers-sound : (r : Result (Option (Resolved P)) Error)
       (others : List (Result (Resolved P) Error)) → GivesSound size r → AllSound size others
@@ -231,7 +230,7 @@ module _ {P : Type 0} (size : ℕ) (look_up : LookUp) where
   then_answers-sound (Ok (Some x)) others h k = All-cons Sound (Ok x) others h k
   then_answers-sound (Err e) others h k = All-cons Sound (Err e) others tt k
 
-  entry_answers-sound : (base : ℕ) (es : List (Entry P))
+  entry_answers-sound : (base : ℕ) (es : List (ListEntry P))
       → AllSound size (entry_answers size look_up base es)
   entry_answers-sound base [] = All-nil Sound
   entry_answers-sound base (e ∷ es) =
@@ -256,7 +255,7 @@ module _ {P : Type 0} (size : ℕ) (look_up : LookUp) where
 
 -- the list of a view, where each entry takes a byte at least
 module _ {P : Type 0} (next : EntryReads P)
-    (shorter : (v : View) (e : Option (Entry P)) (w : View) → Ok (e, w) ≡ next v
+    (shorter : (v : View) (e : Option (ListEntry P)) (w : View) → Ok (e, w) ≡ next v
     → length w.bytes < length v.bytes) where
   within_ended : (n : ℕ) (v : View) → length v.bytes ≡ 0 → list_within next n v ≡ no_entries used_up
   unfolding list_within
@@ -286,7 +285,7 @@ module _ {P : Type 0} (next : EntryReads P)
         ∙ sym (within_some n v some.1)
   ]
     where
-      read : (r : Reads (Option (Entry P))) → r ≡ next v
+      read : (r : Reads (Option (ListEntry P))) → r ≡ next v
           → ((w : View) → length w.bytes < length v.bytes
           → list_within next m w ≡ list_within next n w)
           → then_list r (list_within next m) ≡ then_list r (list_within next n)
@@ -318,8 +317,8 @@ module _ {P : Type 0} (next : EntryReads P)
   list_refused v e some h =
       list_some v some ∙ ap (λ r. then_list r (list_within next (length v.bytes - 1))) (sym h)
 
-  -- an entry, and then those behind it
-  pub list_more : (v : View) (e : Entry P) (w : View) → (length v.bytes ≡ 0 → ⊥)
+  -- an entry, and then those after it
+  pub list_more : (v : View) (e : ListEntry P) (w : View) → (length v.bytes ≡ 0 → ⊥)
       → Ok (Some e, w) ≡ next v → list_at next v ≡ then_entry e (list_at next w)
   unfolding list_at
   list_more v e w some h =
@@ -327,3 +326,33 @@ module _ {P : Type 0} (next : EntryReads P)
       list_some v some ∙ ap (λ r. then_list r (list_within next (length v.bytes - 1))) (sym h)
       ∙ ap (then_entry e)
       (within_enough (length v.bytes - 1) (length w.bytes) w (omega (arith, lt)) (omega arith))
+
+-- an address is read in a size that there is
+pub address_at-sized : (size : ℕ) (v : View) (p : ℕ × View) → Ok p ≡ address_at size v
+    → is_size size ≡ true
+unfolding address_at
+address_at-sized size v p h = cases (is_size size) refl h
+  where
+    cases : (t : Bool) → is_size size ≡ t
+        → ◌≡◌ {A = Reads ℕ} (Ok p) (if t then uint_at size v else Err (UnsupportedAddressSize size))
+        → is_size size ≡ true
+    cases true is h = is
+    cases false is h = absurd (cc)
+
+-- 0 is below the least tombstone of each size
+pub zero-address : (size : ℕ) → is_size size ≡ true → nat_lt 0 (min_tombstone size) ≡ true
+zero-address size h = elim (eqb_tells size 1) [
+  | inl one ↦ rw one.1 refl
+  | inr not_one ↦ elim (eqb_tells size 2) [
+    | inl two ↦ rw two.1 refl
+    | inr not_two ↦ elim (eqb_tells size 4) [
+      | inl four ↦ rw four.1 refl
+      | inr not_four ↦ elim (eqb_tells size 8) [
+        | inl eight ↦ rw eight.1 refl
+        | inr not_eight ↦ absurd
+            (let none : false ≡ true = rw (not_one.0, not_two.0, not_four.0, not_eight.0) at h in
+            cc)
+      ]
+    ]
+  ]
+]
