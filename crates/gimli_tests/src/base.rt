@@ -1,0 +1,8 @@
+//! Tests of `gimli_base`.
+
+mod endianity;
+mod error;
+mod newtypes;
+mod offset;
+mod readers;
+mod sections;

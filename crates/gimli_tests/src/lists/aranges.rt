@@ -1,0 +1,191 @@
+//! Sets of ranges of addresses.
+
+use crate::lists::samples::{FIRST_PLACE, Part, part, whole};
+use crate::samples::{has_bytes, next_of};
+use gimli_base::{Error, LittleEndian, Reader, Result, RunTimeEndian, Section, SectionId};
+use gimli_lists::{
+    ArangeEntry, ArangeEntryIter, ArangeHeader, ArangeHeaderIter, DebugAranges, Range,
+};
+use std::process::Abort;
+use std::test::Fail;
+
+// A set whose addresses have one byte, with the tuples (1, 2), (3, 4), (0xfe, 1), (0xfd, 3) and (9, 1).
+const TURNS: [u8; 22] = [
+    0x12, 0, 0, 0, 2, 0, 1, 2, 3, 4, 1, 0, 1, 2, 3, 4, 0xfe, 1, 0xfd, 3, 9, 1,
+];
+
+// Two equal sets whose addresses have one byte, with the tuples (1, 2) and (3, 4).
+const TWO_SETS: [u8; 32] = [
+    0x0c, 0, 0, 0, 2, 0, 1, 2, 3, 4, 1, 0, 1, 2, 3, 4, 0x0c, 0, 0, 0, 2, 0, 1, 2, 3, 4, 1, 0, 1, 2,
+    3, 4,
+];
+
+// The next raw entry.
+fn raw_entry_of<R: Reader>(rt: &impl Abort, entries: &mut ArangeEntryIter<R>) -> ArangeEntry {
+    let found = entries.next_raw().expect(rt, "refused");
+    found.expect(rt, "no raw entry")
+}
+
+// The next range.
+fn entry_of<R: Reader>(rt: &impl Abort, entries: &mut ArangeEntryIter<R>) -> ArangeEntry {
+    let found = entries.next().expect(rt, "refused");
+    found.expect(rt, "no range")
+}
+
+// The next set.
+fn header_of<R: Reader>(rt: &impl Abort, headers: &mut ArangeHeaderIter<R>) -> ArangeHeader<R> {
+    let found = headers.next().expect(rt, "refused");
+    found.expect(rt, "no set")
+}
+
+// The first set of a section.
+fn first_set<R: Reader>(rt: &impl Abort, reader: R) -> ArangeHeader<R> {
+    header_of(rt, &mut DebugAranges::from(reader).headers())
+}
+
+// Tries the range of an entry.
+fn tries_range(rt: &impl Abort, entry: &ArangeEntry, begin: u64, end: u64) {
+    assert_eq!(rt; entry.range(), Range { begin, end });
+}
+
+// What a raw entry stands for.
+fn convert<R: Reader>(
+    entries: &ArangeEntryIter<R>,
+    raw: ArangeEntry,
+) -> Result<Option<ArangeEntry>> {
+    entries.convert_raw(raw)
+}
+
+// Tries raw entries and ranges in turn: each call goes on where the other stopped.
+fn tries_turns<R: Reader>(rt: &impl Abort, mut entries: ArangeEntryIter<R>) {
+    let raw = raw_entry_of(rt, &mut entries);
+    tries_range(rt, &raw, 1, 0);
+    let found = entry_of(rt, &mut entries);
+    tries_range(rt, &found, 3, 7);
+    let second = raw_entry_of(rt, &mut entries);
+    assert_eq!(rt; (second.address(), second.length()), (0xfe, 1));
+    let third = raw_entry_of(rt, &mut entries);
+    // what a raw entry stands for does not depend on the place
+    let converted = convert(&entries, raw).expect(rt, "refused");
+    tries_range(rt, &converted.expect(rt, "no range"), 1, 3);
+    assert_eq!(rt; convert(&entries, second), Ok(None));
+    assert_eq!(rt; convert(&entries, third), Err(Error::AddressOverflow));
+    // and leaves the place: a range whose end is given is converted again
+    assert_eq!(rt; convert(&entries, found.copy()), Ok(Some(found)));
+    let last = entry_of(rt, &mut entries);
+    tries_range(rt, &last, 9, 10);
+    tries_no_entry(rt, &mut entries);
+}
+
+// Tries that no entry is left, by each call.
+fn tries_no_entry<R: Reader>(rt: &impl Abort, entries: &mut ArangeEntryIter<R>) {
+    assert_eq!(rt; entries.next_raw(), Ok(None));
+    assert_eq!(rt; entries.next(), Ok(None));
+    assert!(rt; next_of(entries).is_none());
+}
+
+#[test]
+fn gives_raw_entries_and_ranges_in_turn(rt: HostRuntime) {
+    tries_turns(&rt, first_set(&rt, part(&TURNS)).entries());
+    tries_turns(&rt, first_set(&rt, whole(&rt, &TURNS)).entries());
+}
+
+// Entries are ordered by where they begin, then by where they end, and then by their lengths. A raw one has the end 0.
+#[test]
+fn are_ordered_by_their_fields(rt: HostRuntime) -> std::result::Result<(), Fail> {
+    let bytes = [
+        0x10, 0, 0, 0, 2, 0, 1, 2, 3, 4, 1, 0, 1, 2, 1, 3, 2, 1, 2, 1,
+    ];
+    let header = first_set(&rt, part(&bytes));
+    let mut entries = header.entries();
+    let first = entry_of(&rt, &mut entries);
+    let second = entry_of(&rt, &mut entries);
+    let third = entry_of(&rt, &mut entries);
+    let fourth = entry_of(&rt, &mut entries);
+    assert!(rt; first < second && second < third && first < third);
+    assert!(rt; third == fourth && third <= fourth && third >= fourth && second != third);
+    let mut raw = header.entries();
+    let low = raw_entry_of(&rt, &mut raw);
+    let high = raw_entry_of(&rt, &mut raw);
+    assert!(rt; low < high && low != high && low.range() == high.range() && low < first);
+    let text = format!(in rt.alloc(); "{first:?}")?;
+    let wanted = "ArangeEntry { range: Range { begin: 1, end: 3 }, length: 2 }";
+    assert_eq!(rt; text.as_str(), wanted);
+    Ok(())
+}
+
+// Tries the next set by a copy, by the call, and by the iterator, which all answer the same.
+fn tries_next_set<R: Reader + PartialEq>(rt: &impl Abort, headers: &mut ArangeHeaderIter<R>) {
+    let found = header_of(rt, &mut headers.copy());
+    let item = next_of(&mut headers.copy()).expect(rt, "no set");
+    // the steps of the copies left the source
+    let header = header_of(rt, headers);
+    assert_eq!(rt; header, found);
+    assert_eq!(rt; item, Ok(found));
+    assert_eq!(rt; header.copy(), header);
+    tries_copied_entries(rt, header.copy().entries());
+}
+
+// Tries copies of two ranges, by the call and by the iterator, and of the first of them.
+fn tries_copied_entries<R: Reader>(rt: &impl Abort, mut entries: ArangeEntryIter<R>) {
+    let item = next_of(&mut entries.copy()).expect(rt, "no item");
+    let entry = entry_of(rt, &mut entries);
+    assert_eq!(rt; item, Ok(entry.copy()));
+    tries_range(rt, &entry.copy(), 1, 3);
+    let last = entry_of(rt, &mut entries.copy());
+    tries_range(rt, &last, 3, 7);
+    assert_eq!(rt; last, entry_of(rt, &mut entries));
+    tries_no_entry(rt, &mut entries);
+}
+
+// Tries copies of a section of two equal sets, and that no set is left after them.
+fn tries_copies<R: Reader + PartialEq>(rt: &impl Abort, reader: R) {
+    let source = DebugAranges::from(reader);
+    let section = source.copy();
+    assert!(rt; has_bytes(section.reader(), &TWO_SETS));
+    let mut headers = section.headers();
+    tries_next_set(rt, &mut headers);
+    tries_next_set(rt, &mut headers);
+    assert_eq!(rt; headers.next(), Ok(None));
+    assert!(rt; next_of(&mut headers).is_none());
+}
+
+#[test]
+fn copies_answer_what_the_sources_answer(rt: HostRuntime) {
+    tries_copies(&rt, part(&TWO_SETS));
+    tries_copies(&rt, whole(&rt, &TWO_SETS));
+}
+
+// Headers are equal where all their parts are, of the reader the bytes and the order.
+#[test]
+fn headers_are_compared_by_their_parts(rt: HostRuntime) {
+    let mut other = TWO_SETS;
+    other[13] = 3;
+    let header = first_set(&rt, part(&TWO_SETS));
+    let same = DebugAranges::new(&TWO_SETS, LittleEndian);
+    let different = DebugAranges::new(&other, LittleEndian);
+    assert!(rt; header_of(&rt, &mut same.headers()) == header);
+    assert!(rt; header_of(&rt, &mut different.headers()) != header);
+}
+
+// Tries which section it is, and what it holds.
+fn tries_section<R: Reader>(rt: &impl Abort, section: &DebugAranges<R>, first: u64) {
+    let id = <DebugAranges<R> as Section<R>>::id();
+    assert_eq!(rt; id, SectionId::DebugAranges);
+    assert!(rt; has_bytes(section.reader(), &TWO_SETS));
+    assert_eq!(rt; section.reader().offset_id().0, first);
+}
+
+#[test]
+fn is_a_section(rt: HostRuntime) {
+    tries_section(&rt, &DebugAranges::new(&TWO_SETS, RunTimeEndian::Big), 0);
+    let section = DebugAranges::from(part(&TWO_SETS));
+    tries_section(&rt, &section, FIRST_PLACE);
+    tries_section(&rt, &section.borrow(|reader| reader.copy()), FIRST_PLACE);
+}
+
+#[test]
+fn is_empty_by_default(rt: HostRuntime) {
+    let section = DebugAranges::<Part<'_>>::default();
+    assert_eq!(rt; section.headers().next(), Ok(None));
+}

@@ -1,0 +1,98 @@
+//! The readers, tables and units that the tests try, and what they ask of them.
+
+use gimli_base::{
+    Abbreviations, DebugAbbrev, DebugAbbrevOffset, Encoding, EndianSlice, Endianity, Error, Format,
+    LittleEndian, Reader, ReaderOffset, ReaderOffsetId, Result, SectionId, WholeSlice,
+};
+use gimli_units::{UnitHeader, UnitSectionOffset, UnitType};
+use std::alloc::Global;
+use std::hash::{DefaultHasher, Hash, Hasher};
+use std::process::Abort;
+
+/// Code 1: the tag 0x2e, children, and the attribute 0x03 of form string.
+pub(crate) const TABLE_NESTED_STRINGS: [u8; 8] = [0x01, 0x2e, 0x01, 0x03, 0x08, 0x00, 0x00, 0x00];
+
+/// Three entries of the nested strings, each the child of the one before, and three nulls.
+pub(crate) const NESTED_STRINGS: [u8; 18] = [
+    0x01, 0x66, 0x6f, 0x6f, 0x00, 0x01, 0x66, 0x6f, 0x6f, 0x00, 0x01, 0x66, 0x6f, 0x6f, 0x00, 0x00,
+    0x00, 0x00,
+];
+
+/// A reader that keeps what is left of these bytes, from the place 100 on.
+pub(crate) fn part<E: Endianity>(bytes: &[u8], endian: E) -> EndianSlice<'_, E> {
+    let _length = bytes.len();
+    EndianSlice::new_at(bytes, endian, 100)
+}
+
+/// A reader that keeps these bytes and where in them it stands, from the place 100 on.
+pub(crate) fn whole<'a, E: Endianity>(
+    rt: &impl Abort,
+    bytes: &'a [u8],
+    endian: E,
+) -> WholeSlice<'a, E> {
+    assert!(rt; bytes.len() < 0x1_0000);
+    WholeSlice::new_at(bytes, endian, 100)
+}
+
+/// The table with which these bytes begin.
+pub(crate) fn table_of(alloc: Global, bytes: &[u8]) -> Result<Abbreviations<Global>> {
+    DebugAbbrev::new(bytes, LittleEndian).abbreviations(alloc, DebugAbbrevOffset(0))
+}
+
+/// Version 4, the 32-bit format, and addresses of 4 bytes.
+pub(crate) fn version_4() -> Encoding {
+    Encoding {
+        format: Format::Dwarf32,
+        version: 4,
+        address_size: 4,
+    }
+}
+
+/// The compilation unit of that encoding with these entries, the first of them at 11.
+pub(crate) fn unit_of<R: Reader>(rt: &impl Abort, entries: R) -> UnitHeader<R> {
+    let zero = R::Offset::from_u8(0);
+    let unit_length = R::Offset::from_u8(7)
+        .checked_add(entries.len())
+        .expect(rt, "too long");
+    let whole = R::Offset::from_u8(12).checked_add(unit_length);
+    assert!(rt; whole.is_some());
+    UnitHeader::new(
+        version_4(),
+        unit_length,
+        UnitType::Compilation,
+        DebugAbbrevOffset(zero),
+        SectionId::DebugInfo,
+        UnitSectionOffset(zero),
+        entries,
+    )
+}
+
+/// The next item of an iterator.
+pub(crate) fn next_of<I: Iterator>(items: &mut I) -> Option<I::Item>
+    requires { I.can_next items.now }
+{
+    items.next()
+}
+
+/// The refusal of missing bytes at a place.
+pub(crate) fn end_at(place: u64) -> Error {
+    Error::UnexpectedEof(ReaderOffsetId(place))
+}
+
+/// Whether a reader has these bytes left, and no other.
+pub(crate) fn has_bytes<R: Reader>(reader: &R, bytes: &[u8]) -> bool {
+    let mut rest = reader.copy();
+    for byte in bytes {
+        if rest.read_u8() != Ok(*byte) {
+            return false;
+        }
+    }
+    rest.is_empty()
+}
+
+/// What a hash function makes of a value.
+pub(crate) fn hash_of<T: Hash>(value: &T) -> u64 {
+    let mut state = DefaultHasher::new();
+    value.hash(&mut state);
+    state.finish()
+}

@@ -1,0 +1,10 @@
+//! Tests of `gimli_units`.
+
+mod attribute;
+mod counting;
+mod entry;
+mod header;
+mod hostile;
+mod raw;
+mod samples;
+mod section;

@@ -1,0 +1,111 @@
+use crate::samples::version_4;
+use crate::units::samples::Input;
+use gimli_base::{DebugAbbrevOffset, EndianSlice, LittleEndian, SectionId};
+use gimli_units::{
+    DebugInfoOffset, DebugTypesOffset, UnitHeader, UnitOffset, UnitSectionOffset, UnitType,
+};
+use std::process::Abort;
+
+// The sections in which no bytes give a unit.
+const OTHERS: [SectionId; 8] = [
+    SectionId::DebugAbbrev,
+    SectionId::DebugAddr,
+    SectionId::DebugAranges,
+    SectionId::DebugLoc,
+    SectionId::DebugLocLists,
+    SectionId::DebugRanges,
+    SectionId::DebugRngLists,
+    SectionId::DebugStr,
+];
+
+// A unit of a section, whose length is 0x14; its entries begin at 0x0b.
+fn unit_in(section: SectionId, offset: usize) -> UnitHeader<Input<'static>> {
+    UnitHeader::new(
+        version_4(),
+        0x10,
+        UnitType::Compilation,
+        DebugAbbrevOffset(0),
+        section,
+        UnitSectionOffset(offset),
+        EndianSlice::new(&[1, 2, 3, 4, 5, 6, 7, 8, 9], LittleEndian),
+    )
+}
+
+// Tries an offset of the section in which the unit lies, which is neither `.debug_info` nor `.debug_types`.
+fn tries_own(rt: &impl Abort, unit: &UnitHeader<Input<'_>>) {
+    let own = UnitSectionOffset(0x2b);
+    assert_eq!(rt; own.to_unit_offset(unit), Some(UnitOffset(0x0b)));
+    assert_eq!(rt; own.to_debug_info_offset(unit), None);
+    assert_eq!(rt; own.to_debug_types_offset(unit), None);
+    assert_eq!(rt; UnitSectionOffset(0x34).to_unit_offset(unit), None);
+}
+
+// Tries offsets of `.debug_info` and of `.debug_types` in a unit that lies in neither.
+fn tries_others(rt: &impl Abort, unit: &UnitHeader<Input<'_>>) {
+    let (info, types) = (DebugInfoOffset(0x2b), DebugTypesOffset(0x2b));
+    assert_eq!(rt; info.to_unit_offset(unit), None);
+    assert_eq!(rt; info.to_unit_section_offset(unit), None);
+    assert_eq!(rt; types.to_unit_offset(unit), None);
+    assert_eq!(rt; types.to_unit_section_offset(unit), None);
+}
+
+// Tries an offset of a unit at 0x20 that lies in neither section.
+fn tries_of_unit(rt: &impl Abort, unit: &UnitHeader<Input<'_>>) {
+    let offset = UnitOffset(0x0b);
+    assert!(rt; unit.offset() == UnitSectionOffset(0x20));
+    assert_eq!(rt;
+        offset.to_unit_section_offset(unit),
+        UnitSectionOffset(0x2b)
+    );
+    assert_eq!(rt; offset.to_debug_info_offset(unit), None);
+    assert_eq!(rt; offset.to_debug_types_offset(unit), None);
+    assert!(rt; offset.is_in_bounds(unit));
+}
+
+#[test]
+fn offsets_of_other_sections_are_of_neither_kind(rt: HostRuntime) {
+    for section in OTHERS {
+        let unit = unit_in(section, 0x20);
+        assert_eq!(rt; unit.section(), section);
+        assert_eq!(rt;
+            (unit.debug_info_offset(), unit.debug_types_offset()),
+            (None, None)
+        );
+        tries_own(&rt, &unit);
+        tries_others(&rt, &unit);
+        tries_of_unit(&rt, &unit);
+    }
+}
+
+// Tries what the last offset of each kind is in a unit.
+fn tries_last(rt: &impl Abort, unit: &UnitHeader<Input<'_>>, wanted: Option<UnitOffset<usize>>) {
+    let last = UnitSectionOffset(usize::MAX);
+    assert_eq!(rt; last.to_unit_offset(unit), wanted);
+    let types = DebugTypesOffset(usize::MAX);
+    assert_eq!(rt; types.to_unit_offset(unit), wanted);
+}
+
+#[test]
+fn reaches_the_last_offset(rt: HostRuntime) {
+    // the unit ends where the offsets do
+    let start = usize::MAX - 0x13;
+    let unit = UnitHeader::new(
+        version_4(),
+        0x10,
+        UnitType::Compilation,
+        DebugAbbrevOffset(0),
+        SectionId::DebugTypes,
+        UnitSectionOffset(start),
+        EndianSlice::new(&[1, 2, 3, 4, 5, 6, 7, 8, 9], LittleEndian),
+    );
+    tries_last(&rt, &unit, Some(UnitOffset(0x13)));
+    let last = UnitSectionOffset(usize::MAX);
+    let types = DebugTypesOffset(usize::MAX);
+    assert_eq!(rt; UnitOffset(0x13).to_unit_section_offset(&unit), last);
+    assert_eq!(rt; UnitOffset(0x13).to_debug_types_offset(&unit), Some(types));
+    assert_eq!(rt; UnitOffset(0x13).to_debug_info_offset(&unit), None);
+    // after another unit
+    let unit = unit_in(SectionId::DebugTypes, 0x20);
+    tries_last(&rt, &unit, None);
+    assert!(rt; !UnitOffset(usize::MAX).is_in_bounds(&unit));
+}

@@ -1,0 +1,7 @@
+//! Tests of `gimli_walk`, and of the calls below it where a write fails and where the input is large.
+
+mod deep;
+mod faults;
+mod large;
+mod samples;
+mod walks;

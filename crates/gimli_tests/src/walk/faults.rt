@@ -1,0 +1,81 @@
+ghost use Rattle.std.specs.Prelude.{None};
+
+use crate::samples::TABLE_NESTED_STRINGS;
+use crate::walk::samples::THREE_NESTED;
+use gimli_walk::run_words;
+use std::alloc::Global;
+use std::io::{Error, ErrorKind, Write};
+use std::process::Abort;
+
+// What a file of this name holds, if it can be read.
+fn file(alloc: Global, name: &str) -> Option<Vec<u8>> {
+    match name {
+        "info" => Vec::from_slice(alloc, &THREE_NESTED).ok(),
+        "abbrev" => Vec::from_slice(alloc, &TABLE_NESTED_STRINGS).ok(),
+        _ => None,
+    }
+}
+
+// Takes all bytes, and fails when they are to be passed on.
+#[derive(Drop)]
+struct NeverFlushed;
+
+impl Write for NeverFlushed {
+    ghost contents = { λ _. None };
+
+    fn write(&mut self, buf: &[u8]) -> std::io::Result<usize> {
+        Ok(buf.len())
+    }
+
+    fn flush(&mut self) -> std::io::Result<()> {
+        Err(Error::from(ErrorKind::Other))
+    }
+}
+
+// Tries words whose text can't be written: they end with status 3, and say nothing.
+fn tries_words<W: Write>(rt: &impl Abort, alloc: Global, words: &[&str], out: &mut W) {
+    let mut err = Vec::new(alloc);
+    let status = run_words(
+        alloc,
+        words,
+        |name: &str| -> Option<Vec<u8>> { file(alloc, name) },
+        out,
+        &mut err,
+    );
+    assert_eq!(rt; status, 3, "at {words:?}");
+    assert!(rt; err.is_empty());
+}
+
+#[test]
+fn ends_without_a_word_where_a_write_fails(rt: HostRuntime) {
+    let cases: [&[&str]; 3] = [
+        &["rows", "info", "abbrev"],
+        &["cursor", "info", "abbrev", "e"],
+        &["plain", "info", "abbrev", "e"],
+    ];
+    for words in cases {
+        let mut space = [0u8; 8];
+        let mut out: &mut [u8] = &mut space;
+        tries_words(&rt, rt.alloc(), words, &mut out);
+        tries_words(&rt, rt.alloc(), words, &mut NeverFlushed);
+    }
+}
+
+#[test]
+fn ignores_a_fault_of_the_second_writer(rt: HostRuntime) {
+    let cases: [(&[&str], u8); 2] = [(&["rows"], 2), (&["rows", "gone", "abbrev"], 3)];
+    for (words, wanted) in cases {
+        let mut out = Vec::new(rt.alloc());
+        let mut space = [0u8; 3];
+        let mut err: &mut [u8] = &mut space;
+        let status = run_words(
+            rt.alloc(),
+            words,
+            |name: &str| -> Option<Vec<u8>> { file(rt.alloc(), name) },
+            &mut out,
+            &mut err,
+        );
+        assert_eq!(rt; status, wanted, "at {words:?}");
+        assert!(rt; out.is_empty());
+    }
+}
