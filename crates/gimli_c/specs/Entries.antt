@@ -1,0 +1,86 @@
+-- The rows and attributes that a call writes, of the rows ahead of a place.
+use Rattle.std.specs.Prelude.{◌≡◌, ℕ, zero, suc, ◌+◌, ◌-◌, nat_lt, nat_le, cond, if◌then◌else◌, List, [], ◌∷◌, ◌++◌, map, take, drop, length, Option, Some, None, Result, Ok, Err}
+use Rattle.gimli_base.specs.declared.error.Error.{Error}
+use Rattle.gimli_units.specs.Entry.{Attr}
+use Rattle.gimli_units.specs.Rows.{Row, Ahead}
+use Rattle.gimli_c.specs.declared.attrs.GimliAttr.{GimliAttr}
+use Rattle.gimli_c.specs.declared.entries.GimliEntry.{GimliEntry}
+use Rattle.gimli_c.specs.declared.entries.GimliFilled.{GimliFilled}
+use Rattle.gimli_c.specs.declared.rows.GimliPlace.{GimliPlace}
+use Rattle.gimli_c.specs.Status.{more, end, row_refused, memory_refused, row_memory_refused}
+use Rattle.gimli_c.specs.Attrs.{attr_of}
+use Rattle.gimli_c.specs.Fronts.{first_place}
+
+abbrev pub attributes_of : Row → List Attr
+attributes_of r = r.entry.attributes
+
+-- the attributes of rows, one behind the other
+abbrev pub flat : List Row → List Attr
+flat [] = []
+flat (r ∷ rs) = attributes_of r ++ flat rs
+
+-- a row whose first attribute has this index
+abbrev pub numbered_row : ℕ → Row → GimliEntry
+numbered_row first r = record { offset = r.offset; depth = r.depth; first = first; attributes = length (attributes_of r); tag = r.entry.tag.0; has_children = cond r.entry.has_children 1 0 }
+
+abbrev pub numbered : ℕ → List Row → List GimliEntry
+numbered first [] = []
+numbered first (r ∷ rs) = numbered_row first r ∷ numbered (first + length (attributes_of r)) rs
+
+-- how many rows from the front there is room for, and space for all their attributes
+abbrev pub fit : ℕ → ℕ → List Row → ℕ
+fit zero space rows = 0
+fit (suc room) space [] = 0
+fit (suc room) space (r ∷ rs) = if nat_le (length (attributes_of r)) space then suc (fit room (space - length (attributes_of r)) rs) else 0
+
+-- the status where so many of all rows ahead are written, and there is room for so many
+abbrev pub status_fit : ℕ → ℕ → ℕ → Option Error → ℕ
+status_fit room count total None = if nat_lt count total then more else end
+status_fit room count total (Some e) = if nat_lt count total then more else if nat_lt count room then row_refused e else more
+
+-- how many attributes the first of these rows has
+abbrev pub first_wants : List Row → ℕ
+first_wants [] = 0
+first_wants (r ∷ rs) = length (attributes_of r)
+
+-- how many attributes the row behind the first `count` has, where there is room for it
+abbrev pub wanted_of : ℕ → ℕ → List Row → ℕ
+wanted_of room count rows = if nat_lt count room then first_wants (drop count rows) else 0
+
+-- how much is written
+abbrev pub wrote : ℕ → ℕ → ℕ → GimliFilled
+wrote rows attributes wanted =
+    record { rows = rows; attributes = attributes; wanted = wanted }
+
+-- Rows from the front of those ahead are written with their attributes, the rest stays as it was,
+-- and the place is behind them. They are as many as fit, unless memory was refused.
+pub record FilledEntries (ahead : Ahead) (old : List GimliEntry) (old_attrs : List GimliAttr)
+    (place : GimliPlace) (new : List GimliEntry) (attrs : List GimliAttr) (n : GimliFilled)
+    (status : ℕ) : Type 0 where
+  pub rows : new ≡ numbered 0 (take n.rows ahead.rows) ++ drop n.rows old
+  pub attributes : attrs
+      ≡ map attr_of (flat (take n.rows ahead.rows)) ++ drop n.attributes old_attrs
+  pub used_is : n.attributes ≡ length (flat (take n.rows ahead.rows))
+  pub behind : place ≡ first_place (drop n.rows ahead.rows) ahead.stop ahead.stop_depth
+  pub whole : (status ≡ memory_refused → ⊥) → (status ≡ row_memory_refused → ⊥)
+      → (n.rows ≡ fit (length old) (length old_attrs) ahead.rows)
+      × (n.wanted ≡ wanted_of (length old) n.rows ahead.rows)
+      × (status ≡ status_fit (length old) n.rows (length ahead.rows) ahead.refusal)
+
+-- nothing is written, and the place stays
+pub record StoppedEntries (stop : ℕ) (from : GimliPlace) (old : List GimliEntry)
+    (old_attrs : List GimliAttr) (place : GimliPlace) (new : List GimliEntry)
+    (attrs : List GimliAttr) (n : GimliFilled) (status : ℕ) : Type 0 where
+  pub rows : new ≡ old
+  pub attributes : attrs ≡ old_attrs
+  pub none : n ≡ wrote 0 0 0
+  pub place_stays : place ≡ from
+  pub whole : (status ≡ memory_refused → ⊥) → status ≡ stop
+
+-- what a call does
+abbrev pub AreTold : Result Ahead ℕ → GimliPlace → List GimliEntry → List GimliAttr → GimliPlace
+    → List GimliEntry → List GimliAttr → GimliFilled → ℕ → Type 0
+AreTold (Ok ahead) from old old_attrs place new attrs n status =
+    FilledEntries ahead old old_attrs place new attrs n status
+AreTold (Err stop) from old old_attrs place new attrs n status =
+    StoppedEntries stop from old old_attrs place new attrs n status

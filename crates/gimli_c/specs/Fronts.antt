@@ -1,0 +1,97 @@
+-- The rows that a call writes, of those ahead of a place.
+use Rattle.std.specs.Prelude.{◌≡◌, ℕ, ◌+◌, ◌-◌, ◌^◌, ◌==◌, nat_lt, min, ℤ, ◌+ℤ◌, unsigned_abs, cond, if◌then◌else◌, List, [], ◌∷◌, ◌++◌, map, take, drop, length, Option, Some, None, Result, Ok, Err}
+use Rattle.gimli_base.specs.declared.common.SectionId.{SectionId}
+use Rattle.gimli_base.specs.declared.error.Error.{Error}
+use Rattle.gimli_base.specs.declared.error.Error.TheVariants.{OffsetOutOfBounds}
+use Rattle.gimli_base.specs.View.{View, cut}
+use Rattle.gimli_base.specs.Abbreviations.{Map, map_at}
+use Rattle.gimli_base.specs.Table.{found}
+use Rattle.gimli_units.specs.Entry.{entry_at}
+use Rattle.gimli_units.specs.RawPlace.{RawPlace}
+use Rattle.gimli_units.specs.Rows.{Row, Ahead, ahead_at}
+use Rattle.gimli_units.specs.Unit.{UnitView, whole_length, header_size, in_bounds}
+use Rattle.gimli_headers.specs.Units.{header_at}
+use Rattle.gimli_c.specs.declared.rows.GimliRow.{GimliRow}
+use Rattle.gimli_c.specs.declared.sections.GimliSections.{GimliSections}
+use Rattle.gimli_c.specs.declared.rows.GimliPlace.{GimliPlace}
+use Rattle.gimli_c.specs.Units.{units_id, units_view, abbreviations_view}
+use Rattle.gimli_c.specs.Status.{more, end, too_deep, refused, row_refused, memory_refused, row_memory_refused}
+
+abbrev pub row_of : Row → GimliRow
+row_of r = record { offset = r.offset; depth = r.depth; tag = r.entry.tag.0; has_children = cond r.entry.has_children 1 0 }
+
+abbrev pub at : ℕ → ℤ → GimliPlace
+at offset depth = record { offset = offset; depth = depth }
+
+-- the rows ahead of a reader of entries, whose depths are counted from `base`
+abbrev pub ahead_of : ℕ → ℤ → RawPlace → Ahead
+ahead_of limit base p = ahead_at (entry_at limit p.encoding (found p.abbreviations)) p.end (base +ℤ p.depth) p.rest
+
+-- the rows of a unit from a place on, which is in bounds or at the unit's end
+abbrev pub rows_from : ℕ → UnitView → Map → GimliPlace → Ahead
+rows_from limit u declared place =
+    ahead_at (entry_at limit u.encoding declared) (whole_length u) place.depth (cut (place.offset - header_size u) u.entries)
+
+-- the rows of a unit from a place on, or the status of a call that reads none
+abbrev pub unit_ahead : ℕ → UnitView → Map → GimliPlace → Result Ahead ℕ
+unit_ahead limit u declared place =
+    if place.offset == whole_length u then Ok (rows_from limit u declared place)
+    else if in_bounds u place.offset then
+    (if nat_lt (unsigned_abs place.depth + (whole_length u - place.offset)) (2 ^ 63) then Ok (rows_from limit u declared place) else Err too_deep)
+    else Err (refused (OffsetOutOfBounds place.offset))
+
+abbrev pub declared_ahead : ℕ → UnitView → Result Map Error → GimliPlace → Result Ahead ℕ
+declared_ahead limit u (Ok declared) place = unit_ahead limit u declared place
+declared_ahead limit u (Err e) place = Err (refused e)
+
+abbrev pub read_ahead : ℕ → Result UnitView Error → View → GimliPlace → Result Ahead ℕ
+read_ahead limit (Ok u) declarations place = declared_ahead limit u (map_at u.abbreviations declarations) place
+read_ahead limit (Err e) declarations place = Err (refused e)
+
+-- the rows from a place on, of the unit at an offset of a section
+abbrev pub rows_ahead : ℕ → SectionId → View → View → ℕ → GimliPlace → Result Ahead ℕ
+rows_ahead limit section units abbreviations unit place =
+    read_ahead limit (header_at limit section unit units) abbreviations place
+
+-- the rows from a place on, of the unit at an offset of a caller's units
+abbrev pub section_rows : GimliSections → ℕ → GimliPlace → Result Ahead ℕ
+section_rows s unit place =
+    rows_ahead (2 ^ 64) (units_id s) (units_view s) (abbreviations_view s) unit place
+
+-- what is ahead behind so many rows
+abbrev pub behind_rows : ℕ → Ahead → Ahead
+behind_rows count a = record { rows = drop count a.rows; refusal = a.refusal; stop = a.stop; stop_depth = a.stop_depth }
+
+-- the place of the first row, or where the rows stop
+abbrev pub first_place : List Row → ℕ → ℤ → GimliPlace
+first_place [] stop stop_depth = record { offset = stop; depth = stop_depth }
+first_place (r ∷ rs) stop stop_depth = record { offset = r.offset; depth = r.depth }
+
+-- the status where so many rows are ahead, with how they end, and there is room for so many
+abbrev pub status_at : ℕ → ℕ → Option Error → ℕ
+status_at room count None = if nat_lt room count then more else end
+status_at room count (Some e) = if nat_lt count room then row_refused e else more
+
+-- Rows from the front of those ahead are written, the rest stays as it was, and the place is behind them. They are all, or as many as there is
+-- room for, unless memory was refused.
+pub record Filled (ahead : Ahead) (old : List GimliRow) (place : GimliPlace) (new : List GimliRow) (count status : ℕ) : Type 0 where
+  pub rows : new ≡ map row_of (take count ahead.rows) ++ drop count old
+  pub behind : place ≡ first_place (drop count ahead.rows) ahead.stop ahead.stop_depth
+  pub whole : (status ≡ memory_refused → ⊥) → (status ≡ row_memory_refused → ⊥) → (count ≡ min (length old) (length ahead.rows)) × (status ≡ status_at (length old) (length ahead.rows) ahead.refusal)
+
+-- no row is written, and the place stays
+pub record Stopped (stop : ℕ) (from : GimliPlace) (old : List GimliRow) (place : GimliPlace) (new : List GimliRow) (count status : ℕ) : Type 0 where
+  pub rows : new ≡ old
+  pub none : count ≡ 0
+  pub place_stays : place ≡ from
+  pub whole : (status ≡ memory_refused → ⊥) → status ≡ stop
+
+-- what a call does
+abbrev pub ToldRows : Result Ahead ℕ → GimliPlace → List GimliRow → GimliPlace → List GimliRow → ℕ → ℕ → Type 0
+ToldRows (Ok ahead) from old place new count status = Filled ahead old place new count status
+ToldRows (Err stop) from old place new count status = Stopped stop from old place new count status
+
+-- from the place behind so many rows the next call goes on with the others
+abbrev pub Resumes : Result Ahead ℕ → ℕ → Result Ahead ℕ → Type 0
+Resumes (Ok ahead) count next = next ≡ Ok (behind_rows count ahead)
+Resumes (Err stop) count next = next ≡ Err stop

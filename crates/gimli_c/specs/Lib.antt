@@ -1,0 +1,5 @@
+pub mod Status
+pub mod Units
+pub mod Fronts
+pub mod Attrs
+pub mod Entries

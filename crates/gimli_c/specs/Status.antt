@@ -1,0 +1,27 @@
+-- Statuses.
+use Rattle.std.specs.Prelude.{ℕ, ◌+◌}
+use Rattle.gimli_base.specs.declared.error.Error.{Error}
+use Rattle.gimli_base.specs.Refusal.{number_of}
+
+abbrev pub more : ℕ
+more = 0
+
+abbrev pub end : ℕ
+end = 1
+
+abbrev pub too_deep : ℕ
+too_deep = 2
+
+abbrev pub refused : Error → ℕ
+refused e = 256 + number_of e
+
+-- a refusal of what is read behind the rows
+abbrev pub row_refused : Error → ℕ
+row_refused e = 512 + number_of e
+
+-- that memory was refused, for a table or for a row
+abbrev pub memory_refused : ℕ
+memory_refused = 280
+
+abbrev pub row_memory_refused : ℕ
+row_memory_refused = 536

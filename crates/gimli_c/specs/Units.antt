@@ -1,0 +1,84 @@
+-- The sections that a caller names, and the header of a unit, as numbers.
+use Rattle.std.specs.Prelude.{ℕ, ◌==◌, ◌^◌, if◌then◌else◌, Bool, not, length, List, Result, Ok, Err}
+use Rattle.gimli_base.specs.declared.common.SectionId.{SectionId}
+use Rattle.gimli_base.specs.declared.common.SectionId.TheVariants.{DebugInfo, DebugTypes}
+use Rattle.gimli_base.specs.declared.error.Error.{Error}
+use Rattle.gimli_base.specs.Reading.{word_size_of}
+use Rattle.gimli_base.specs.View.{View}
+use Rattle.gimli_units.specs.declared.unit_type.UnitType.{UnitType}
+use Rattle.gimli_units.specs.declared.unit_type.UnitType.TheVariants.{Compilation, TypeUnit}
+use Rattle.gimli_units.specs.declared.unit_type.UnitType.TheVariants.{Partial, Skeleton}
+use Rattle.gimli_units.specs.declared.unit_type.UnitType.TheVariants.{SplitCompilation, SplitType}
+use Rattle.gimli_units.specs.declared.unit_type.UnitType.TheVariants.{Vendor}
+use Rattle.gimli_units.specs.Unit.{UnitView, whole_length, header_size}
+use Rattle.gimli_headers.specs.Units.{header_at}
+use Rattle.gimli_c.specs.declared.unit.GimliUnit.{GimliUnit}
+use Rattle.gimli_c.specs.declared.sections.GimliSections.{GimliSections}
+use Rattle.gimli_c.specs.Status.{more, end, refused}
+
+-- the view of a section's bytes, in the byte order that is named
+abbrev pub view_in : GimliSections → List ℕ → View
+view_in s bytes = record { big = not (s.big == 0); place = 0; bytes = bytes }
+
+-- the sections of a caller, as views
+abbrev pub units_view : GimliSections → View
+units_view s = view_in s s.units.now
+
+abbrev pub abbreviations_view : GimliSections → View
+abbreviations_view s = view_in s s.abbreviations.now
+
+-- the section of units, by whether it is that of types
+abbrev pub section_id : Bool → SectionId
+section_id types = if types then DebugTypes else DebugInfo
+
+abbrev pub units_id : GimliSections → SectionId
+units_id s = section_id (not (s.types == 0))
+
+-- a unit at another offset
+abbrev pub at_offset : ℕ → UnitView → UnitView
+at_offset offset u = record {
+  encoding = u.encoding;
+  unit_length = u.unit_length;
+  kind = u.kind;
+  abbreviations = u.abbreviations;
+  section = u.section;
+  offset = offset;
+  entries = u.entries;
+}
+
+-- the code of a type of unit, and the id and the offset that it adds to a header
+abbrev pub kind_of : UnitType ℕ → ℕ × ℕ × ℕ
+kind_of Compilation = (1, 0, 0)
+kind_of (TypeUnit signature offset) = (2, signature.0, offset.0)
+kind_of Partial = (3, 0, 0)
+kind_of (Skeleton id) = (4, id.0, 0)
+kind_of (SplitCompilation id) = (5, id.0, 0)
+kind_of (SplitType signature offset) = (6, signature.0, offset.0)
+kind_of (Vendor code) = (code.0, 0, 0)
+
+abbrev pub unit_of : UnitView → GimliUnit
+unit_of u = record {
+  offset = u.offset;
+  length = whole_length u;
+  header_size = header_size u;
+  abbreviations = u.abbreviations;
+  id = (kind_of u.kind).1;
+  type_offset = (kind_of u.kind).2;
+  version = u.encoding.version;
+  kind = (kind_of u.kind).0;
+  address_size = u.encoding.address_size;
+  offset_size = word_size_of u.encoding.format;
+}
+
+-- the status, and the unit that the caller has then
+abbrev pub told_of : Result UnitView Error → GimliUnit → ℕ × GimliUnit
+told_of (Ok u) old = (more, unit_of u)
+told_of (Err e) old = (refused e, old)
+
+abbrev pub unit_told : View → ℕ → Result UnitView Error → GimliUnit → ℕ × GimliUnit
+unit_told section offset read old =
+    if offset == length section.bytes then (end, old) else told_of read old
+
+-- the unit at an offset of a caller's units
+abbrev pub section_unit : GimliSections → ℕ → Result UnitView Error
+section_unit s offset = header_at (2 ^ 64) (units_id s) offset (units_view s)

@@ -1,0 +1,208 @@
+//! Rows with their attributes, filled into what the caller hands over.
+
+ghost use Rattle.std.specs.Prelude.{◌≡◌, ◌+◌, ◌<◌, ◌^◌, length, unsigned_abs};
+ghost use Rattle.gimli_base.specs.Table.{found};
+ghost use Rattle.gimli_units.specs.UnitHeld.{unit_view};
+ghost use Rattle.gimli_c.specs.Units.{section_id};
+ghost use Rattle.gimli_c.specs.Fronts.{at, ahead_of, unit_ahead, rows_ahead, Resumes};
+ghost use Rattle.gimli_c.specs.Entries.{wrote, FilledEntries, AreTold};
+
+use crate::attrs::{GimliAttr, write_attrs};
+use crate::rows::{GimliPlace, place_of};
+use crate::sections::{UnitSections, header_in};
+use crate::status::{END, MORE, TOO_DEEP, refused, row_refused};
+use gimli_base::{Abbreviations, DebugAbbrev, Reader, ReaderOffset, Section};
+use gimli_units::{DebuggingInformationEntry, EntriesRaw, UnitHeader, UnitOffset};
+use std::alloc::Allocator;
+
+/// An entry of a unit, or the null that closes a list of children.
+#[repr(C)]
+#[derive(Clone, Copy, Debug)]
+pub struct GimliEntry {
+    /// Where it stands in the unit.
+    pub offset: u64,
+    /// How deep it stands.
+    pub depth: isize,
+    /// The index of its first attribute among those that the call wrote.
+    pub first: usize,
+    /// The number of its attributes.
+    pub attributes: usize,
+    /// Its tag, 0 for a null.
+    pub tag: u16,
+    /// 1 where children follow it, else 0.
+    pub has_children: u8,
+}
+
+/// How much a call wrote.
+#[repr(C)]
+#[derive(Clone, Copy, Debug)]
+pub struct GimliFilled {
+    /// The number of rows.
+    pub rows: usize,
+    /// The number of attributes.
+    pub attributes: usize,
+    /// Where the row behind those was left since its attributes have no space, their number; else
+    /// 0.
+    pub wanted: usize,
+}
+
+/// What a call answers.
+#[derive(Clone, Copy)]
+pub(crate) struct ToldEntries {
+    pub(crate) status: u32,
+    pub(crate) filled: GimliFilled,
+    pub(crate) place: GimliPlace,
+}
+
+/// Fills rows and attributes of the unit at an offset, from a place on.
+pub(crate) fn read_entries<R: Reader, A: Allocator + Copy>(
+    alloc: A,
+    sections: &UnitSections<R>,
+    unit: R::Offset,
+    offset: R::Offset,
+    depth: isize,
+    rows: &mut [GimliEntry],
+    attrs: &mut [GimliAttr],
+) -> ToldEntries
+    ensures told { let place = at (R.Offset.number offset) depth in
+        let declarations = ⟦<DebugAbbrev<R> as Section<R>>⟧.content sections.now.abbreviations in
+        let ahead = rows_ahead R.Offset.limit (section_id sections.now.types)
+        (R.view sections.now.units) declarations (R.Offset.number unit) in
+        AreTold (ahead place) place rows.old attrs.old result.place rows.new attrs.new
+        result.filled result.status }
+    ensures resumes { let place = at (R.Offset.number offset) depth in
+        let declarations = ⟦<DebugAbbrev<R> as Section<R>>⟧.content sections.now.abbreviations in
+        let ahead = rows_ahead R.Offset.limit (section_id sections.now.types)
+        (R.view sections.now.units) declarations (R.Offset.number unit) in
+        Resumes (ahead place) result.filled.rows (ahead result.place) }
+{
+    let header = match header_in(&sections.units, sections.types, unit) {
+        Ok(header) => header,
+        Err(error) => return stopped(offset, depth, refused(error)),
+    };
+    match header.abbreviations(alloc, &sections.abbreviations) {
+        Ok(table) => unit_entries(alloc, &header, &table, offset, depth, rows, attrs),
+        Err(error) => stopped(offset, depth, refused(error)),
+    }
+}
+
+// No row.
+fn stopped<O: ReaderOffset>(offset: O, depth: isize, status: u32) -> ToldEntries
+    ensures { let place = at (O.number offset) depth in
+        result ≡ record { status = status; filled = wrote 0 0 0; place = place } }
+{
+    ToldEntries {
+        status,
+        filled: GimliFilled {
+            rows: 0,
+            attributes: 0,
+            wanted: 0,
+        },
+        place: GimliPlace {
+            offset: offset.into_u64(),
+            depth,
+        },
+    }
+}
+
+// Fills rows and attributes of a unit with its abbreviations.
+fn unit_entries<R: Reader, A: Allocator + Copy>(
+    alloc: A,
+    unit: &UnitHeader<R>,
+    table: &Abbreviations<A>,
+    offset: R::Offset,
+    depth: isize,
+    rows: &mut [GimliEntry],
+    attrs: &mut [GimliAttr],
+) -> ToldEntries
+    ensures { let place = at (R.Offset.number offset) depth in
+        let ahead = unit_ahead R.Offset.limit (unit_view unit.now) (found table.now) place in
+        AreTold ahead place rows.old attrs.old result.place rows.new attrs.new
+        result.filled result.status }
+{
+    let whole = unit.length_including_self().into_u64();
+    let start = offset.into_u64();
+    if start == whole {
+        return stopped(offset, depth, END);
+    }
+    let mut entries = match unit.entries_raw(table, Some(UnitOffset(offset))) {
+        Ok(entries) => entries,
+        Err(error) => return stopped(offset, depth, refused(error)),
+    };
+    let left = whole - start;
+    let steps = depth.unsigned_abs() as u64;
+    if left >= 1 << 63 || steps >= (1 << 63) - left {
+        return stopped(offset, depth, TOO_DEEP);
+    }
+    fill_entries(alloc, &mut entries, depth, rows, attrs)
+}
+
+// Fills rows and their attributes, the depths counted from `base`.
+fn fill_entries<R: Reader, A: Allocator>(
+    alloc: A,
+    entries: &mut EntriesRaw<'_, R, A>,
+    base: isize,
+    rows: &mut [GimliEntry],
+    attrs: &mut [GimliAttr],
+) -> ToldEntries
+    requires { let bytes = length entries.old.rest.bytes in
+        unsigned_abs base + unsigned_abs entries.old.depth + bytes < 2 ^ 63 }
+    ensures { let ahead = ahead_of R.Offset.limit base entries.old in
+        FilledEntries ahead rows.old attrs.old result.place rows.new attrs.new
+        result.filled result.status }
+{
+    let mut entry = DebuggingInformationEntry::null(alloc);
+    let mut count = 0;
+    let mut used = 0;
+    'rows: while count < rows.len() && !entries.is_empty() {
+        match entries.read_entry(&mut entry) {
+            Ok(_) => {}
+            Err(error) => {
+                return ToldEntries {
+                    status: row_refused(error),
+                    filled: GimliFilled {
+                        rows: count,
+                        attributes: used,
+                        wanted: 0,
+                    },
+                    place: place_of(entries, base),
+                };
+            }
+        }
+        let offset = entry.offset().0.into_u64();
+        let depth = base + entry.depth();
+        let attributes = entry.attrs().len();
+        if attributes > attrs.len() - used {
+            return ToldEntries {
+                status: MORE,
+                filled: GimliFilled {
+                    rows: count,
+                    attributes: used,
+                    wanted: attributes,
+                },
+                place: GimliPlace { offset, depth },
+            };
+        }
+        write_attrs(entry.attrs(), attrs, used);
+        rows[count] = GimliEntry {
+            offset,
+            depth,
+            first: used,
+            attributes,
+            tag: entry.tag().0,
+            has_children: u8::from(entry.has_children()),
+        };
+        count += 1;
+        used += attributes;
+    }
+    let status = if entries.is_empty() { END } else { MORE };
+    ToldEntries {
+        status,
+        filled: GimliFilled {
+            rows: count,
+            attributes: used,
+            wanted: 0,
+        },
+        place: place_of(entries, base),
+    }
+}

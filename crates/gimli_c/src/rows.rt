@@ -1,0 +1,177 @@
+//! Rows, filled into what the caller hands over.
+
+ghost use Rattle.std.specs.Prelude.{◌≡◌, ◌+◌, ◌-◌, ◌<◌, ◌≤◌, ◌^◌, ◌+ℤ◌, length, unsigned_abs};
+ghost use Rattle.gimli_base.specs.Table.{found};
+ghost use Rattle.gimli_units.specs.RawPlace.{next_offset_of};
+ghost use Rattle.gimli_units.specs.Unit.{whole_length};
+ghost use Rattle.gimli_units.specs.UnitHeld.{unit_view};
+ghost use Rattle.gimli_c.specs.Units.{section_id};
+ghost use Rattle.gimli_c.specs.Fronts.{at, ahead_of, unit_ahead, rows_ahead, Filled, ToldRows, Resumes};
+
+use crate::sections::{UnitSections, header_in};
+use crate::status::{END, MORE, TOO_DEEP, refused, row_refused};
+use gimli_base::{Abbreviations, DebugAbbrev, Reader, ReaderOffset, Section};
+use gimli_units::{DebuggingInformationEntry, EntriesRaw, UnitHeader, UnitOffset};
+use std::alloc::Allocator;
+
+/// A place in a unit, between two rows.
+#[repr(C)]
+#[derive(Clone, Copy, Debug)]
+pub struct GimliPlace {
+    /// The offset in the unit.
+    pub offset: u64,
+    /// The depth of the row that is read there.
+    pub depth: isize,
+}
+
+/// An entry of a unit, or the null that closes a list of children.
+#[repr(C)]
+#[derive(Clone, Copy, Debug)]
+pub struct GimliRow {
+    /// Where it stands in the unit.
+    pub offset: u64,
+    /// How deep it stands.
+    pub depth: isize,
+    /// Its tag, 0 for a null.
+    pub tag: u16,
+    /// 1 where children follow it, else 0.
+    pub has_children: u8,
+}
+
+/// What a call answers.
+#[derive(Clone, Copy)]
+pub(crate) struct Told {
+    pub(crate) status: u32,
+    pub(crate) count: usize,
+    pub(crate) place: GimliPlace,
+}
+
+/// Fills rows of the unit at an offset, from a place on.
+pub(crate) fn read_rows<R: Reader, A: Allocator + Copy>(
+    alloc: A,
+    sections: &UnitSections<R>,
+    unit: R::Offset,
+    offset: R::Offset,
+    depth: isize,
+    rows: &mut [GimliRow],
+) -> Told
+    ensures told { let place = at (R.Offset.number offset) depth in
+        let declarations = ⟦<DebugAbbrev<R> as Section<R>>⟧.content sections.now.abbreviations in
+        let ahead = rows_ahead R.Offset.limit (section_id sections.now.types)
+        (R.view sections.now.units) declarations (R.Offset.number unit) in
+        ToldRows (ahead place) place rows.old result.place rows.new result.count result.status }
+    ensures resumes { let place = at (R.Offset.number offset) depth in
+        let declarations = ⟦<DebugAbbrev<R> as Section<R>>⟧.content sections.now.abbreviations in
+        let ahead = rows_ahead R.Offset.limit (section_id sections.now.types)
+        (R.view sections.now.units) declarations (R.Offset.number unit) in
+        Resumes (ahead place) result.count (ahead result.place) }
+{
+    let header = match header_in(&sections.units, sections.types, unit) {
+        Ok(header) => header,
+        Err(error) => return stopped(offset, depth, refused(error)),
+    };
+    match header.abbreviations(alloc, &sections.abbreviations) {
+        Ok(table) => unit_rows(alloc, &header, &table, offset, depth, rows),
+        Err(error) => stopped(offset, depth, refused(error)),
+    }
+}
+
+// No row.
+fn stopped<O: ReaderOffset>(offset: O, depth: isize, status: u32) -> Told
+    ensures { result ≡ record { status = status; count = 0; place = at (O.number offset) depth } }
+{
+    Told {
+        status,
+        count: 0,
+        place: GimliPlace {
+            offset: offset.into_u64(),
+            depth,
+        },
+    }
+}
+
+// Fills rows of a unit with its abbreviations.
+fn unit_rows<R: Reader, A: Allocator + Copy>(
+    alloc: A,
+    unit: &UnitHeader<R>,
+    table: &Abbreviations<A>,
+    offset: R::Offset,
+    depth: isize,
+    rows: &mut [GimliRow],
+) -> Told
+    ensures { let place = at (R.Offset.number offset) depth in
+        let ahead = unit_ahead R.Offset.limit (unit_view unit.now) (found table.now) place in
+        ToldRows ahead place rows.old result.place rows.new result.count result.status }
+{
+    let whole = unit.length_including_self().into_u64();
+    let start = offset.into_u64();
+    if start == whole {
+        return stopped(offset, depth, END);
+    }
+    let mut entries = match unit.entries_raw(table, Some(UnitOffset(offset))) {
+        Ok(entries) => entries,
+        Err(error) => return stopped(offset, depth, refused(error)),
+    };
+    let left = whole - start;
+    let steps = depth.unsigned_abs() as u64;
+    if left >= 1 << 63 || steps >= (1 << 63) - left {
+        return stopped(offset, depth, TOO_DEEP);
+    }
+    fill_rows(alloc, &mut entries, depth, rows)
+}
+
+// Fills rows, their depths counted from `base`.
+fn fill_rows<R: Reader, A: Allocator>(
+    alloc: A,
+    entries: &mut EntriesRaw<'_, R, A>,
+    base: isize,
+    rows: &mut [GimliRow],
+) -> Told
+    requires { let bytes = length entries.old.rest.bytes in
+        unsigned_abs base + unsigned_abs entries.old.depth + bytes < 2 ^ 63 }
+    ensures { let ahead = ahead_of R.Offset.limit base entries.old in
+        Filled ahead rows.old result.place rows.new result.count result.status }
+{
+    let mut entry = DebuggingInformationEntry::null(alloc);
+    let mut count = 0;
+    'rows: while count < rows.len() && !entries.is_empty() {
+        match entries.read_entry(&mut entry) {
+            Ok(_) => {}
+            Err(error) => {
+                return Told {
+                    status: row_refused(error),
+                    count,
+                    place: place_of(entries, base),
+                };
+            }
+        }
+        rows[count] = GimliRow {
+            offset: entry.offset().0.into_u64(),
+            depth: base + entry.depth(),
+            tag: entry.tag().0,
+            has_children: u8::from(entry.has_children()),
+        };
+        count += 1;
+    }
+    let status = if entries.is_empty() { END } else { MORE };
+    Told {
+        status,
+        count,
+        place: place_of(entries, base),
+    }
+}
+
+/// Where entries stand.
+pub(crate) fn place_of<R: Reader, A: Allocator>(
+    entries: &EntriesRaw<'_, R, A>,
+    base: isize,
+) -> GimliPlace
+    requires { unsigned_abs base + unsigned_abs entries.now.depth < 2 ^ 63 }
+    ensures offset { result.offset ≡ next_offset_of entries.now }
+    ensures depth { result.depth ≡ base +ℤ entries.now.depth }
+{
+    GimliPlace {
+        offset: entries.next_offset().0.into_u64(),
+        depth: base + entries.next_depth(),
+    }
+}

@@ -1,0 +1,29 @@
+//! Statuses.
+
+ghost use Rattle.std.specs.Prelude.{◌≡◌};
+ghost use Rattle.gimli_c.specs.Status.{refused, row_refused};
+
+use gimli_base::Error;
+
+/// There is more.
+pub(crate) const MORE: u32 = 0;
+
+/// The end.
+pub(crate) const END: u32 = 1;
+
+/// The depth of a place is out of range.
+pub(crate) const TOO_DEEP: u32 = 2;
+
+/// The status of a refusal of a unit, of its abbreviations or of an offset.
+pub(crate) fn refused(error: Error) -> u32
+    ensures { result ≡ refused error }
+{
+    256 + u32::from(error.number())
+}
+
+/// The status of a refusal of what is read behind the rows.
+pub(crate) fn row_refused(error: Error) -> u32
+    ensures { result ≡ row_refused error }
+{
+    512 + u32::from(error.number())
+}
