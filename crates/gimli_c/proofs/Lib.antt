@@ -5,3 +5,4 @@ pub mod EntryFront
 pub mod EntryBounds
 pub mod Resume
 pub mod TypeUnits
+pub mod SiblingLaw

@@ -3,3 +3,5 @@ pub mod Units
 pub mod Fronts
 pub mod Attrs
 pub mod Entries
+pub mod Siblings
+pub mod Addresses

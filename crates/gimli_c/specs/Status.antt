@@ -1,5 +1,5 @@
 -- Statuses.
-use Rattle.std.specs.Prelude.{ℕ, ◌+◌}
+use Rattle.std.specs.Prelude.{◌≡◌, ℕ, ◌+◌}
 use Rattle.gimli_base.specs.declared.error.Error.{Error}
 use Rattle.gimli_base.specs.Refusal.{number_of}
 
@@ -25,3 +25,7 @@ memory_refused = 280
 
 abbrev pub row_memory_refused : ℕ
 row_memory_refused = 536
+
+-- what holds where memory was not refused
+abbrev pub UnlessRefused : ℕ → Type 0 → Type 0
+UnlessRefused status P = (status ≡ memory_refused → ⊥) → (status ≡ row_memory_refused → ⊥) → P

@@ -5,21 +5,28 @@
 //! of a row.
 #![tactic(auto)]
 
-ghost use Rattle.std.specs.Prelude.{◌≡◌};
+ghost use Rattle.std.specs.Prelude.{◌≡◌, ℕ};
 ghost use Rattle.gimli_c.specs.Units.{units_view, unit_told, section_unit};
 ghost use Rattle.gimli_c.specs.Fronts.{section_rows, ToldRows, Resumes};
 ghost use Rattle.gimli_c.specs.Entries.{AreTold};
+ghost use Rattle.gimli_c.specs.Status.{more, end, UnlessRefused};
+ghost use Rattle.gimli_c.specs.Siblings.{section_sibling, section_false, IsRowOf, AreHonest};
+ghost use Rattle.gimli_c.specs.Addresses.{section_holding};
 
+mod address;
 mod attrs;
 mod entries;
+mod first_false;
 mod rows;
 mod sections;
+mod sibling;
 mod status;
 mod unit;
 
 pub use attrs::GimliAttr;
 pub use entries::{GimliEntry, GimliFilled};
 use gimli_base::{BigEndian, LittleEndian};
+use gimli_lists::DebugAranges;
 pub use rows::{GimliPlace, GimliRow};
 pub use sections::GimliSections;
 use sections::unit_sections;
@@ -109,4 +116,93 @@ pub extern "C" fn gimli_entries(
     *filled = told.filled;
     *place = told.place;
     told.status
+}
+
+/// Finds the next sibling of the row at a place in a unit of `units`: the next entry of its depth,
+/// before the null that closes their list. Of the place the offset is read, and its depth becomes
+/// that of `row`. `units` and `abbreviations` are read.
+///
+/// Where `follows` is 0 all rows between are read. Else the references of entries are followed; where
+/// they are honest, as `gimli_first_false` finds out, the answer is the same.
+///
+/// Status 0: `row` is the sibling. Otherwise `row` is as it was. Status 1: there is none, or a null
+/// stands at the place. From 512 on: what is read at the place or behind it was refused. Any other:
+/// the unit, its abbreviations or the offset was refused. 280 and 536 say that memory was refused.
+#[unsafe(no_mangle)]
+pub extern "C" fn gimli_sibling(
+    alloc: Global,
+    sections: &GimliSections<'_>,
+    unit: u64,
+    place: &GimliPlace,
+    follows: u8,
+    row: &mut GimliRow,
+) -> u32
+    ensures plain { follows ≡ 0 →
+        UnlessRefused result ((result, row.new)
+        ≡ section_sibling sections.now unit place.now.offset place.now.depth row.old) }
+    ensures followed { AreHonest sections.now unit place.now.offset →
+        UnlessRefused result ((result, row.new)
+        ≡ section_sibling sections.now unit place.now.offset place.now.depth row.old) }
+    ensures kept { (result ≡ more → ⊥) → row.new ≡ row.old }
+{
+    let unit = unit as usize;
+    let offset = place.offset as usize;
+    let follows = follows != 0;
+    if sections.big == 0 {
+        let opened = unit_sections(sections, LittleEndian);
+        sibling::find_sibling(alloc, &opened, unit, offset, place.depth, follows, row)
+    } else {
+        let opened = unit_sections(sections, BigEndian);
+        sibling::find_sibling(alloc, &opened, unit, offset, place.depth, follows, row)
+    }
+}
+
+/// Finds the first row of a unit of `units` whose sibling reference can be followed and is false: it
+/// does not lead just past the null that closes its children. `units` and `abbreviations` are read.
+///
+/// Status 0: it stands at `offset`. Otherwise `offset` is as it was. Status 1: there is none, so from
+/// each row of the unit references may be followed. Any other: the unit or its abbreviations were
+/// refused. 280 says that memory was refused.
+#[unsafe(no_mangle)]
+pub extern "C" fn gimli_first_false(
+    alloc: Global,
+    sections: &GimliSections<'_>,
+    unit: u64,
+    offset: &mut u64,
+) -> u32
+    ensures told { UnlessRefused result ((result, offset.new)
+        ≡ section_false sections.now unit offset.old) }
+    ensures starts { result ≡ end → (at : ℕ) → IsRowOf sections.now unit at →
+        AreHonest sections.now unit at }
+{
+    let unit = unit as usize;
+    if sections.big == 0 {
+        let opened = unit_sections(sections, LittleEndian);
+        first_false::find_false(alloc, &opened, unit, offset)
+    } else {
+        let opened = unit_sections(sections, BigEndian);
+        first_false::find_false(alloc, &opened, unit, offset)
+    }
+}
+
+/// Finds where the unit of an address begins in `.debug_info`: that of the first set of `aranges`
+/// with a range that holds the address. Only `aranges` is read.
+///
+/// Status 0: it begins at `offset`. Otherwise `offset` is as it was. Status 1: no set has such a
+/// range. Any other: the header of a set was refused, and no set before it has such a range.
+#[unsafe(no_mangle)]
+pub extern "C" fn gimli_unit_of_address(
+    sections: &GimliSections<'_>,
+    address: u64,
+    offset: &mut u64,
+) -> u32
+    ensures { (result, offset.new) ≡ section_holding sections.now address offset.old }
+{
+    if sections.big == 0 {
+        let aranges = DebugAranges::new(sections.aranges, LittleEndian);
+        address::find_unit(&aranges, address, offset)
+    } else {
+        let aranges = DebugAranges::new(sections.aranges, BigEndian);
+        address::find_unit(&aranges, address, offset)
+    }
 }

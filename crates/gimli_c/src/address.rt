@@ -1,0 +1,26 @@
+//! The unit of an address.
+
+ghost use Rattle.std.specs.Prelude.{◌≡◌};
+ghost use Rattle.gimli_walk.specs.UnitOfAddress.{unit_holding};
+ghost use Rattle.gimli_c.specs.Addresses.{holding_told};
+
+use crate::status::{END, MORE, refused};
+use gimli_base::{Reader, ReaderOffset, Section};
+use gimli_lists::DebugAranges;
+use gimli_walk::unit_of_address;
+
+/// Finds the unit of an address.
+pub(crate) fn find_unit<R: Reader>(aranges: &DebugAranges<R>, address: u64, offset: &mut u64) -> u32
+    ensures { let section = ⟦<DebugAranges<R> as Section<R>>⟧.content aranges.now in
+        (result, offset.new)
+        ≡ holding_told (unit_holding R.Offset.limit address section) offset.old }
+{
+    match unit_of_address(aranges, address) {
+        Ok(Some(unit)) => {
+            *offset = unit.0.into_u64();
+            MORE
+        }
+        Ok(None) => END,
+        Err(error) => refused(error),
+    }
+}

@@ -1,0 +1,125 @@
+//! The next sibling of a row.
+
+ghost use Rattle.std.specs.Prelude.{◌≡◌, true, Some};
+ghost use Rattle.gimli_base.specs.Table.{found};
+ghost use Rattle.gimli_units.specs.CursorMoves.{place_of, Goes, IsHonestFor};
+ghost use Rattle.gimli_units.specs.CursorPlace.{next_of_depth};
+ghost use Rattle.gimli_units.specs.UnitHeld.{unit_view};
+ghost use Rattle.gimli_units.specs.UnitRows.{IsHonestFrom, start_view};
+ghost use Rattle.gimli_units.proofs.PlaceLaw.{IsHonestCursor};
+ghost use Rattle.gimli_base.specs.Reading.{UnlessMemory};
+ghost use Rattle.gimli_headers.specs.Units.{header_at};
+ghost use Rattle.gimli_c.specs.Units.{section_id};
+ghost use Rattle.gimli_c.specs.Status.{more, UnlessRefused};
+ghost use Rattle.gimli_c.specs.Siblings.{place_sibling, unit_sibling, read_sibling, AreHonestIn};
+
+use crate::rows::GimliRow;
+use crate::sections::{UnitSections, header_in};
+use crate::status::{END, MORE, refused, row_refused};
+use gimli_base::{Abbreviations, DebugAbbrev, Reader, ReaderOffset, Result, Section};
+use gimli_units::{EntriesCursor, UnitHeader, UnitOffset};
+use std::alloc::Allocator;
+
+/// Finds the next sibling of the row at an offset of a unit.
+pub(crate) fn find_sibling<R: Reader, A: Allocator + Copy>(
+    alloc: A,
+    sections: &UnitSections<R>,
+    unit: R::Offset,
+    offset: R::Offset,
+    depth: isize,
+    follows: bool,
+    row: &mut GimliRow,
+) -> u32
+    ensures told { let id = section_id sections.now.types in
+        let read = header_at R.Offset.limit id (R.Offset.number unit) (R.view sections.now.units) in
+        let declarations = ⟦<DebugAbbrev<R> as Section<R>>⟧.content sections.now.abbreviations in
+        let number = R.Offset.number offset in
+        (follows ≡ true → AreHonestIn R.Offset.limit read declarations number) →
+        UnlessRefused result ((result, row.new)
+        ≡ read_sibling R.Offset.limit read declarations number depth row.old) }
+    ensures kept { (result ≡ more → ⊥) → row.new ≡ row.old }
+{
+    let header = match header_in(&sections.units, sections.types, unit) {
+        Ok(header) => header,
+        Err(error) => return refused(error),
+    };
+    match header.abbreviations(alloc, &sections.abbreviations) {
+        Ok(table) => find_in_unit(alloc, &header, &table, offset, depth, follows, row),
+        Err(error) => refused(error),
+    }
+}
+
+// Finds it in a unit with its abbreviations.
+fn find_in_unit<R: Reader, A: Allocator + Copy>(
+    alloc: A,
+    unit: &UnitHeader<R>,
+    table: &Abbreviations<A>,
+    offset: R::Offset,
+    depth: isize,
+    follows: bool,
+    row: &mut GimliRow,
+) -> u32
+    ensures told { let u = unit_view unit.now in
+        let number = R.Offset.number offset in
+        (follows ≡ true →
+        IsHonestFrom R.Offset.limit u (found table.now) (start_view u (Some number))) →
+        UnlessRefused result ((result, row.new)
+        ≡ unit_sibling R.Offset.limit u (found table.now) number depth row.old) }
+    ensures kept { (result ≡ more → ⊥) → row.new ≡ row.old }
+{
+    let cursor = if follows {
+        unit.entries_at_offset(alloc, table, UnitOffset(offset))
+    } else {
+        unit.entries_plain_at_offset(alloc, table, UnitOffset(offset))
+    };
+    match cursor {
+        Ok(mut cursor) => find_behind(&mut cursor, depth, row),
+        Err(error) => refused(error),
+    }
+}
+
+// Finds it by a cursor that stands before the row.
+fn find_behind<R: Reader, A: Allocator>(
+    cursor: &mut EntriesCursor<'_, R, A>,
+    depth: isize,
+    row: &mut GimliRow,
+) -> u32
+    ensures told { (cursor.old.follows ≡ true → IsHonestCursor R.Offset.limit cursor.old) →
+        UnlessRefused result ((result, row.new)
+        ≡ place_sibling cursor.old.raw.end (place_of R.Offset.limit cursor.old) depth row.old) }
+    ensures kept { (result ≡ more → ⊥) → row.new ≡ row.old }
+{
+    match cursor.next_entry() {
+        Ok(_) => {}
+        Err(error) => return row_refused(error),
+    }
+    match step(cursor) {
+        Ok(_) => {}
+        Err(error) => return row_refused(error),
+    }
+    match cursor.current() {
+        Some(entry) => {
+            *row = GimliRow {
+                offset: entry.offset().0.into_u64(),
+                depth,
+                tag: entry.tag().0,
+                has_children: u8::from(entry.has_children()),
+            };
+            MORE
+        }
+        None => END,
+    }
+}
+
+// Goes to the next sibling.
+fn step<R: Reader, A: Allocator>(cursor: &mut EntriesCursor<'_, R, A>) -> Result<bool>
+    ensures { (cursor.old.follows ≡ true →
+        IsHonestFor R.Offset.limit cursor.old.depth cursor.old) →
+        let goes = Goes R.Offset.limit (next_of_depth cursor.old.raw.end) in
+        UnlessMemory result (goes cursor.old result cursor.new) }
+{
+    match cursor.next_sibling() {
+        Ok(entry) => Ok(entry.is_some()),
+        Err(error) => Err(error),
+    }
+}
