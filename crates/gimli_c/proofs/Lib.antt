@@ -6,3 +6,4 @@ pub mod EntryBounds
 pub mod Resume
 pub mod TypeUnits
 pub mod SiblingLaw
+pub mod ListFront

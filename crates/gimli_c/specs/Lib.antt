@@ -5,3 +5,4 @@ pub mod Attrs
 pub mod Entries
 pub mod Siblings
 pub mod Addresses
+pub mod Lists

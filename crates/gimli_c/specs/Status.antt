@@ -12,6 +12,10 @@ end = 1
 abbrev pub too_deep : ℕ
 too_deep = 2
 
+-- an attribute's value names no list
+abbrev pub no_list : ℕ
+no_list = 3
+
 abbrev pub refused : Error → ℕ
 refused e = 256 + number_of e
 

@@ -12,11 +12,14 @@ ghost use Rattle.gimli_c.specs.Entries.{AreTold};
 ghost use Rattle.gimli_c.specs.Status.{more, end, UnlessRefused};
 ghost use Rattle.gimli_c.specs.Siblings.{section_sibling, section_false, IsRowOf, AreHonest};
 ghost use Rattle.gimli_c.specs.Addresses.{section_holding};
+ghost use Rattle.gimli_c.specs.Lists.{is_big, range_row, location_row, ranges_at, locations_at};
+ghost use Rattle.gimli_c.specs.Lists.{IsToldList};
 
 mod address;
 mod attrs;
 mod entries;
 mod first_false;
+mod lists;
 mod rows;
 mod sections;
 mod sibling;
@@ -27,6 +30,7 @@ pub use attrs::GimliAttr;
 pub use entries::{GimliEntry, GimliFilled};
 use gimli_base::{BigEndian, LittleEndian};
 use gimli_lists::DebugAranges;
+pub use lists::{GimliBases, GimliLocation, GimliRange};
 pub use rows::{GimliPlace, GimliRow};
 pub use sections::GimliSections;
 use sections::unit_sections;
@@ -205,4 +209,60 @@ pub extern "C" fn gimli_unit_of_address(
         let aranges = DebugAranges::new(sections.aranges, BigEndian);
         address::find_unit(&aranges, address, offset)
     }
+}
+
+/// Finds the ranges of the list that the value of an attribute names, as `gimli_entries` writes it
+/// for `DW_AT_ranges` of an entry of `unit`. `ranges` and `rnglists` are read, and `addresses` where
+/// the list names addresses by index.
+///
+/// `count` is the number of all ranges before the first that is refused; as many as there is room for
+/// are written, and what is behind them in `into` stays as it was.
+///
+/// Status 0: there are more than were written. Status 1: the list ends behind them. Status 3: the
+/// value names no list. From 512 on: what is read behind them was refused. Any other: the size of
+/// addresses, the index or the offset was refused.
+#[unsafe(no_mangle)]
+pub extern "C" fn gimli_ranges(
+    sections: &GimliSections<'_>,
+    unit: &GimliUnit,
+    attribute: &GimliAttr,
+    bases: &GimliBases,
+    into: &mut [GimliRange],
+    count: &mut usize,
+) -> u32
+    ensures { let s = sections.now in
+        let told = ranges_at (is_big s) s unit.now attribute.now bases.now in
+        IsToldList range_row told into.old into.new count.new result }
+{
+    let told = if sections.big == 0 {
+        lists::find_ranges(sections, LittleEndian, unit, attribute, bases, into)
+    } else {
+        lists::find_ranges(sections, BigEndian, unit, attribute, bases, into)
+    };
+    *count = told.count;
+    told.status
+}
+
+/// The same of locations, whose expressions are told by where they lie in their section: in `loclists`
+/// from version 5 on, and else in `loc`. These two are read, and `addresses`.
+#[unsafe(no_mangle)]
+pub extern "C" fn gimli_locations(
+    sections: &GimliSections<'_>,
+    unit: &GimliUnit,
+    attribute: &GimliAttr,
+    bases: &GimliBases,
+    into: &mut [GimliLocation],
+    count: &mut usize,
+) -> u32
+    ensures { let s = sections.now in
+        let told = locations_at (is_big s) s unit.now attribute.now bases.now in
+        IsToldList location_row told into.old into.new count.new result }
+{
+    let told = if sections.big == 0 {
+        lists::find_locations(sections, LittleEndian, unit, attribute, bases, into)
+    } else {
+        lists::find_locations(sections, BigEndian, unit, attribute, bases, into)
+    };
+    *count = told.count;
+    told.status
 }

@@ -14,6 +14,9 @@ pub(crate) const END: u32 = 1;
 /// The depth of a place is out of range.
 pub(crate) const TOO_DEEP: u32 = 2;
 
+/// The value of an attribute names no list.
+pub(crate) const NO_LIST: u32 = 3;
+
 /// The status of a refusal of a unit, of its abbreviations or of an offset.
 pub(crate) fn refused(error: Error) -> u32
     ensures { result ≡ refused error }

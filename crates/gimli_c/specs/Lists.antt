@@ -1,0 +1,137 @@
+-- The ranges and the locations that a call writes, of those of a list.
+use Rattle.std.specs.Prelude.{◌≡◌, ℕ, ◌==◌, ◌^◌, nat_lt, not, if◌then◌else◌, Bool, List, [], ◌∷◌}
+use Rattle.std.specs.Prelude.{◌++◌, map, take, drop, length, Option, Some, None, Result, Ok, Err}
+use Rattle.gimli_base.specs.declared.common.Encoding.{Encoding}
+use Rattle.gimli_base.specs.declared.common.Format.TheVariants.{Dwarf32, Dwarf64}
+use Rattle.gimli_base.specs.declared.error.Error.{Error}
+use Rattle.gimli_base.specs.declared.error.Error.TheVariants.{UnsupportedAddressSize}
+use Rattle.gimli_base.specs.Reading.{is_size}
+use Rattle.gimli_base.specs.View.{View}
+use Rattle.gimli_lists.specs.Locations.{location_answers}
+use Rattle.gimli_lists.specs.Places.{ListSections, list_offset}
+use Rattle.gimli_lists.specs.Ranges.{range_answers}
+use Rattle.gimli_lists.specs.Resolved.{Resolved}
+use Rattle.gimli_c.specs.declared.attrs.GimliAttr.{GimliAttr}
+use Rattle.gimli_c.specs.declared.lists.GimliBases.{GimliBases}
+use Rattle.gimli_c.specs.declared.lists.GimliLocation.{GimliLocation}
+use Rattle.gimli_c.specs.declared.lists.GimliRange.{GimliRange}
+use Rattle.gimli_c.specs.declared.sections.GimliSections.{GimliSections}
+use Rattle.gimli_c.specs.declared.unit.GimliUnit.{GimliUnit}
+use Rattle.gimli_c.specs.Status.{more, end, no_list, refused, row_refused}
+
+abbrev pub range_row : Resolved (Unit {0}) → GimliRange
+range_row r = record { begin = r.begin; end = r.end }
+
+abbrev pub location_row : Resolved View → GimliLocation
+location_row r =
+    record {
+      begin = r.begin;
+      end = r.end;
+      place = r.payload.place;
+      length = length r.payload.bytes;
+    }
+
+-- how a unit's bytes are read
+abbrev pub encoding_in : GimliUnit → Encoding
+encoding_in u =
+    record {
+      format = if u.offset_size == 8 then Dwarf64 else Dwarf32;
+      version = u.version;
+      address_size = u.address_size;
+    }
+
+-- what is before the first refusal, and that refusal
+abbrev pub before_refusal : {X : Type 0} → List (Result X Error) → List X
+before_refusal [] = []
+before_refusal (Ok x ∷ rest) = x ∷ before_refusal rest
+before_refusal (Err e ∷ rest) = []
+
+abbrev pub first_refusal : {X : Type 0} → List (Result X Error) → Option Error
+first_refusal [] = None
+first_refusal (Ok x ∷ rest) = first_refusal rest
+first_refusal (Err e ∷ rest) = Some e
+
+-- the status where there are so many, and room for so many
+abbrev pub list_status : ℕ → ℕ → ℕ → ℕ
+list_status room count last = if nat_lt room count then more else last
+
+-- the status behind the last
+abbrev pub last_status : Option Error → ℕ
+last_status None = end
+last_status (Some e) = row_refused e
+
+-- What is before the first refusal is counted, and written as far as there is room; the rest of the
+-- buffer stays as it was.
+pub record IsListed {X Y : Type 0} (f : X → Y) (answers : List (Result X Error)) (old new : List Y)
+    (count status : ℕ) : Type 0 where
+  pub rows : new ≡ map f (take (length old) (before_refusal answers)) ++ drop count old
+  pub whole : count ≡ length (before_refusal answers)
+  pub status_is : status ≡ list_status (length old) count (last_status (first_refusal answers))
+
+-- nothing is written
+pub record IsUnlisted {Y : Type 0} (stop : ℕ) (old new : List Y) (count status : ℕ) : Type 0 where
+  pub rows : new ≡ old
+  pub none : count ≡ 0
+  pub stopped : status ≡ stop
+
+-- what a call does
+abbrev pub IsToldList : {X Y : Type 0} → (X → Y) → Result (List (Result X Error)) ℕ → List Y → List Y
+    → ℕ → ℕ → Type 0
+IsToldList f (Ok answers) old new count status = IsListed f answers old new count status
+IsToldList f (Err stop) old new count status = IsUnlisted stop old new count status
+
+-- the view of a section's bytes in a byte order
+abbrev pub seen : Bool → List ℕ → View
+seen big bytes = record { big = big; place = 0; bytes = bytes }
+
+abbrev pub is_big : GimliSections → Bool
+is_big s = not (s.big == 0)
+
+abbrev pub range_sections : Bool → GimliSections → ListSections
+range_sections big s = record { old = seen big s.ranges.now; new = seen big s.rnglists.now }
+
+abbrev pub location_sections : Bool → GimliSections → ListSections
+location_sections big s = record { old = seen big s.loc.now; new = seen big s.loclists.now }
+
+-- a refusal as a status
+abbrev pub or_refused : {A : Type 0} → Result A Error → Result A ℕ
+or_refused (Ok a) = Ok a
+or_refused (Err e) = Err (refused e)
+
+-- where the list of a value begins: at an offset, or at the offset at an index of a table
+abbrev pub list_begin : ℕ → GimliUnit → GimliAttr → ℕ → View → Result ℕ ℕ
+list_begin index u a base section =
+    if a.class == 12 then Ok a.number
+    else if a.class == index
+    then or_refused (list_offset (2 ^ 64) (encoding_in u).format base a.number section)
+    else Err no_list
+
+-- the answers of the list that begins there
+abbrev pub answers_at : {A : Type 0} → Result ℕ ℕ → (ℕ → Result A Error) → Result A ℕ
+answers_at (Ok offset) f = or_refused (f offset)
+answers_at (Err stop) f = Err stop
+
+-- those of a unit whose addresses have a size that an address may have
+abbrev pub if_sized : {A : Type 0} → GimliUnit → Result A ℕ → Result A ℕ
+if_sized u r =
+    if is_size u.address_size then r else Err (refused (UnsupportedAddressSize u.address_size))
+
+-- the ranges of the list at an attribute's value, each or its refusal
+abbrev pub ranges_at : Bool → GimliSections → GimliUnit → GimliAttr → GimliBases
+    → Result (List (Result (Resolved (Unit {0})) Error)) ℕ
+ranges_at big s u a b =
+    if_sized u
+    (answers_at (list_begin 26 u a b.rnglists (range_sections big s).new)
+    (λ offset.
+    range_answers (2 ^ 64) offset (encoding_in u) b.address (seen big s.addresses.now) b.addresses
+    (range_sections big s)))
+
+-- the locations of the list at an attribute's value, each or its refusal
+abbrev pub locations_at : Bool → GimliSections → GimliUnit → GimliAttr → GimliBases
+    → Result (List (Result (Resolved View) Error)) ℕ
+locations_at big s u a b =
+    if_sized u
+    (answers_at (list_begin 21 u a b.loclists (location_sections big s).new)
+    (λ offset.
+    location_answers (2 ^ 64) (not (b.dwo == 0)) offset (encoding_in u) b.address
+    (seen big s.addresses.now) b.addresses (location_sections big s)))

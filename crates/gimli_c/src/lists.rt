@@ -1,0 +1,265 @@
+//! Lists of ranges and of locations, at the value of an attribute.
+
+ghost use Rattle.std.specs.Prelude.{◌≡◌, ◌<◌, ◌^◌, length, Err};
+ghost use Rattle.gimli_base.specs.Offset.{answer_of};
+ghost use Rattle.gimli_base.specs.Reading.{is_size};
+ghost use Rattle.gimli_lists.specs.Locations.{locations_ahead};
+ghost use Rattle.gimli_lists.specs.Ranges.{ranges_ahead};
+ghost use Rattle.gimli_c.specs.Lists.{encoding_in, range_row, location_row, list_status, IsListed};
+ghost use Rattle.gimli_c.specs.Lists.{IsToldList, ranges_at, locations_at};
+
+use crate::attrs::GimliAttr;
+use crate::sections::GimliSections;
+use crate::status::{END, MORE, NO_LIST, refused, row_refused};
+use crate::unit::GimliUnit;
+use gimli_base::{
+    DebugAddr, DebugAddrBase, DebugLocListsBase, DebugLocListsIndex, DebugRngListsBase,
+    DebugRngListsIndex, Encoding, EndianSlice, Endianity, Error, Format, LocationListsOffset,
+    RangeListsOffset, Reader, ReaderOffset,
+};
+use gimli_lists::{
+    DebugLoc, DebugLocLists, DebugRanges, DebugRngLists, LocListIter, LocationLists, RangeLists,
+    RngListIter,
+};
+
+/// What the lists of a unit are resolved against. All but `dwo` are values of attributes of the
+/// unit's root.
+#[repr(C)]
+#[derive(Clone, Copy, Debug)]
+pub struct GimliBases {
+    /// The address from which offsets count until a list gives another (`DW_AT_low_pc`), or 0.
+    pub address: u64,
+    /// Where the unit's table begins in `.debug_addr` (`DW_AT_addr_base`).
+    pub addresses: u64,
+    /// Where its table begins in `.debug_rnglists` (`DW_AT_rnglists_base`).
+    pub rnglists: u64,
+    /// Where its table begins in `.debug_loclists` (`DW_AT_loclists_base`).
+    pub loclists: u64,
+    /// 0, or else the location lists are those of a split file, which have codes in every version.
+    pub dwo: u8,
+}
+
+/// A range of addresses.
+#[repr(C)]
+#[derive(Clone, Copy, Debug)]
+pub struct GimliRange {
+    /// The first address.
+    pub begin: u64,
+    /// The address behind the last.
+    pub end: u64,
+}
+
+/// A range of addresses, and where the expression that holds there lies.
+#[repr(C)]
+#[derive(Clone, Copy, Debug)]
+pub struct GimliLocation {
+    /// The first address.
+    pub begin: u64,
+    /// The address behind the last.
+    pub end: u64,
+    /// Where the expression lies in the section of the list.
+    pub place: u64,
+    /// The number of its bytes.
+    pub length: u64,
+}
+
+/// What a call answers.
+#[derive(Clone, Copy)]
+pub(crate) struct Listed {
+    pub(crate) count: usize,
+    pub(crate) status: u32,
+}
+
+// How a unit's bytes are read.
+fn encoding_of(unit: &GimliUnit) -> Encoding
+    ensures { result ≡ encoding_in unit.now }
+{
+    Encoding {
+        format: if unit.offset_size == 8 {
+            Format::Dwarf64
+        } else {
+            Format::Dwarf32
+        },
+        version: unit.version,
+        address_size: unit.address_size,
+    }
+}
+
+// Whether an address may have this size.
+fn is_address_size(size: u8) -> bool
+    ensures { result ≡ is_size size }
+{
+    size == 1 || size == 2 || size == 4 || size == 8
+}
+
+// Nothing.
+fn none(status: u32) -> Listed
+    ensures { result ≡ record { count = 0; status = status } }
+{
+    Listed { count: 0, status }
+}
+
+// The status where there is room for so many, and this is the status behind the last.
+fn status_behind(room: usize, count: usize, last: u32) -> u32
+    ensures { result ≡ list_status room count last }
+{
+    if room < count { MORE } else { last }
+}
+
+/// Fills the ranges of the list at an attribute's value.
+#[tactic(auto, unfolding(gimli_lists::specs::Places::list_answers))]
+pub(crate) fn find_ranges<E: Endianity>(
+    sections: &GimliSections<'_>,
+    endian: E,
+    unit: &GimliUnit,
+    attribute: &GimliAttr,
+    bases: &GimliBases,
+    ranges: &mut [GimliRange],
+) -> Listed
+    ensures { let told = ranges_at (E.big endian) sections.now unit.now attribute.now bases.now in
+        IsToldList range_row told ranges.old ranges.new result.count result.status }
+{
+    let encoding = encoding_of(unit);
+    if !is_address_size(unit.address_size) {
+        return none(refused(Error::UnsupportedAddressSize(unit.address_size)));
+    }
+    let old = DebugRanges::new(sections.ranges, endian);
+    let new = DebugRngLists::new(sections.rnglists, endian);
+    let lists = RangeLists::new(old, new);
+    let number = attribute.number as usize;
+    let offset = if attribute.class == 12 {
+        RangeListsOffset(number)
+    } else if attribute.class == 26 {
+        let base = DebugRngListsBase(bases.rnglists as usize);
+        match lists.get_offset(encoding, base, DebugRngListsIndex(number)) {
+            Ok(offset) => offset,
+            Err(error) => return none(refused(error)),
+        }
+    } else {
+        return none(NO_LIST);
+    };
+    let addresses = DebugAddr::from(EndianSlice::new(sections.addresses, endian));
+    let table = DebugAddrBase(bases.addresses as usize);
+    match lists.ranges(offset, encoding, bases.address, &addresses, table) {
+        Ok(mut list) => fill_ranges(&mut list, ranges),
+        Err(error) => none(refused(error)),
+    }
+}
+
+// Fills the ranges of a list, and counts them all.
+fn fill_ranges<R: Reader>(list: &mut RngListIter<R>, ranges: &mut [GimliRange]) -> Listed
+    requires { length list.old.raw.rest.bytes < 2 ^ 63 }
+    ensures { IsListed range_row (ranges_ahead R.Offset.limit list.old) ranges.old ranges.new
+        result.count result.status }
+{
+    let room = ranges.len();
+    let mut count = 0;
+    'found: loop {
+        match list.next() {
+            Ok(Some(range)) => {
+                if count < ranges.len() {
+                    ranges[count] = GimliRange {
+                        begin: range.begin,
+                        end: range.end,
+                    };
+                }
+                count += 1;
+            }
+            Ok(None) => {
+                return Listed {
+                    count,
+                    status: status_behind(room, count, END),
+                };
+            }
+            Err(error) => {
+                return Listed {
+                    count,
+                    status: status_behind(room, count, row_refused(error)),
+                };
+            }
+        }
+    }
+}
+
+/// Fills the locations of the list at an attribute's value.
+#[tactic(auto, unfolding(gimli_lists::specs::Places::list_answers))]
+pub(crate) fn find_locations<E: Endianity>(
+    sections: &GimliSections<'_>,
+    endian: E,
+    unit: &GimliUnit,
+    attribute: &GimliAttr,
+    bases: &GimliBases,
+    locations: &mut [GimliLocation],
+) -> Listed
+    ensures { let told = locations_at (E.big endian) sections.now unit.now attribute.now bases.now
+        in
+        IsToldList location_row told locations.old locations.new result.count result.status }
+{
+    let encoding = encoding_of(unit);
+    if !is_address_size(unit.address_size) {
+        return none(refused(Error::UnsupportedAddressSize(unit.address_size)));
+    }
+    let old = DebugLoc::new(sections.loc, endian);
+    let new = DebugLocLists::new(sections.loclists, endian);
+    let lists = LocationLists::new(old, new);
+    let number = attribute.number as usize;
+    let offset = if attribute.class == 12 {
+        LocationListsOffset(number)
+    } else if attribute.class == 21 {
+        let base = DebugLocListsBase(bases.loclists as usize);
+        match lists.get_offset(encoding, base, DebugLocListsIndex(number)) {
+            Ok(offset) => offset,
+            Err(error) => return none(refused(error)),
+        }
+    } else {
+        return none(NO_LIST);
+    };
+    let addresses = DebugAddr::from(EndianSlice::new(sections.addresses, endian));
+    let table = DebugAddrBase(bases.addresses as usize);
+    let found = if bases.dwo == 0 {
+        lists.locations(offset, encoding, bases.address, &addresses, table)
+    } else {
+        lists.locations_dwo(offset, encoding, bases.address, &addresses, table)
+    };
+    match found {
+        Ok(mut list) => fill_locations(&mut list, locations),
+        Err(error) => none(refused(error)),
+    }
+}
+
+// Fills the locations of a list, and counts them all.
+fn fill_locations<R: Reader>(list: &mut LocListIter<R>, locations: &mut [GimliLocation]) -> Listed
+    requires { length list.old.raw.rest.bytes < 2 ^ 63 }
+    ensures { IsListed location_row (locations_ahead R.Offset.limit list.old) locations.old
+        locations.new result.count result.status }
+{
+    let room = locations.len();
+    let mut count = 0;
+    'found: loop {
+        match list.next() {
+            Ok(Some(location)) => {
+                if count < locations.len() {
+                    locations[count] = GimliLocation {
+                        begin: location.range.begin,
+                        end: location.range.end,
+                        place: location.expr.0.offset_id().0,
+                        length: location.expr.0.len().into_u64(),
+                    };
+                }
+                count += 1;
+            }
+            Ok(None) => {
+                return Listed {
+                    count,
+                    status: status_behind(room, count, END),
+                };
+            }
+            Err(error) => {
+                return Listed {
+                    count,
+                    status: status_behind(room, count, row_refused(error)),
+                };
+            }
+        }
+    }
+}
