@@ -1,0 +1,34 @@
+#!/bin/bash
+# build.sh: makes of crates/gimli_c, which it proves where that is to do, what C, Rust and Python link: target/libgimli.a,
+# target/libgimli.so and target/gimli.pc; and the C programs beside them. `build.sh test` runs the tests of all three too.
+set -euo pipefail
+here=$(cd "$(dirname "$0")" && pwd)
+target=$here/target
+kit=$(dirname "$(rt doc)")
+mkdir -p "$target"
+(cd "$here/../crates/gimli_c" && rt lib --jobs 1 | tail -1)
+
+# the archive, with the allocator over malloc, realloc and free
+rm -rf "$target/heap" "$target/libgimli.a"
+mkdir "$target/heap"
+(cd "$target/heap" && ar x "$kit/c/liblibc_c.a")
+cp "$here/../crates/gimli_c/out/libgimli_c.a" "$target/libgimli.a"
+ar rs "$target/libgimli.a" "$target"/heap/*.o
+
+calls=$(grep -o '^uint32_t gimli_[a-z_]*' "$here/include/gimli.h" | cut -d' ' -f2)
+printf '{ global: %s local: *; };\n' "$(printf '%s; ' $calls)" > "$target/exports"
+cc -shared -o "$target/libgimli.so" -Wl,--whole-archive "$target/libgimli.a" -Wl,--no-whole-archive \
+    -Wl,--version-script="$target/exports" -Wl,-z,defs
+cat > "$target/gimli.pc" <<PC
+Name: gimli
+Description: The proved DWARF reader
+Version: 0.1
+Cflags: -I$here/include
+Libs: -L$target -lgimli
+PC
+for program in rows attrs lists; do
+    cc -std=c11 -O2 -Wall -Wextra -I"$here/include" -o "$target/$program" "$here/c/$program.c" "$target/libgimli.a"
+done
+cc -std=c11 -O2 -Wall -Wextra -I"$here/include" -Wl,--wrap=malloc -Wl,--wrap=realloc -o "$target/memory" "$here/c/memory.c" \
+    "$target/libgimli.a"
+if [ "${1:-}" = test ]; then "$here/test.sh"; fi

@@ -1,0 +1,232 @@
+/* The proved DWARF reader for C and C++.
+
+   Every call fills what its caller hands over and keeps nothing: there is nothing to free, and any thread may call at any
+   time. What a call gives is proved over definitions of DWARF, for all bytes of the sections (crates/gimli_c). This header is
+   written by hand beside it: the assertions at its end and the tests are all that compares the two.
+
+   What a caller owes:
+   - Pointers are valid for the lengths beside them, and lengths are at most 2^63 - 1. No pointer is null, also where its
+     length is 0: begin with gimli_no_sections(), set sections by gimli_bytes(), which takes null for no bytes, and hand over
+     GIMLI_NONE for a buffer of length 0.
+   - What is written to overlaps nothing that the same call reads or writes.
+   - The program has 64 bits, and its malloc, realloc and free are of one allocator.
+   - No call is made from a signal handler, or in the forked child of a process with threads.
+   Buffers need not be set before a call. */
+#ifndef GIMLI_H
+#define GIMLI_H
+
+#include <stddef.h>
+#include <stdint.h>
+
+#ifdef __cplusplus
+extern "C" {
+#endif
+
+/* Statuses. Each call says which of them it answers, and what it has written then. */
+enum {
+    GIMLI_MORE = 0,          /* something was found, and there may be more */
+    GIMLI_END = 1,           /* nothing is left */
+    GIMLI_TOO_DEEP = 2,      /* the depth of the place is so great that depths behind it may be out of range */
+    GIMLI_NO_LIST = 3,       /* the attribute's value names no list */
+    GIMLI_REFUSED = 256,     /* and a number of gimli_error: what the call begins with was refused */
+    GIMLI_ROW_REFUSED = 512  /* and a number of gimli_error: what stands behind all that was written was refused */
+};
+
+/* The numbers of refusals. */
+enum gimli_error {
+    GIMLI_UNEXPECTED_EOF = 1, GIMLI_BAD_UNSIGNED_LEB128, GIMLI_BAD_SIGNED_LEB128, GIMLI_UNKNOWN_RESERVED_LENGTH,
+    GIMLI_UNKNOWN_VERSION, GIMLI_UNKNOWN_UNIT_TYPE, GIMLI_UNSUPPORTED_ADDRESS_SIZE, GIMLI_UNSUPPORTED_SEGMENT_SIZE,
+    GIMLI_UNSUPPORTED_OFFSET, GIMLI_UNSUPPORTED_OFFSET_SIZE, GIMLI_OFFSET_OUT_OF_BOUNDS,
+    GIMLI_NO_ENTRY_AT_GIVEN_OFFSET, GIMLI_INVALID_ABBREVIATION_CODE, GIMLI_UNKNOWN_FORM, GIMLI_INVALID_IMPLICIT_CONST,
+    GIMLI_UNKNOWN_RANGE_LISTS_ENTRY, GIMLI_UNKNOWN_LOC_LISTS_ENTRY, GIMLI_ADDRESS_OVERFLOW, GIMLI_ABBREVIATION_TAG_ZERO,
+    GIMLI_INVALID_ABBREVIATION_CHILDREN, GIMLI_ATTRIBUTE_NAME_ZERO, GIMLI_ATTRIBUTE_FORM_ZERO,
+    GIMLI_DUPLICATE_ABBREVIATION_CODE,
+    GIMLI_OUT_OF_MEMORY /* the call may be made again, from where it stands */
+};
+
+/* Bytes of a section. */
+typedef struct {
+    const uint8_t *bytes; /* never null */
+    size_t length;
+} gimli_bytes_t;
+
+/* The sections. Each call reads those alone that it names; the others may be empty. */
+typedef struct {
+    gimli_bytes_t units;     /* .debug_info, or .debug_types, as `types` says */
+    gimli_bytes_t abbrev;    /* .debug_abbrev */
+    gimli_bytes_t addresses; /* .debug_addr */
+    gimli_bytes_t aranges;   /* .debug_aranges */
+    gimli_bytes_t ranges;    /* .debug_ranges */
+    gimli_bytes_t rnglists;  /* .debug_rnglists */
+    gimli_bytes_t loc;       /* .debug_loc */
+    gimli_bytes_t loclists;  /* .debug_loclists */
+    uint8_t big;             /* 0: little endian; else big endian */
+    uint8_t types;           /* 0: `units` are .debug_info; else .debug_types */
+} gimli_sections_t;
+
+/* The header of a unit. */
+typedef struct {
+    uint64_t offset;        /* where the unit begins in its section */
+    uint64_t length;        /* the number of its bytes: the next unit begins at offset + length */
+    uint64_t header_size;   /* the offset of the first entry in the unit */
+    uint64_t abbreviations; /* where its abbreviations are in .debug_abbrev */
+    uint64_t id;            /* the signature of a type unit, the id of a skeleton or split unit, or 0 */
+    uint64_t type_offset;   /* where a type unit's type stands in the unit, or 0 */
+    uint16_t version;
+    uint8_t kind;           /* DW_UT_compile (1) to DW_UT_split_type (6), or a vendor's from 128 on */
+    uint8_t address_size;
+    uint8_t offset_size;    /* 4 or 8 */
+} gimli_unit_t;
+
+/* A place in a unit, between two rows. The first is {header_size, 0}. */
+typedef struct {
+    uint64_t offset; /* in the unit */
+    int64_t depth;   /* of the row that is read there */
+} gimli_place_t;
+
+/* An entry, or the null that closes a list of children. */
+typedef struct {
+    uint64_t offset; /* in the unit */
+    int64_t depth;
+    uint16_t tag;    /* DW_TAG_.., or 0 for a null */
+    uint8_t has_children;
+} gimli_row_t;
+
+/* The same with its attributes. */
+typedef struct {
+    uint64_t offset;
+    int64_t depth;
+    size_t first;      /* the index of its first attribute among those that the call wrote */
+    size_t attributes; /* their number */
+    uint16_t tag;
+    uint8_t has_children;
+} gimli_entry_t;
+
+/* An attribute, with its value as it is read. */
+typedef struct {
+    uint64_t number; /* a number without a sign, an offset, an index, a flag; of 16 bytes the low 8 */
+    int64_t sign;    /* a number with a sign (GIMLI_SDATA) */
+    uint64_t high;   /* the high 8 of 16 bytes (GIMLI_DATA16) */
+    uint64_t place;  /* where the bytes of a block, an expression or a text lie in `units` */
+    uint64_t length; /* their number; a text's zero is not counted */
+    uint16_t name;   /* DW_AT_.. */
+    uint16_t form;   /* DW_FORM_.. of the declaration */
+    uint8_t kind;    /* GIMLI_ADDR .. */
+} gimli_attr_t;
+
+/* The kinds of values. */
+enum {
+    GIMLI_ADDR = 1, GIMLI_BLOCK, GIMLI_DATA1, GIMLI_DATA2, GIMLI_DATA4, GIMLI_DATA8, GIMLI_DATA16, GIMLI_SDATA,
+    GIMLI_UDATA, GIMLI_EXPRLOC, GIMLI_FLAG, GIMLI_SEC_OFFSET, GIMLI_ADDR_INDEX = 14, GIMLI_UNIT_REF, GIMLI_INFO_REF,
+    GIMLI_INFO_REF_SUP, GIMLI_LOC_LISTS_INDEX = 21, GIMLI_RNG_LISTS_INDEX = 26, GIMLI_TYPES_REF, GIMLI_STR_REF,
+    GIMLI_STR_REF_SUP, GIMLI_STR_OFFSETS_INDEX = 31, GIMLI_LINE_STR_REF, GIMLI_STRING, GIMLI_ADDR_INDEX_OFFSET = 48
+};
+
+/* How much gimli_entries wrote. */
+typedef struct {
+    size_t rows;
+    size_t attributes;
+    size_t wanted; /* where the next row was left since its attributes have no space: their number; else 0 */
+} gimli_filled_t;
+
+/* What the lists of a unit are resolved against: values of attributes of its root. */
+typedef struct {
+    uint64_t address;   /* DW_AT_low_pc, or 0 */
+    uint64_t addresses; /* DW_AT_addr_base */
+    uint64_t rnglists;  /* DW_AT_rnglists_base */
+    uint64_t loclists;  /* DW_AT_loclists_base */
+    uint8_t dwo;        /* not 0: location lists of a split file */
+} gimli_bases_t;
+
+/* A range of addresses. */
+typedef struct {
+    uint64_t begin;
+    uint64_t end; /* behind the last */
+} gimli_range_t;
+
+/* A range of addresses, and where the expression that holds there lies in .debug_loclists (.debug_loc up to version 4). */
+typedef struct {
+    uint64_t begin;
+    uint64_t end;
+    uint64_t place;
+    uint64_t length;
+} gimli_location_t;
+
+/* A buffer of length 0. */
+#define GIMLI_NONE(type) ((type *)(uintptr_t)16)
+
+/* Bytes of a section; none where the pointer is null. */
+static inline gimli_bytes_t gimli_bytes(const void *bytes, size_t length) {
+    gimli_bytes_t section;
+    section.bytes = bytes ? (const uint8_t *)bytes : GIMLI_NONE(const uint8_t);
+    section.length = bytes ? length : 0;
+    return section;
+}
+
+/* Sections that are all empty, in little endian. */
+static inline gimli_sections_t gimli_no_sections(void) {
+    gimli_sections_t sections;
+    sections.units = sections.abbrev = sections.addresses = sections.aranges = gimli_bytes(NULL, 0);
+    sections.ranges = sections.rnglists = sections.loc = sections.loclists = gimli_bytes(NULL, 0);
+    sections.big = sections.types = 0;
+    return sections;
+}
+
+/* The header of the unit at an offset of `units`.
+   MORE: `unit` is it. Else `unit` is as it was. END: the offset is the section's length. REFUSED: it was refused. */
+uint32_t gimli_unit(const gimli_sections_t *sections, uint64_t offset, gimli_unit_t *unit);
+
+/* Rows of the unit at an offset of `units`, from a place on: `count` of them from the front of all that are left. The place is
+   left behind them, and `rows` is as it was behind them. `units` and `abbrev` are read.
+   MORE: the buffer is full, and there is more. END: none is left. ROW_REFUSED: what stands at the place was refused.
+   TOO_DEEP, or REFUSED of the unit, of its abbreviations or of the place's offset: no row, and the place is as it was.
+   Where memory was refused, the rows that were written are right too, and the next call goes on. */
+uint32_t gimli_rows(const gimli_sections_t *sections, uint64_t unit, gimli_place_t *place, gimli_row_t *rows, size_t room,
+                    size_t *count);
+
+/* The same with the attributes of each row, one row's behind those of the row before. Rows are written as long as there is
+   room for them and space for all their attributes. MORE with filled->wanted not 0: the next row wants so much space. */
+uint32_t gimli_entries(const gimli_sections_t *sections, uint64_t unit, gimli_place_t *place, gimli_entry_t *rows, size_t room,
+                       gimli_attr_t *attrs, size_t space, gimli_filled_t *filled);
+
+/* The next sibling of the row at a place: the next entry of its depth, before the null that closes their list. `units` and
+   `abbrev` are read. With `follows` 0 all rows between are read; else the references of entries (DW_AT_sibling) are followed,
+   and the answer is the same where gimli_first_false finds none in the unit.
+   MORE: `row` is it. Else `row` is as it was. END: there is none, or a null stands at the place. ROW_REFUSED: what stands at
+   the place or behind was refused. REFUSED: of the unit, of its abbreviations or of the offset. */
+uint32_t gimli_sibling(const gimli_sections_t *sections, uint64_t unit, const gimli_place_t *place, uint8_t follows,
+                       gimli_row_t *row);
+
+/* The first row of a unit whose sibling reference can be followed and does not lead just past the null that closes its
+   children. `units` and `abbrev` are read.
+   MORE: it stands at `offset` of the unit. Else `offset` is as it was. END: there is none. REFUSED: of the unit or of its
+   abbreviations. */
+uint32_t gimli_first_false(const gimli_sections_t *sections, uint64_t unit, uint64_t *offset);
+
+/* Where the unit of an address begins in .debug_info: that of the first set of `aranges` with a range that holds the address.
+   MORE: at `offset`. Else `offset` is as it was. END: no set has one. REFUSED: of the header of a set, and no set before it
+   has one. */
+uint32_t gimli_unit_of_address(const gimli_sections_t *sections, uint64_t address, uint64_t *offset);
+
+/* The ranges of the list that an attribute's value names (GIMLI_SEC_OFFSET, GIMLI_RNG_LISTS_INDEX), as gimli_entries writes it
+   for DW_AT_ranges of a row of `unit`: `count` are all before the first that is refused, of which as many are written as there
+   is room for. `ranges` or `rnglists` is read, and `addresses`.
+   MORE: there are more than there is room for. END: all were written. ROW_REFUSED: all were written, and what stands behind
+   them was refused. NO_LIST, or REFUSED of the size of addresses, of the index or of the offset: none. */
+uint32_t gimli_ranges(const gimli_sections_t *sections, const gimli_unit_t *unit, const gimli_attr_t *attribute,
+                      const gimli_bases_t *bases, gimli_range_t *into, size_t room, size_t *count);
+
+/* The same of locations (GIMLI_SEC_OFFSET, GIMLI_LOC_LISTS_INDEX). `loc` or `loclists` is read, and `addresses`. */
+uint32_t gimli_locations(const gimli_sections_t *sections, const gimli_unit_t *unit, const gimli_attr_t *attribute,
+                         const gimli_bases_t *bases, gimli_location_t *into, size_t room, size_t *count);
+
+#ifdef __cplusplus
+}
+static_assert(sizeof(size_t) == 8, "64 bits");
+#else
+_Static_assert(sizeof(size_t) == 8 && sizeof(gimli_bytes_t) == 16 && sizeof(gimli_sections_t) == 136, "64 bits");
+_Static_assert(sizeof(gimli_unit_t) == 56 && sizeof(gimli_place_t) == 16 && sizeof(gimli_row_t) == 24, "64 bits");
+_Static_assert(sizeof(gimli_entry_t) == 40 && sizeof(gimli_attr_t) == 48 && sizeof(gimli_filled_t) == 24, "64 bits");
+_Static_assert(sizeof(gimli_bases_t) == 40 && sizeof(gimli_range_t) == 16 && sizeof(gimli_location_t) == 32, "64 bits");
+#endif
+#endif

@@ -1,0 +1,257 @@
+"""The proved DWARF reader for Python, by ctypes over libgimli.so.
+
+    library = gimli.load("target/libgimli.so")
+    dwarf = gimli.Dwarf(library, debug_info=info, debug_abbrev=abbrev)
+    for unit in dwarf.units():
+        for row, attributes in dwarf.entries(unit):
+            ...
+
+Rows are tuples (offset, depth, tag, has_children); with numpy, `array` gives those of a unit as a structured array. What
+each call of the library gives is proved; this module is not.
+"""
+import ctypes
+import sys
+from ctypes import POINTER, Structure, byref, c_char_p, c_int64, c_size_t, c_uint8, c_uint16, c_uint32, c_uint64
+from pathlib import Path
+
+MORE, END, TOO_DEEP, NO_LIST, REFUSED, ROW_REFUSED = 0, 1, 2, 3, 256, 512
+
+NAMES = """UnexpectedEof BadUnsignedLeb128 BadSignedLeb128 UnknownReservedLength UnknownVersion UnknownUnitType
+    UnsupportedAddressSize UnsupportedSegmentSize UnsupportedOffset UnsupportedOffsetSize OffsetOutOfBounds NoEntryAtGivenOffset
+    InvalidAbbreviationCode UnknownForm InvalidImplicitConst UnknownRangeListsEntry UnknownLocListsEntry AddressOverflow
+    AbbreviationTagZero InvalidAbbreviationChildren AttributeNameZero AttributeFormZero DuplicateAbbreviationCode
+    OutOfMemory""".split()
+
+
+class Bytes(Structure):
+    _fields_ = [("bytes", c_char_p), ("length", c_size_t)]
+
+    @classmethod
+    def of(cls, data):
+        return cls(data, len(data))
+
+
+class Sections(Structure):
+    _fields_ = [(name, Bytes) for name in ("units", "abbrev", "addresses", "aranges", "ranges", "rnglists", "loc", "loclists")]
+    _fields_ += [("big", c_uint8), ("types", c_uint8)]
+
+
+class Unit(Structure):
+    _fields_ = [("offset", c_uint64), ("length", c_uint64), ("header_size", c_uint64), ("abbreviations", c_uint64),
+                ("id", c_uint64), ("type_offset", c_uint64), ("version", c_uint16), ("kind", c_uint8),
+                ("address_size", c_uint8), ("offset_size", c_uint8)]
+
+
+class Place(Structure):
+    _fields_ = [("offset", c_uint64), ("depth", c_int64)]
+
+
+class Row(Structure):
+    _fields_ = [("offset", c_uint64), ("depth", c_int64), ("tag", c_uint16), ("has_children", c_uint8)]
+
+
+class Entry(Structure):
+    _fields_ = [("offset", c_uint64), ("depth", c_int64), ("first", c_size_t), ("attributes", c_size_t),
+                ("tag", c_uint16), ("has_children", c_uint8)]
+
+
+class Attr(Structure):
+    _fields_ = [("number", c_uint64), ("signed", c_int64), ("high", c_uint64), ("place", c_uint64),
+                ("length", c_uint64), ("name", c_uint16), ("form", c_uint16), ("kind", c_uint8)]
+
+
+class Filled(Structure):
+    _fields_ = [("rows", c_size_t), ("attributes", c_size_t), ("wanted", c_size_t)]
+
+
+class Bases(Structure):
+    """Values of attributes of a unit's root, against which its lists are resolved."""
+    _fields_ = [("address", c_uint64), ("addresses", c_uint64), ("rnglists", c_uint64), ("loclists", c_uint64),
+                ("dwo", c_uint8)]
+
+
+class Range(Structure):
+    _fields_ = [("begin", c_uint64), ("end", c_uint64)]
+
+
+class Location(Structure):
+    _fields_ = [("begin", c_uint64), ("end", c_uint64), ("place", c_uint64), ("length", c_uint64)]
+
+
+# The kinds of values, as gimli names them; those that only names give do not occur.
+KINDS = {1: "Addr", 2: "Block", 3: "Data1", 4: "Data2", 5: "Data4", 6: "Data8", 7: "Data16", 8: "Sdata", 9: "Udata",
+         10: "Exprloc", 11: "Flag", 12: "SecOffset", 14: "DebugAddrIndex", 15: "UnitRef", 16: "DebugInfoRef",
+         17: "DebugInfoRefSup", 21: "DebugLocListsIndex", 26: "DebugRngListsIndex", 27: "DebugTypesRef",
+         28: "DebugStrRef", 29: "DebugStrRefSup", 31: "DebugStrOffsetsIndex", 32: "DebugLineStrRef", 33: "String",
+         48: "DebugAddrIndexOffset"}
+
+
+class Refused(Exception):
+    """A refusal: its number and gimli's name, and where it stands in the unit if a row was refused."""
+
+    def __init__(self, status, offset=None):
+        self.number = status % 256 if status >= REFUSED else 0
+        self.name = NAMES[self.number - 1] if self.number else {TOO_DEEP: "TooDeep", NO_LIST: "NoList"}[status]
+        self.offset = offset if status >= ROW_REFUSED else None
+        super().__init__(f"error {self.number}" + ("" if self.offset is None else f" {self.offset:x}"))
+
+
+def load(path):
+    library = ctypes.CDLL(str(path))
+    sections = POINTER(Sections)
+    for name, arguments in {
+        "unit": [c_uint64, POINTER(Unit)],
+        "rows": [c_uint64, POINTER(Place), POINTER(Row), c_size_t, POINTER(c_size_t)],
+        "entries": [c_uint64, POINTER(Place), POINTER(Entry), c_size_t, POINTER(Attr), c_size_t, POINTER(Filled)],
+        "sibling": [c_uint64, POINTER(Place), c_uint8, POINTER(Row)],
+        "first_false": [c_uint64, POINTER(c_uint64)],
+        "unit_of_address": [c_uint64, POINTER(c_uint64)],
+        "ranges": [POINTER(Unit), POINTER(Attr), POINTER(Bases), POINTER(Range), c_size_t, POINTER(c_size_t)],
+        "locations": [POINTER(Unit), POINTER(Attr), POINTER(Bases), POINTER(Location), c_size_t, POINTER(c_size_t)],
+    }.items():
+        call = getattr(library, "gimli_" + name)
+        call.argtypes, call.restype = [sections, *arguments], c_uint32
+    return library
+
+
+def row_of(row):
+    return row.offset, row.depth, row.tag, row.has_children
+
+
+class Dwarf:
+    """The sections of a file, as bytes; with `types` the units are those of .debug_types."""
+
+    def __init__(self, library, debug_info=b"", debug_abbrev=b"", debug_addr=b"", debug_aranges=b"", debug_ranges=b"",
+                 debug_rnglists=b"", debug_loc=b"", debug_loclists=b"", debug_types=b"", big=False, types=False):
+        self.library, self.units_bytes = library, bytes(debug_types if types else debug_info)
+        self.kept = [self.units_bytes, *map(bytes, (debug_abbrev, debug_addr, debug_aranges, debug_ranges, debug_rnglists,
+                                                    debug_loc, debug_loclists))]
+        self.sections = Sections(*map(Bytes.of, self.kept), big, types)
+
+    def call(self, name, *arguments):
+        return getattr(self.library, "gimli_" + name)(byref(self.sections), *arguments)
+
+    def found(self, name, answer, *arguments):
+        status = self.call(name, *arguments, byref(answer))
+        if status == MORE:
+            return answer
+        if status == END:
+            return None
+        raise Refused(status)
+
+    def units(self):
+        """The units, one behind the other."""
+        offset = 0
+        while (unit := self.found("unit", Unit(), offset)) is not None:
+            yield unit
+            offset = unit.offset + unit.length
+
+    def blocks(self, unit, room):
+        """Buffers of rows, and how many of each were written."""
+        place, rows, count, status = Place(unit.header_size, 0), (Row * room)(), c_size_t(), MORE
+        while status == MORE:
+            status = self.call("rows", unit.offset, byref(place), rows, room, byref(count))
+            yield rows, count.value
+        if status != END:
+            raise Refused(status, place.offset)
+
+    def rows(self, unit, room=4096):
+        """Tuples (offset, depth, tag, has_children); a null has the tag 0."""
+        for rows, count in self.blocks(unit, room):
+            for i in range(count):
+                yield row_of(rows[i])
+
+    def array(self, unit, room=4096):
+        """Structured arrays of numpy over the rows, a buffer each without a copy: use one before the next is taken."""
+        import numpy
+        for rows, count in self.blocks(unit, room):
+            yield numpy.ctypeslib.as_array(rows)[:count]
+
+    def value(self, attr):
+        """The value of an attribute: a number, or bytes of the section."""
+        kind = KINDS.get(attr.kind, "Other")
+        if kind in ("Block", "Exprloc", "String"):
+            return kind, self.units_bytes[attr.place:attr.place + attr.length]
+        if kind == "Sdata":
+            return kind, attr.signed
+        if kind == "Data16":
+            return kind, attr.number | attr.high << 64
+        if kind == "DebugAddrIndexOffset":
+            return kind, (attr.number, attr.high)
+        return kind, bool(attr.number) if kind == "Flag" else attr.number
+
+    def raw_entries(self, unit, room=1024, space=8192):
+        """Pairs of a row and its attributes as the library writes them."""
+        place, rows, attrs, filled, status = Place(unit.header_size, 0), (Entry * room)(), (Attr * space)(), Filled(), MORE
+        while status == MORE:
+            status = self.call("entries", unit.offset, byref(place), rows, room, attrs, space, byref(filled))
+            for i in range(filled.rows):
+                row = rows[i]
+                yield row_of(row), attrs[row.first:row.first + row.attributes]
+            if filled.rows == 0 and filled.wanted > space:
+                space = filled.wanted
+                attrs = (Attr * space)()
+        if status != END:
+            raise Refused(status, place.offset)
+
+    def entries(self, unit, room=1024, space=8192):
+        """Pairs of a row and its attributes, each (name, form, kind, value)."""
+        for row, attrs in self.raw_entries(unit, room, space):
+            yield row, [(a.name, a.form, *self.value(a)) for a in attrs]
+
+    def sibling(self, unit, offset, depth=0, follows=False):
+        """The next sibling of the row at an offset, as a tuple, or None."""
+        row = self.found("sibling", Row(), unit.offset, byref(Place(offset, depth)), follows)
+        return row and row_of(row)
+
+    def first_false(self, unit):
+        """The offset of the first row whose sibling reference is false, or None."""
+        offset = self.found("first_false", c_uint64(), unit.offset)
+        return None if offset is None else offset.value
+
+    def unit_of_address(self, address):
+        """Where the unit of an address begins in .debug_info, by .debug_aranges, or None."""
+        offset = self.found("unit_of_address", c_uint64(), address)
+        return None if offset is None else offset.value
+
+    def listed(self, name, kind, unit, attr, bases):
+        room, count = 16, c_size_t()
+        while True:
+            into = (kind * room)()
+            status = self.call(name, byref(unit), byref(attr), byref(bases), into, room, byref(count))
+            if status == END:
+                return into[:count.value]
+            if status != MORE:
+                raise Refused(status)
+            room = count.value
+
+    def ranges(self, unit, attr, bases=Bases()):
+        """The ranges of the list that an attribute of `raw_entries` names."""
+        return [(r.begin, r.end) for r in self.listed("ranges", Range, unit, attr, bases)]
+
+    def locations(self, unit, attr, bases=Bases()):
+        """The locations of the list that an attribute of `raw_entries` names, each (begin, end, expression)."""
+        section = self.kept[7 if unit.version >= 5 else 6]
+        return [(r.begin, r.end, section[r.place:r.place + r.length])
+                for r in self.listed("locations", Location, unit, attr, bases)]
+
+
+def main(library, info, abbrev):
+    """Prints the rows of the first unit as `gimli_walk rows` does."""
+    dwarf = Dwarf(load(library), Path(info).read_bytes(), Path(abbrev).read_bytes())
+    lines = []
+    try:
+        unit = next(dwarf.units(), None)
+        if unit is None:
+            lines.append("no unit")
+        else:
+            for row in dwarf.rows(unit):
+                lines.append("%x %d %x %d" % row)
+            lines.append("end")
+    except Refused as refused:
+        lines.append(str(refused))
+    print("\n".join(lines))
+
+
+if __name__ == "__main__":
+    main(*sys.argv[1:4])

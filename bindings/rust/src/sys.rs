@@ -1,0 +1,233 @@
+//! The declarations of the library, and the only code of this crate that is `unsafe`.
+//!
+//! Each call is allowed for all numbers and all slices: the library's functions have no precondition but that pointers are
+//! valid for the lengths beside them, and that what is written to overlaps nothing else, which references and slices
+//! guarantee. A slice's pointer is never null, and its length is below 2^63.
+
+use crate::{Bases, Location, Place, Range, Row};
+
+/// Bytes of a section, as a pointer and a length.
+#[repr(C)]
+#[derive(Clone, Copy)]
+struct Bytes {
+    bytes: *const u8,
+    length: usize,
+}
+
+impl From<&[u8]> for Bytes {
+    fn from(bytes: &[u8]) -> Self {
+        Bytes {
+            bytes: bytes.as_ptr(),
+            length: bytes.len(),
+        }
+    }
+}
+
+/// The sections; the slices that they were made of live as long as `'a`.
+#[repr(C)]
+#[derive(Clone, Copy)]
+pub(crate) struct Sections<'a> {
+    units: Bytes,
+    abbrev: Bytes,
+    addresses: Bytes,
+    aranges: Bytes,
+    ranges: Bytes,
+    rnglists: Bytes,
+    loc: Bytes,
+    loclists: Bytes,
+    big: u8,
+    types: u8,
+    slices: core::marker::PhantomData<&'a [u8]>,
+}
+
+impl<'a> Sections<'a> {
+    pub(crate) fn new(sections: &crate::Sections<'a>, types: bool) -> Self {
+        Sections {
+            units: if types {
+                sections.debug_types
+            } else {
+                sections.debug_info
+            }
+            .into(),
+            abbrev: sections.debug_abbrev.into(),
+            addresses: sections.debug_addr.into(),
+            aranges: sections.debug_aranges.into(),
+            ranges: sections.debug_ranges.into(),
+            rnglists: sections.debug_rnglists.into(),
+            loc: sections.debug_loc.into(),
+            loclists: sections.debug_loclists.into(),
+            big: (sections.endian == crate::Endian::Big).into(),
+            types: types.into(),
+            slices: core::marker::PhantomData,
+        }
+    }
+}
+
+#[repr(C)]
+#[derive(Clone, Copy, Debug, Default)]
+pub(crate) struct Unit {
+    pub(crate) offset: u64,
+    pub(crate) length: u64,
+    pub(crate) header_size: u64,
+    pub(crate) abbreviations: u64,
+    pub(crate) id: u64,
+    pub(crate) type_offset: u64,
+    pub(crate) version: u16,
+    pub(crate) kind: u8,
+    pub(crate) address_size: u8,
+    pub(crate) offset_size: u8,
+}
+
+#[repr(C)]
+#[derive(Clone, Copy, Debug, Default)]
+pub(crate) struct Entry {
+    pub(crate) offset: u64,
+    pub(crate) depth: isize,
+    pub(crate) first: usize,
+    pub(crate) attributes: usize,
+    pub(crate) tag: u16,
+    pub(crate) has_children: u8,
+}
+
+#[repr(C)]
+#[derive(Clone, Copy, Debug, Default)]
+pub(crate) struct Attr {
+    pub(crate) number: u64,
+    pub(crate) signed: i64,
+    pub(crate) high: u64,
+    pub(crate) place: u64,
+    pub(crate) length: u64,
+    pub(crate) name: u16,
+    pub(crate) form: u16,
+    pub(crate) kind: u8,
+}
+
+#[repr(C)]
+#[derive(Clone, Copy, Debug, Default)]
+pub(crate) struct Filled {
+    pub(crate) rows: usize,
+    pub(crate) attributes: usize,
+    pub(crate) wanted: usize,
+}
+
+mod raw {
+    use super::{Attr, Entry, Filled, Sections, Unit};
+    use crate::{Bases, Location, Place, Range, Row};
+
+    #[rustfmt::skip]
+    unsafe extern "C" {
+        pub(super) fn gimli_unit(s: &Sections<'_>, offset: u64, unit: &mut Unit) -> u32;
+        pub(super) fn gimli_rows(s: &Sections<'_>, unit: u64, place: &mut Place, rows: *mut Row, room: usize, count: &mut usize) -> u32;
+        pub(super) fn gimli_entries(s: &Sections<'_>, unit: u64, place: &mut Place, rows: *mut Entry, room: usize, attrs: *mut Attr, space: usize, filled: &mut Filled) -> u32;
+        pub(super) fn gimli_sibling(s: &Sections<'_>, unit: u64, place: &Place, follows: u8, row: &mut Row) -> u32;
+        pub(super) fn gimli_first_false(s: &Sections<'_>, unit: u64, offset: &mut u64) -> u32;
+        pub(super) fn gimli_unit_of_address(s: &Sections<'_>, address: u64, offset: &mut u64) -> u32;
+        pub(super) fn gimli_ranges(s: &Sections<'_>, unit: &Unit, attribute: &Attr, bases: &Bases, into: *mut Range, room: usize, count: &mut usize) -> u32;
+        pub(super) fn gimli_locations(s: &Sections<'_>, unit: &Unit, attribute: &Attr, bases: &Bases, into: *mut Location, room: usize, count: &mut usize) -> u32;
+    }
+}
+
+pub(crate) fn unit(sections: &Sections<'_>, offset: u64, unit: &mut Unit) -> u32 {
+    // SAFETY: the module's text.
+    unsafe { raw::gimli_unit(sections, offset, unit) }
+}
+
+pub(crate) fn rows(
+    sections: &Sections<'_>,
+    unit: u64,
+    place: &mut Place,
+    rows: &mut [Row],
+    count: &mut usize,
+) -> u32 {
+    // SAFETY: the module's text.
+    unsafe { raw::gimli_rows(sections, unit, place, rows.as_mut_ptr(), rows.len(), count) }
+}
+
+pub(crate) fn entries(
+    sections: &Sections<'_>,
+    unit: u64,
+    place: &mut Place,
+    rows: &mut [Entry],
+    attrs: &mut [Attr],
+    filled: &mut Filled,
+) -> u32 {
+    let (rows, room) = (rows.as_mut_ptr(), rows.len());
+    // SAFETY: the module's text.
+    unsafe {
+        raw::gimli_entries(
+            sections,
+            unit,
+            place,
+            rows,
+            room,
+            attrs.as_mut_ptr(),
+            attrs.len(),
+            filled,
+        )
+    }
+}
+
+pub(crate) fn sibling(
+    sections: &Sections<'_>,
+    unit: u64,
+    place: &Place,
+    follows: bool,
+    row: &mut Row,
+) -> u32 {
+    // SAFETY: the module's text.
+    unsafe { raw::gimli_sibling(sections, unit, place, follows.into(), row) }
+}
+
+pub(crate) fn first_false(sections: &Sections<'_>, unit: u64, offset: &mut u64) -> u32 {
+    // SAFETY: the module's text.
+    unsafe { raw::gimli_first_false(sections, unit, offset) }
+}
+
+pub(crate) fn unit_of_address(sections: &Sections<'_>, address: u64, offset: &mut u64) -> u32 {
+    // SAFETY: the module's text.
+    unsafe { raw::gimli_unit_of_address(sections, address, offset) }
+}
+
+pub(crate) fn ranges(
+    sections: &Sections<'_>,
+    unit: &Unit,
+    attribute: &Attr,
+    bases: &Bases,
+    into: &mut [Range],
+    count: &mut usize,
+) -> u32 {
+    // SAFETY: the module's text.
+    unsafe {
+        raw::gimli_ranges(
+            sections,
+            unit,
+            attribute,
+            bases,
+            into.as_mut_ptr(),
+            into.len(),
+            count,
+        )
+    }
+}
+
+pub(crate) fn locations(
+    sections: &Sections<'_>,
+    unit: &Unit,
+    attribute: &Attr,
+    bases: &Bases,
+    into: &mut [Location],
+    count: &mut usize,
+) -> u32 {
+    // SAFETY: the module's text.
+    unsafe {
+        raw::gimli_locations(
+            sections,
+            unit,
+            attribute,
+            bases,
+            into.as_mut_ptr(),
+            into.len(),
+            count,
+        )
+    }
+}

@@ -1,0 +1,109 @@
+//! Attributes and their values.
+
+use crate::sys::Attr;
+
+/// The value of an attribute, as it is read. Slices are those of the unit's section.
+#[derive(Clone, Copy, Debug, PartialEq, Eq)]
+#[non_exhaustive]
+pub enum AttributeValue<'a> {
+    Addr(u64),
+    Block(&'a [u8]),
+    Data1(u8),
+    Data2(u16),
+    Data4(u32),
+    Data8(u64),
+    Data16(u128),
+    Sdata(i64),
+    Udata(u64),
+    /// The bytes of an expression.
+    Exprloc(&'a [u8]),
+    Flag(bool),
+    SecOffset(u64),
+    DebugAddrIndex(u64),
+    /// The address at an index, and what is added to it.
+    DebugAddrIndexOffset(u64, u32),
+    /// An offset in the unit.
+    UnitRef(u64),
+    DebugInfoRef(u64),
+    DebugInfoRefSup(u64),
+    DebugLocListsIndex(u64),
+    DebugRngListsIndex(u64),
+    /// The signature of a type unit.
+    DebugTypesRef(u64),
+    DebugStrRef(u64),
+    DebugStrRefSup(u64),
+    DebugStrOffsetsIndex(u64),
+    DebugLineStrRef(u64),
+    /// A text, without the zero that ends it.
+    String(&'a [u8]),
+    /// A number of another kind.
+    Other(u8, u64),
+}
+
+/// An attribute of an entry.
+#[derive(Clone, Copy, Debug)]
+pub struct Attribute<'a> {
+    pub(crate) attr: Attr,
+    pub(crate) units: &'a [u8],
+}
+
+impl<'a> Attribute<'a> {
+    /// The name, a `DW_AT` number.
+    pub fn name(&self) -> u16 {
+        self.attr.name
+    }
+
+    /// The form of the declaration, a `DW_FORM` number.
+    pub fn form(&self) -> u16 {
+        self.attr.form
+    }
+
+    /// The value, as it is read.
+    pub fn raw_value(&self) -> AttributeValue<'a> {
+        use AttributeValue::*;
+        let a = &self.attr;
+        match a.kind {
+            1 => Addr(a.number),
+            2 => Block(self.bytes()),
+            3 => Data1(a.number as u8),
+            4 => Data2(a.number as u16),
+            5 => Data4(a.number as u32),
+            6 => Data8(a.number),
+            7 => Data16(u128::from(a.high) << 64 | u128::from(a.number)),
+            8 => Sdata(a.signed),
+            9 => Udata(a.number),
+            10 => Exprloc(self.bytes()),
+            11 => Flag(a.number != 0),
+            12 => SecOffset(a.number),
+            14 => DebugAddrIndex(a.number),
+            15 => UnitRef(a.number),
+            16 => DebugInfoRef(a.number),
+            17 => DebugInfoRefSup(a.number),
+            21 => DebugLocListsIndex(a.number),
+            26 => DebugRngListsIndex(a.number),
+            27 => DebugTypesRef(a.number),
+            28 => DebugStrRef(a.number),
+            29 => DebugStrRefSup(a.number),
+            31 => DebugStrOffsetsIndex(a.number),
+            32 => DebugLineStrRef(a.number),
+            33 => String(self.bytes()),
+            48 => DebugAddrIndexOffset(a.number, a.high as u32),
+            kind => Other(kind, a.number),
+        }
+    }
+
+    /// The value as a number without a sign, where it is one: an address, a constant, an offset, an index or a flag.
+    pub fn udata_value(&self) -> Option<u64> {
+        match self.attr.kind {
+            2 | 7 | 10 | 33 | 48 => None,
+            8 => u64::try_from(self.attr.signed).ok(),
+            _ => Some(self.attr.number),
+        }
+    }
+
+    fn bytes(&self) -> &'a [u8] {
+        let start = self.attr.place as usize;
+        let end = start.saturating_add(self.attr.length as usize);
+        self.units.get(start..end).unwrap_or_default()
+    }
+}

@@ -1,0 +1,313 @@
+//! The repository's real files, and answers beside each other.
+
+use gimli_proved::{AttributeValue, Bases, Endian, Error, Row, Sections};
+use std::{env, fs, path::PathBuf};
+
+struct File {
+    name: String,
+    info: Vec<u8>,
+    abbrev: Vec<u8>,
+    rows: String,
+    dump: String,
+}
+
+fn files() -> Vec<File> {
+    let here =
+        PathBuf::from(env!("CARGO_MANIFEST_DIR")).join("../../crates/gimli_walk_vectors/data");
+    let folder = env::var("VECTORS").map_or(here, PathBuf::from);
+    let mut names: Vec<String> = fs::read_dir(&folder)
+        .unwrap()
+        .filter_map(|file| {
+            file.unwrap()
+                .file_name()
+                .to_str()
+                .unwrap()
+                .strip_suffix(".info")
+                .map(String::from)
+        })
+        .collect();
+    names.sort();
+    assert!(!names.is_empty(), "{folder:?}");
+    let read = |name: &str, end: &str| fs::read(folder.join(format!("{name}.{end}"))).unwrap();
+    let text = |name: &str, end: &str| String::from_utf8(read(name, end)).unwrap();
+    names
+        .into_iter()
+        .map(|name| File {
+            info: read(&name, "info"),
+            abbrev: read(&name, "abbrev"),
+            rows: text(&name, "rows"),
+            dump: text(&name, "dump"),
+            name,
+        })
+        .collect()
+}
+
+impl File {
+    fn sections(&self) -> Sections<'_> {
+        Sections {
+            debug_info: &self.info,
+            debug_abbrev: &self.abbrev,
+            ..Sections::default()
+        }
+    }
+}
+
+fn line(offset: u64, depth: isize, tag: u16, flag: bool) -> String {
+    format!("{offset:x} {depth} {tag:x} {}\n", u8::from(flag))
+}
+
+fn first_rows(sections: &Sections<'_>, room: usize) -> String {
+    let unit = match sections.units().next() {
+        None => return String::from("no unit\n"),
+        Some(Err(error)) => return format!("error {}\n", error.number()),
+        Some(Ok(unit)) => unit,
+    };
+    let mut text = String::new();
+    let mut rows = sections.rows_from(&unit, unit.root(), room);
+    while let Some(row) = rows.next() {
+        match row {
+            Ok(r) => text += &line(r.offset, r.depth, r.tag, r.has_children()),
+            Err(error) => {
+                return text + &format!("error {} {:x}\n", error.number(), rows.place().offset);
+            }
+        }
+    }
+    text + "end\n"
+}
+
+#[test]
+fn no_unit() {
+    assert_eq!(first_rows(&Sections::default(), 1), "no unit\n");
+    let one = Sections {
+        debug_info: &[1],
+        ..Sections::default()
+    };
+    assert_eq!(first_rows(&one, 1), "error 1\n");
+    assert_eq!(
+        one.units().next().unwrap().unwrap_err(),
+        Error::UnexpectedEof
+    );
+}
+
+#[test]
+fn rows_of_first_units() {
+    for file in files() {
+        for room in [1, 2, 64, 4096] {
+            assert!(
+                first_rows(&file.sections(), room) == file.rows,
+                "{} {room}",
+                file.name
+            );
+        }
+    }
+}
+
+#[test]
+fn dumps() {
+    for file in files() {
+        let sections = file.sections();
+        let mut text = String::new();
+        for unit in sections.units() {
+            let unit = unit.unwrap();
+            text += &format!(
+                "unit {:x} {} {}\n",
+                unit.offset(),
+                unit.version(),
+                unit.kind()
+            );
+            for row in sections.rows(&unit) {
+                let r = row.unwrap();
+                text += &line(r.offset, r.depth, r.tag, r.has_children());
+            }
+            text += "end\n";
+        }
+        assert!(
+            text == file.dump,
+            "{}: {}",
+            file.name,
+            text.lines()
+                .zip(file.dump.lines())
+                .find(|(a, b)| a != b)
+                .map_or(String::new(), |(a, b)| format!("{a} beside {b}"))
+        );
+    }
+}
+
+// The entries of all units as text, with so much room for them and their attributes.
+fn entries_text(sections: &Sections<'_>, room: usize, space: usize) -> String {
+    let mut text = String::new();
+    for unit in sections.units() {
+        let unit = unit.unwrap();
+        let mut entries = sections.entries_from(&unit, unit.root(), room, space);
+        while let Some(entry) = entries.next_entry().unwrap() {
+            text += &line(
+                entry.offset(),
+                entry.depth(),
+                entry.tag(),
+                entry.has_children(),
+            );
+            for a in entry.attrs() {
+                text += &format!("  {:x} {:x} {:?}\n", a.name(), a.form(), a.raw_value());
+            }
+        }
+    }
+    text
+}
+
+#[test]
+fn entries() {
+    for file in files() {
+        let sections = file.sections();
+        let whole = entries_text(&sections, 4096, 65536);
+        for (room, space) in [(1, 0), (3, 7), (64, 1)] {
+            assert!(
+                entries_text(&sections, room, space) == whole,
+                "{} {room} {space}",
+                file.name
+            );
+        }
+        assert!(!whole.contains("Other("), "{}", file.name);
+        let rows: String = whole
+            .lines()
+            .filter(|l| !l.starts_with(' '))
+            .map(|l| format!("{l}\n"))
+            .collect();
+        let dump: String = file
+            .dump
+            .lines()
+            .filter(|l| !l.starts_with('u') && *l != "end")
+            .map(|l| format!("{l}\n"))
+            .collect();
+        assert!(rows == dump, "{}", file.name);
+    }
+}
+
+#[test]
+fn siblings() {
+    for file in files() {
+        let sections = file.sections();
+        for unit in sections.units() {
+            let unit = unit.unwrap();
+            let rows: Vec<Row> = sections.rows(&unit).map(|row| row.unwrap()).collect();
+            let honest = sections.first_false_sibling(&unit).unwrap().is_none();
+            for (i, row) in rows
+                .iter()
+                .enumerate()
+                .filter(|(i, _)| rows.len() < 2000 || i % 97 == 0)
+            {
+                let next = rows[i + 1..]
+                    .iter()
+                    .find(|r| r.depth == row.depth)
+                    .filter(|r| !r.is_null() && !row.is_null());
+                let plain = sections.next_sibling(&unit, row.place(), false).unwrap();
+                assert_eq!(plain.as_ref(), next, "{} {:x}", file.name, row.offset);
+                if honest {
+                    assert_eq!(
+                        sections.next_sibling(&unit, row.place(), true).unwrap(),
+                        plain,
+                        "{}",
+                        file.name
+                    );
+                }
+            }
+        }
+    }
+}
+
+#[test]
+fn big_endian_type_unit() {
+    // a type unit of version 4: its length, version, abbreviations, address size, signature and type, and one entry
+    let types = [
+        0, 0, 0, 0x18, 0, 4, 0, 0, 0, 0, 8, 1, 2, 3, 4, 5, 6, 7, 8, 0, 0, 0, 0x17, 1, 0x12, 0x34,
+        0, 0,
+    ];
+    let abbrev = [1, 0x41, 0, 0x13, 5, 0, 0, 0];
+    let sections = Sections {
+        debug_types: &types,
+        debug_abbrev: &abbrev,
+        endian: Endian::Big,
+        ..Sections::default()
+    };
+    let unit = sections.type_units().next().unwrap().unwrap();
+    assert_eq!(
+        (unit.version(), unit.kind(), unit.id(), unit.type_offset()),
+        (4, 2, 0x0102030405060708, 0x17)
+    );
+    let mut entries = sections.entries(&unit);
+    let entry = entries.next_entry().unwrap().unwrap();
+    assert_eq!(
+        (entry.offset(), entry.tag(), entry.depth()),
+        (0x17, 0x41, 0)
+    );
+    assert_eq!(
+        entry.attr(0x13).unwrap().raw_value(),
+        AttributeValue::Data2(0x1234)
+    );
+    assert!(sections.units().next().is_none());
+}
+
+#[test]
+fn ranges_and_locations() {
+    // a unit of version 5 whose entry has ranges at an offset, and a location list
+    let info = [
+        0x11, 0, 0, 0, 5, 0, 1, 8, 0, 0, 0, 0, 1, 0, 0, 0, 0, 0, 0, 0, 0,
+    ];
+    let abbrev = [1, 0x11, 0, 0x55, 0x17, 2, 0x17, 0, 0, 0];
+    let rnglists = [4, 0x10, 0x20, 4, 0x30, 0x40, 0];
+    let loclists = [4, 1, 2, 1, 0x9c, 0];
+    let sections = Sections {
+        debug_info: &info,
+        debug_abbrev: &abbrev,
+        debug_rnglists: &rnglists,
+        debug_loclists: &loclists,
+        ..Sections::default()
+    };
+    let unit = sections.units().next().unwrap().unwrap();
+    let mut entries = sections.entries(&unit);
+    let entry = entries.next_entry().unwrap().unwrap();
+    let bases = Bases {
+        address: 0x1000,
+        ..Bases::default()
+    };
+    let ranges = sections
+        .ranges(&unit, &entry.attr(0x55).unwrap(), &bases)
+        .unwrap();
+    let told: Vec<(u64, u64)> = ranges.iter().map(|r| (r.begin, r.end)).collect();
+    assert_eq!(told, [(0x1010, 0x1020), (0x1030, 0x1040)]);
+    let locations = sections
+        .locations(&unit, &entry.attr(2).unwrap(), &bases)
+        .unwrap();
+    assert_eq!(
+        (locations.len(), locations[0].begin, locations[0].end),
+        (1, 0x1001, 0x1002)
+    );
+    assert_eq!(sections.expression(&unit, &locations[0]), [0x9c]);
+    assert_eq!(
+        Sections {
+            debug_rnglists: &rnglists[..4],
+            ..sections
+        }
+        .ranges(&unit, &entry.attr(0x55).unwrap(), &bases),
+        Err(Error::UnexpectedEof)
+    );
+}
+
+#[test]
+fn unit_of_an_address() {
+    // a set of version 2 for the unit at 0x40, with one range from 0x1000 on
+    let mut aranges = vec![0x2c, 0, 0, 0, 2, 0, 0x40, 0, 0, 0, 8, 0, 0, 0, 0, 0];
+    for number in [0x1000u64, 0x20, 0, 0] {
+        aranges.extend(number.to_le_bytes());
+    }
+    let sections = Sections {
+        debug_aranges: &aranges,
+        ..Sections::default()
+    };
+    assert_eq!(sections.unit_of_address(0x101f), Ok(Some(0x40)));
+    assert_eq!(sections.unit_of_address(0x1020), Ok(None));
+    let short = Sections {
+        debug_aranges: &aranges[..9],
+        ..Sections::default()
+    };
+    assert_eq!(short.unit_of_address(0), Err(Error::UnexpectedEof));
+}
