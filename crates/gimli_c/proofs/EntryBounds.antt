@@ -1,5 +1,7 @@
 -- What a call for rows with attributes tells of a unit, by where the place lies.
-use Rattle.std.proofs.Common.{◌≡◌, inl, inr, ℕ, ◌+◌, ◌-◌, ◌<◌, ◌≤◌, ◌^◌, ◌==◌, nat_lt, pos, ◌+ℤ◌, unsigned_abs, Bool, true, false, if◌then◌else◌, List, length, Some, None, Result, Ok, Err, refl, sym, ap, arith, length-drop}
+use Rattle.std.proofs.Common.{◌≡◌, inl, inr, ℕ, ◌+◌, ◌-◌, ◌<◌, ◌≤◌, ◌^◌, ◌==◌, nat_lt, pos, ◌+ℤ◌}
+use Rattle.std.proofs.Common.{unsigned_abs, Bool, true, false, if◌then◌else◌, List, length, Some}
+use Rattle.std.proofs.Common.{None, Result, Ok, Err, refl, sym, ap, arith, length-drop}
 use Rattle.std.proofs.lemmas.Bool.{ne_eqb, eq-eqb, le-ltb, lt-ltb}
 use Rattle.std.proofs.lemmas.Bool.Decides.{eqb_tells}
 use Rattle.std.proofs.lemmas.Int.{ints}
@@ -24,63 +26,115 @@ use Rattle.gimli_c.proofs.EntryFront.{fit-nil, none_wanted}
 use Rattle.gimli_c.proofs.Bounds.{read_bounds, unread_bounds, below_end, bytes_left}
 use Rattle.gimli_c.proofs.Front.{first_at}
 
-module _ (limit : ℕ) (u : UnitView) (t : Table) (place : GimliPlace) (old : List GimliEntry) (attrs : List GimliAttr) where
+module _ (limit : ℕ) (u : UnitView) (t : Table) (place : GimliPlace) (old : List GimliEntry)
+    (attrs : List GimliAttr) where
   -- at the unit's end
-  pub told_ended : length u.entries.bytes ≤ whole_length u → place.offset ≡ whole_length u → AreTold (unit_ahead limit u (found t) place) place old attrs place old attrs (wrote 0 0 0) end
+  pub told_ended : length u.entries.bytes ≤ whole_length u → place.offset ≡ whole_length u
+      → AreTold (unit_ahead limit u (found t) place) place old attrs place old attrs (wrote 0 0 0)
+      end
   told_ended fit here =
       let test : (place.offset == whole_length u) ≡ true = eq-eqb _ _ here in
       let rest = cut (place.offset - header_size u) u.entries in
-      let none : length rest.bytes ≡ 0 = let e = length-drop (place.offset - header_size u) u.entries.bytes in omega (arith, e, here, fit) in
-      let is : rows_from limit u (found t) place ≡ no_row None (whole_length u - length rest.bytes) place.depth = ahead_ended (entry_at limit u.encoding (found t)) (whole_length u) place.depth rest none in
+      let none : length rest.bytes ≡ 0 = let e =
+      length-drop (place.offset - header_size u) u.entries.bytes in
+      omega (arith, e, here, fit) in
+      let is : rows_from limit u (found t) place ≡ no_row None (whole_length u - length rest.bytes)
+      place.depth = ahead_ended (entry_at limit u.encoding (found t)) (whole_length u)
+      place.depth rest none in
       let stop : whole_length u - length rest.bytes ≡ place.offset = omega (arith, none, here) in
-      rw (test, is, stop) (record { rows = refl; attributes = refl; used_is = refl; behind = refl; whole = λ _ _. (sym (fit-nil (length old) (length attrs)), none_wanted (length old) 0, refl) })
+      rw (test, is, stop) (record {
+        rows = refl;
+        attributes = refl;
+        used_is = refl;
+        behind = refl;
+        whole = λ _ _. (
+          sym (fit-nil (length old) (length attrs)),
+          none_wanted (length old) 0,
+          refl,
+        );
+      })
 
   module _ (apart : place.offset ≡ whole_length u → ⊥) where
     -- before the entries, or behind the unit
-    pub told_outside : (e : Error) → Err e ≡ entries_from u t (Some place.offset) → AreTold (unit_ahead limit u (found t) place) place old attrs place old attrs (wrote 0 0 0) (refused e)
+    pub told_outside : (e : Error) → Err e ≡ entries_from u t (Some place.offset)
+        → AreTold (unit_ahead limit u (found t) place) place old attrs place old attrs (wrote 0 0 0)
+        (refused e)
     told_outside e is =
         let test : (place.offset == whole_length u) ≡ false = ne_eqb _ _ apart in
         let no = unread_bounds u t place.offset e is in
-        rw (test, no.0, no.1) (record { rows = refl; attributes = refl; none = refl; place_stays = refl; whole = λ _. refl })
+        rw (test, no.0, no.1) (record {
+          rows = refl;
+          attributes = refl;
+          none = refl;
+          place_stays =
+              refl;
+          whole = λ _. refl;
+        })
 
     -- where depths may be out of range
-    pub told_deep : (p : RawPlace) → Ok p ≡ entries_from u t (Some place.offset) → 2 ^ 63 ≤ unsigned_abs place.depth + (whole_length u - place.offset)
-        → AreTold (unit_ahead limit u (found t) place) place old attrs place old attrs (wrote 0 0 0) too_deep
+    pub told_deep : (p : RawPlace) → Ok p ≡ entries_from u t (Some place.offset) → 2 ^ 63
+        ≤ unsigned_abs place.depth + (whole_length u - place.offset)
+        → AreTold (unit_ahead limit u (found t) place) place old attrs place old attrs (wrote 0 0 0)
+        too_deep
     told_deep p is deep =
         let test : (place.offset == whole_length u) ≡ false = ne_eqb _ _ apart in
         let yes = read_bounds u t place.offset p is in
-        let range : nat_lt (unsigned_abs place.depth + (whole_length u - place.offset)) (2 ^ 63) ≡ false = le-ltb _ _ deep in
-        rw (test, yes.0, range) (record { rows = refl; attributes = refl; none = refl; place_stays = refl; whole = λ _. refl })
+        let range : nat_lt (unsigned_abs place.depth + (whole_length u - place.offset)) (2 ^ 63)
+        ≡ false = le-ltb _ _ deep in
+        rw (test, yes.0, range) (record {
+          rows = refl;
+          attributes = refl;
+          none = refl;
+          place_stays =
+              refl;
+          whole = λ _. refl;
+        })
 
     -- elsewhere the rows of the reader are told
-    pub told_filled : (p : RawPlace) (behind : GimliPlace) (new : List GimliEntry) (new_attrs : List GimliAttr) (n : GimliFilled) (status : ℕ)
-        → Ok p ≡ entries_from u t (Some place.offset) → unsigned_abs place.depth + (whole_length u - place.offset) < 2 ^ 63
+    pub told_filled : (p : RawPlace) (behind : GimliPlace) (new : List GimliEntry)
+        (new_attrs : List GimliAttr) (n : GimliFilled) (status : ℕ)
+        → Ok p ≡ entries_from u t (Some place.offset) → unsigned_abs place.depth
+        + (whole_length u - place.offset) < 2 ^ 63
         → FilledEntries (ahead_of limit place.depth p) old attrs behind new new_attrs n status
         → AreTold (unit_ahead limit u (found t) place) place old attrs behind new new_attrs n status
     told_filled p behind new new_attrs n status is shallow f =
         let test : (place.offset == whole_length u) ≡ false = ne_eqb _ _ apart in
         let yes = read_bounds u t place.offset p is in
-        let range : nat_lt (unsigned_abs place.depth + (whole_length u - place.offset)) (2 ^ 63) ≡ true = lt-ltb _ _ shallow in
+        let range : nat_lt (unsigned_abs place.depth + (whole_length u - place.offset)) (2 ^ 63)
+        ≡ true = lt-ltb _ _ shallow in
         let zero_more : place.depth +ℤ pos 0 ≡ place.depth = omega (arith, ints) in
         let f' = rw (yes.1) at f in
         rw (test, yes.0, range) (rw zero_more at f')
 
 -- where memory is refused, no row is written
-module _ (limit : ℕ) (u : UnitView) (place : GimliPlace) (old : List GimliEntry) (attrs : List GimliAttr) where
-  none_filled : (declared : Map) → place.offset ≡ whole_length u - length (cut (place.offset - header_size u) u.entries).bytes
-      → AreTold (Ok (rows_from limit u declared place)) place old attrs place old attrs (wrote 0 0 0) memory_refused
+module _ (limit : ℕ) (u : UnitView) (place : GimliPlace) (old : List GimliEntry)
+    (attrs : List GimliAttr) where
+  none_filled : (declared : Map) → place.offset ≡ whole_length u
+      - length (cut (place.offset - header_size u) u.entries).bytes
+      → AreTold (Ok (rows_from limit u declared place)) place old attrs place old attrs
+      (wrote 0 0 0) memory_refused
   none_filled declared here = record {
     rows = refl;
     attributes = refl;
     used_is = refl;
-    behind = first_at limit u.encoding declared (whole_length u) place.depth (cut (place.offset - header_size u) u.entries) place here refl;
+    behind = first_at limit u.encoding declared (whole_length u) place.depth
+        (cut (place.offset - header_size u) u.entries) place here refl;
     whole = λ h _. absurd (h refl);
   }
 
-  none_stopped : (stop : ℕ) → AreTold (Err stop) place old attrs place old attrs (wrote 0 0 0) memory_refused
-  none_stopped stop = record { rows = refl; attributes = refl; none = refl; place_stays = refl; whole = λ h. absurd (h refl) }
+  none_stopped : (stop : ℕ) → AreTold (Err stop) place old attrs place old attrs (wrote 0 0 0)
+      memory_refused
+  none_stopped stop = record {
+    rows = refl;
+    attributes = refl;
+    none = refl;
+    place_stays = refl;
+    whole = λ h. absurd (h refl);
+  }
 
-  pub told_memory : length u.entries.bytes ≤ whole_length u → (r : Result Map Error) → AreTold (declared_ahead limit u r place) place old attrs place old attrs (wrote 0 0 0) memory_refused
+  pub told_memory : length u.entries.bytes ≤ whole_length u → (r : Result Map Error)
+      → AreTold (declared_ahead limit u r place) place old attrs place old attrs (wrote 0 0 0)
+      memory_refused
   told_memory fit (Err e) = none_stopped (refused e)
   told_memory fit (Ok declared) = elim (eqb_tells place.offset (whole_length u)) [
     | inl here ↦
@@ -90,7 +144,8 @@ module _ (limit : ℕ) (u : UnitView) (place : GimliPlace) (old : List GimliEntr
   ]
     where
       deep : in_bounds u place.offset ≡ true → (b : Bool)
-          → AreTold (if b then Ok (rows_from limit u declared place) else Err too_deep) place old attrs place old attrs (wrote 0 0 0) memory_refused
+          → AreTold (if b then Ok (rows_from limit u declared place) else Err too_deep) place old
+          attrs place old attrs (wrote 0 0 0) memory_refused
       deep sure true =
           let e = bytes_left u place.offset fit sure in
           let below = below_end u place.offset sure in
@@ -98,14 +153,26 @@ module _ (limit : ℕ) (u : UnitView) (place : GimliPlace) (old : List GimliEntr
       deep sure false = none_stopped too_deep
 
       inside : (b : Bool) → b ≡ in_bounds u place.offset
-          → AreTold (if b then (if nat_lt (unsigned_abs place.depth + (whole_length u - place.offset)) (2 ^ 63) then Ok (rows_from limit u declared place) else Err too_deep) else Err (refused (OffsetOutOfBounds place.offset))) place old attrs place old attrs (wrote 0 0 0) memory_refused
-      inside true sure = deep (sym sure) (nat_lt (unsigned_abs place.depth + (whole_length u - place.offset)) (2 ^ 63))
+          → AreTold (if b then (if nat_lt (unsigned_abs place.depth
+          + (whole_length u - place.offset)) (2 ^ 63) then Ok (rows_from limit u declared place)
+          else Err too_deep) else Err (refused (OffsetOutOfBounds place.offset))) place old
+          attrs place old attrs (wrote 0 0 0) memory_refused
+      inside true sure = deep (sym sure) (nat_lt (unsigned_abs place.depth
+          + (whole_length u - place.offset)) (2 ^ 63))
       inside false other = none_stopped (refused (OffsetOutOfBounds place.offset))
 
   -- where the declarations are refused
-  pub told_undeclared : length u.entries.bytes ≤ whole_length u → (e : Error) (r : Result Map Error) → ((e ≡ OutOfMemory → ⊥) → Err e ≡ r)
-      → AreTold (declared_ahead limit u r place) place old attrs place old attrs (wrote 0 0 0) (refused e)
+  pub told_undeclared : length u.entries.bytes ≤ whole_length u → (e : Error) (r : Result Map Error)
+      → ((e ≡ OutOfMemory → ⊥) → Err e ≡ r)
+      → AreTold (declared_ahead limit u r place) place old attrs place old attrs (wrote 0 0 0)
+      (refused e)
   told_undeclared fit e r h = elim (eqb_tells (refused e) memory_refused) [
     | inl memory ↦ rw memory.1 (told_memory fit r)
-    | inr other ↦ rw (← h (λ is. other.1 (ap refused is))) (record { rows = refl; attributes = refl; none = refl; place_stays = refl; whole = λ _. refl })
+    | inr other ↦ rw (← h (λ is. other.1 (ap refused is))) (record {
+      rows = refl;
+      attributes = refl;
+      none = refl;
+      place_stays = refl;
+      whole = λ _. refl;
+    })
   ]

@@ -1,5 +1,6 @@
 -- The next sibling of a row, by a cursor.
-use Rattle.std.proofs.Common.{◌≡◌, ℕ, ◌-◌, pos, ℤ, Bool, true, false, if◌then◌else◌, Ok, Err, refl, sym, ap, ◌∙◌}
+use Rattle.std.proofs.Common.{◌≡◌, ℕ, ◌-◌, pos, ℤ, Bool, true, false, if◌then◌else◌, Ok, Err, refl}
+use Rattle.std.proofs.Common.{sym, ap, ◌∙◌}
 use Rattle.gimli_base.specs.declared.error.Error.{Error}
 use Rattle.gimli_base.specs.declared.error.Error.TheVariants.{OffsetOutOfBounds}
 use Rattle.gimli_base.specs.Offset.{answer_of}
@@ -11,7 +12,8 @@ use Rattle.gimli_units.specs.CursorPlace.{Place, Moved, next_row, next_of_depth}
 use Rattle.gimli_units.proofs.PlaceLaw.{IsHonestCursor, honest_for, honest_next}
 use Rattle.gimli_units.specs.RawPlace.{RawPlace}
 use Rattle.gimli_units.specs.CursorStart.{before_first, cursor_from}
-use Rattle.gimli_units.specs.Unit.{UnitView, whole_length, header_size, in_bounds, range_from, entries_in, entries_from}
+use Rattle.gimli_units.specs.Unit.{UnitView, whole_length, header_size, in_bounds, range_from}
+use Rattle.gimli_units.specs.Unit.{entries_in, entries_from}
 use Rattle.gimli_c.specs.declared.rows.GimliRow.{GimliRow}
 use Rattle.gimli_c.specs.Siblings.{current_told, moved_told, behind_told, place_sibling}
 use Rattle.gimli_c.specs.Siblings.{unit_sibling}
@@ -23,18 +25,20 @@ module _ (stop : ℕ) (p q : Place) (depth : ℤ) (old : GimliRow) where
       → (row_refused e, old) ≡ place_sibling stop p depth old
   entry_refused e is = ap (λ (m : Moved). behind_told stop m depth old) is
 
-  module _ (b : Bool) (first : record { outcome = Ok b; place = q } ≡ next_row stop p) (r : Place) where
-    pub sibling_stopped : (e : Error) → record { outcome = Err e; place = r } ≡ next_of_depth stop q
-        → (row_refused e, old) ≡ place_sibling stop p depth old
-    sibling_stopped e second =
-        ap (λ (m : Moved). moved_told depth m old) second
-        ∙ ap (λ (m : Moved). behind_told stop m depth old) first
+  module _ (b : Bool) (first : record { outcome = Ok b; place = q } ≡ next_row stop p) (r : Place)
+    where
+      pub sibling_stopped : (e : Error)
+          → record { outcome = Err e; place = r } ≡ next_of_depth stop q
+          → (row_refused e, old) ≡ place_sibling stop p depth old
+      sibling_stopped e second =
+          ap (λ (m : Moved). moved_told depth m old) second
+          ∙ ap (λ (m : Moved). behind_told stop m depth old) first
 
-    pub sibling_told : (a : Bool) → record { outcome = Ok a; place = r } ≡ next_of_depth stop q
-        → current_told depth r old ≡ place_sibling stop p depth old
-    sibling_told a second =
-        ap (λ (m : Moved). moved_told depth m old) second
-        ∙ ap (λ (m : Moved). behind_told stop m depth old) first
+      pub sibling_told : (a : Bool) → record { outcome = Ok a; place = r } ≡ next_of_depth stop q
+          → current_told depth r old ≡ place_sibling stop p depth old
+      sibling_told a second =
+          ap (λ (m : Moved). moved_told depth m old) second
+          ∙ ap (λ (m : Moved). behind_told stop m depth old) first
 
 -- a step by the same end
 pub at_stop : (s t : ℕ) (q : Place) (m : Moved) → s ≡ t → m ≡ next_of_depth s q
@@ -49,7 +53,8 @@ honest_on limit c d a read honest follows =
     honest_for limit d (honest_next limit c d (Ok a) read.unit.end
     (honest (sym read.unit.follows ∙ follows)) read.moves)
 
-module _ (limit : ℕ) (u : UnitView) (t : Table) (follows : Bool) (offset : ℕ) (depth : ℤ) (old : GimliRow) where
+module _ (limit : ℕ) (u : UnitView) (t : Table) (follows : Bool) (offset : ℕ) (depth : ℤ)
+    (old : GimliRow) where
   -- the reader at the offset
   abbrev there : RawPlace
   there =
@@ -63,23 +68,31 @@ module _ (limit : ℕ) (u : UnitView) (t : Table) (follows : Bool) (offset : ℕ
 
   -- a cursor from an offset on stands before the rows from there on
   pub sibling_from : (c : CursorView) → Ok c ≡ cursor_from u t follows offset
-      → (c.follows ≡ follows) × (place_sibling c.raw.end (place_of limit c) depth old ≡ unit_sibling limit u (found t) offset depth old)
+      → (c.follows ≡ follows) × (place_sibling c.raw.end (place_of limit c) depth old
+      ≡ unit_sibling limit u (found t) offset depth old)
   unfolding entries_from range_from
   sibling_from c is = cases (in_bounds u offset) refl is
     where
       cases : (b : Bool) → b ≡ in_bounds u offset
-          → Ok c ≡ answer_of (before_first follows) (entries_in u t (if b then Ok (cut (offset - header_size u) u.entries) else Err (OffsetOutOfBounds offset)))
-          → (c.follows ≡ follows) × (place_sibling c.raw.end (place_of limit c) depth old ≡ unit_sibling limit u (found t) offset depth old)
-      cases true known e = let same : c ≡ before_first follows there = cc in rw (same, ← known) (refl, refl)
+          → Ok c ≡ answer_of (before_first follows)
+          (entries_in u t (if b then Ok (cut (offset - header_size u) u.entries) else Err
+          (OffsetOutOfBounds offset)))
+          → (c.follows ≡ follows) × (place_sibling c.raw.end (place_of limit c) depth old
+          ≡ unit_sibling limit u (found t) offset depth old)
+      cases true known e = let same : c ≡ before_first follows there = cc in
+          rw (same, ← known) (refl, refl)
       cases false known e = absurd (cc)
 
   -- an offset out of bounds is refused
-  pub sibling_refused : (e : Error) → Err e ≡ cursor_from u t follows offset → (refused e, old) ≡ unit_sibling limit u (found t) offset depth old
+  pub sibling_refused : (e : Error) → Err e ≡ cursor_from u t follows offset → (refused e, old)
+      ≡ unit_sibling limit u (found t) offset depth old
   unfolding entries_from range_from
   sibling_refused e is = cases (in_bounds u offset) refl is
     where
       cases : (b : Bool) → b ≡ in_bounds u offset
-          → Err e ≡ answer_of (before_first follows) (entries_in u t (if b then Ok (cut (offset - header_size u) u.entries) else Err (OffsetOutOfBounds offset)))
+          → Err e ≡ answer_of (before_first follows)
+          (entries_in u t (if b then Ok (cut (offset - header_size u) u.entries) else Err
+          (OffsetOutOfBounds offset)))
           → (refused e, old) ≡ unit_sibling limit u (found t) offset depth old
       cases true known e' = absurd (cc)
       cases false known e' = let same : e ≡ OffsetOutOfBounds offset = cc in rw (same, ← known) refl

@@ -1,10 +1,13 @@
 -- Writes behind a front.
-use Rattle.std.proofs.Common.{◌≡◌, ℕ, suc, ◌+◌, ◌<◌, ◌≤◌, List, [], ◌∷◌, ◌++◌, map, take, drop, length, get_or, slice_set, refl, ap, ◌∙◌, arith, add-one, append_assoc, length-append}
+use Rattle.std.proofs.Common.{◌≡◌, ℕ, suc, ◌+◌, ◌<◌, ◌≤◌, List, [], ◌∷◌, ◌++◌, map, take, drop}
+use Rattle.std.proofs.Common.{length, get_or, slice_set, refl, ap, ◌∙◌, arith, add-one}
+use Rattle.std.proofs.Common.{append_assoc, length-append}
 use Rattle.std.proofs.Math.Seq.{set-append_seam, take-append_seam, drop-append-add, drop-cons}
 use Rattle.std.proofs.lemmas.List.{length-map, length-take-le, map_more, drop-drop}
 
 slot_at : {X : Type 0} → (xs old : List X) (x : X) → length xs < length old
-    → slice_set (xs ++ drop (length xs) old) (length xs) x ≡ (xs ++ x ∷ []) ++ drop (length xs + 1) old
+    → slice_set (xs ++ drop (length xs) old) (length xs) x ≡ (xs ++ x ∷ [])
+    ++ drop (length xs + 1) old
 slot_at {X} xs old x h =
     ap (λ (t : List X). slice_set (xs ++ t) (length xs) x) (drop-cons old (length xs) x h)
     ∙ set-append_seam xs _ (drop (suc (length xs)) old) x
@@ -16,23 +19,37 @@ pub slot : {X : Type 0} → (xs old : List X) (n : ℕ) (x : X) → length xs �
 slot xs old n x e h = rw (← e) (slot_at xs old x (rw e h))
 
 -- one more of a list is written, from a place on
-pub slot_more : {X Y : Type 0} → (f : X → Y) (xs : List X) (old new : List Y) (from i : ℕ) (d : X) (y : Y)
+pub slot_more : {X Y : Type 0} → (f : X → Y) (xs : List X) (old new : List Y) (from i : ℕ) (d : X)
+    (y : Y)
     → i < length xs → from + length xs ≤ length old
     → new ≡ (take from old ++ map f (take i xs)) ++ drop (from + i) old → y ≡ f (get_or xs i d)
-    → slice_set new (from + i) y ≡ (take from old ++ map f (take (i + 1) xs)) ++ drop (from + (i + 1)) old
+    → slice_set new (from + i) y ≡ (take from old ++ map f (take (i + 1) xs))
+    ++ drop (from + (i + 1)) old
 slot_more {X} {Y} f xs old new from i d y h room is value =
     let front : length (take from old ++ map f (take i xs)) ≡ from + i =
-    rw (length-append, length-map, length-take-le from old (omega (arith, room)), length-take-le i xs (omega (arith, h))) refl in
+    rw (
+      length-append,
+      length-map,
+      length-take-le from old (omega (arith, room)),
+      length-take-le i xs (omega (arith, h)),
+    ) refl in
     let place : from + i + 1 ≡ from + (i + 1) = omega arith in
-    ap (λ (t : List Y). slice_set t (from + i) y) is ∙ slot (take from old ++ map f (take i xs)) old (from + i) y front (omega (arith, h, room))
+    ap (λ (t : List Y). slice_set t (from + i) y) is ∙ slot (take from old ++ map f (take i xs)) old
+    (from + i) y front (omega (arith, h, room))
     ∙ rw (value, map_more f xs i d h, place) (simp append_assoc)
 
 -- more is written behind what was
 pub written_more : {Y : Type 0} → (done more old new : List Y) (used : ℕ) → length done ≡ used
-    → new ≡ (take used (done ++ drop used old) ++ more) ++ drop (used + length more) (done ++ drop used old)
+    → new ≡ (take used (done ++ drop used old) ++ more) ++ drop (used + length more) (done
+    ++ drop used old)
     → new ≡ (done ++ more) ++ drop (used + length more) old
 written_more {Y} done more old new used e is = is ∙ rw (← e) (same)
   where
-    same : (take (length done) (done ++ drop (length done) old) ++ more) ++ drop (length done + length more) (done ++ drop (length done) old)
+    same : (take (length done) (done ++ drop (length done) old) ++ more)
+        ++ drop (length done + length more) (done ++ drop (length done) old)
         ≡ (done ++ more) ++ drop (length done + length more) old
-    same = rw (take-append_seam done (drop (length done) old), drop-append-add done (drop (length done) old) (length more), drop-drop (length more) (length done) old) refl
+    same = rw (
+      take-append_seam done (drop (length done) old),
+      drop-append-add done (drop (length done) old) (length more),
+      drop-drop (length more) (length done) old,
+    ) refl

@@ -36,9 +36,11 @@ module _ (limit : ℕ) (section : SectionId) (n : ℕ) where
   placed m v = first (initial_length_at limit v)
     where
       second : (field : (ℕ × Format) × View) (s : Reads View)
-          → unit_alone (s >>= λ own. unit_in section n field.0 (fields_at limit section field.0.1 own.0) own.1)
+          → unit_alone (s >>= λ own. unit_in section n field.0 (fields_at limit section field.0.1
+          own.0) own.1)
           ≡ answer_of (at_offset n)
-          (unit_alone (s >>= λ own. unit_in section m field.0 (fields_at limit section field.0.1 own.0) own.1))
+          (unit_alone (s >>= λ own. unit_in section m field.0 (fields_at limit section field.0.1
+          own.0) own.1))
       second field (Ok own) = in_at m field.0 (fields_at limit section field.0.1 own.0) own.1
       second field (Err e) = refl
 
@@ -52,7 +54,8 @@ module _ (limit : ℕ) (section : SectionId) (n : ℕ) where
       first (Err e) = refl
 
   -- where no byte is left
-  pub no_unit : (v : View) → length v.bytes ≡ 0 → unit_alone (unit_at limit section n v) ≡ Err (eof v)
+  pub no_unit : (v : View) → length v.bytes ≡ 0 → unit_alone (unit_at limit section n v)
+      ≡ Err (eof v)
   unfolding unit_at initial_length_at uint_at bytes_at
   no_unit v none = rw none refl
 

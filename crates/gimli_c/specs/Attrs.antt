@@ -3,21 +3,78 @@ use Rattle.std.specs.Prelude.{ℕ, pos, ◌%◌, ◌/◌, ◌^◌, cond, length}
 use Rattle.gimli_base.specs.View.{View}
 use Rattle.gimli_units.specs.Entry.{Attr}
 use Rattle.gimli_units.specs.Value.{Value}
-use Rattle.gimli_units.specs.declared.value.AttributeValue.TheVariants.{Addr, Block, Data1, Data2, Data4, Data8, Data16, Sdata, Udata, Exprloc, Flag, SecOffset, DebugAddrBase, DebugAddrIndex, UnitRef, DebugInfoRef, DebugInfoRefSup, DebugLineRef, LocationListsRef, DebugLocListsBase, DebugLocListsIndex, DebugMacinfoRef, DebugMacroRef, RangeListsRef, DebugRngListsBase, DebugRngListsIndex, DebugTypesRef, DebugStrRef, DebugStrRefSup, DebugStrOffsetsBase, DebugStrOffsetsIndex, DebugLineStrRef, String, Encoding, DecimalSign, Endianity, Accessibility, Visibility, Virtuality, Language, AddressClass, IdentifierCase, CallingConvention, Inline, Ordering, FileIndex, DwoId, DebugAddrIndexOffset}
+use Rattle.gimli_units.specs.declared.value.AttributeValue.TheVariants.{Addr, Block, Data1, Data2}
+use Rattle.gimli_units.specs.declared.value.AttributeValue.TheVariants.{Data4, Data8, Data16, Sdata}
+use Rattle.gimli_units.specs.declared.value.AttributeValue.TheVariants.{Udata, Exprloc, Flag}
+use Rattle.gimli_units.specs.declared.value.AttributeValue.TheVariants.{SecOffset, DebugAddrBase}
+use Rattle.gimli_units.specs.declared.value.AttributeValue.TheVariants.{DebugAddrIndex, UnitRef}
+use Rattle.gimli_units.specs.declared.value.AttributeValue.TheVariants.{DebugInfoRef}
+use Rattle.gimli_units.specs.declared.value.AttributeValue.TheVariants.{DebugInfoRefSup}
+use Rattle.gimli_units.specs.declared.value.AttributeValue.TheVariants.{DebugLineRef}
+use Rattle.gimli_units.specs.declared.value.AttributeValue.TheVariants.{LocationListsRef}
+use Rattle.gimli_units.specs.declared.value.AttributeValue.TheVariants.{DebugLocListsBase}
+use Rattle.gimli_units.specs.declared.value.AttributeValue.TheVariants.{DebugLocListsIndex}
+use Rattle.gimli_units.specs.declared.value.AttributeValue.TheVariants.{DebugMacinfoRef}
+use Rattle.gimli_units.specs.declared.value.AttributeValue.TheVariants.{DebugMacroRef}
+use Rattle.gimli_units.specs.declared.value.AttributeValue.TheVariants.{RangeListsRef}
+use Rattle.gimli_units.specs.declared.value.AttributeValue.TheVariants.{DebugRngListsBase}
+use Rattle.gimli_units.specs.declared.value.AttributeValue.TheVariants.{DebugRngListsIndex}
+use Rattle.gimli_units.specs.declared.value.AttributeValue.TheVariants.{DebugTypesRef, DebugStrRef}
+use Rattle.gimli_units.specs.declared.value.AttributeValue.TheVariants.{DebugStrRefSup}
+use Rattle.gimli_units.specs.declared.value.AttributeValue.TheVariants.{DebugStrOffsetsBase}
+use Rattle.gimli_units.specs.declared.value.AttributeValue.TheVariants.{DebugStrOffsetsIndex}
+use Rattle.gimli_units.specs.declared.value.AttributeValue.TheVariants.{DebugLineStrRef, String}
+use Rattle.gimli_units.specs.declared.value.AttributeValue.TheVariants.{Encoding, DecimalSign}
+use Rattle.gimli_units.specs.declared.value.AttributeValue.TheVariants.{Endianity, Accessibility}
+use Rattle.gimli_units.specs.declared.value.AttributeValue.TheVariants.{Visibility, Virtuality}
+use Rattle.gimli_units.specs.declared.value.AttributeValue.TheVariants.{Language, AddressClass}
+use Rattle.gimli_units.specs.declared.value.AttributeValue.TheVariants.{IdentifierCase}
+use Rattle.gimli_units.specs.declared.value.AttributeValue.TheVariants.{CallingConvention, Inline}
+use Rattle.gimli_units.specs.declared.value.AttributeValue.TheVariants.{Ordering, FileIndex, DwoId}
+use Rattle.gimli_units.specs.declared.value.AttributeValue.TheVariants.{DebugAddrIndexOffset}
 use Rattle.gimli_c.specs.declared.attrs.GimliAttr.{GimliAttr}
 use Rattle.gimli_c.specs.declared.attrs.Numbers.{Numbers}
 
 abbrev pub plain : ℕ → ℕ → Numbers
-plain class number = record { class = class; number = number; signed = pos 0; high = 0; place = 0; length = 0 }
+plain class number = record {
+  class = class;
+  number = number;
+  signed = pos 0;
+  high = 0;
+  place = 0;
+  length = 0;
+}
 
 abbrev pub wide : ℕ → ℕ → Numbers
-wide class number = record { class = class; number = number % 2 ^ 64; signed = pos 0; high = number / 2 ^ 64; place = 0; length = 0 }
+wide class number = record {
+  class = class;
+  number = number % 2 ^ 64;
+  signed = pos 0;
+  high =
+      number / 2 ^ 64;
+  place = 0;
+  length = 0;
+}
 
 abbrev pub added : ℕ → ℕ → ℕ → Numbers
-added class number high = record { class = class; number = number; signed = pos 0; high = high; place = 0; length = 0 }
+added class number high = record {
+  class = class;
+  number = number;
+  signed = pos 0;
+  high = high;
+  place = 0;
+  length = 0;
+}
 
 abbrev pub lying : ℕ → View → Numbers
-lying class v = record { class = class; number = 0; signed = pos 0; high = 0; place = v.place; length = length v.bytes }
+lying class v = record {
+  class = class;
+  number = 0;
+  signed = pos 0;
+  high = 0;
+  place = v.place;
+  length = length v.bytes;
+}
 
 -- a value: its class, and a number or where its bytes lie
 abbrev pub values_of : Value → Numbers

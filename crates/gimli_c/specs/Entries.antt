@@ -1,5 +1,7 @@
 -- The rows and attributes that a call writes, of the rows ahead of a place.
-use Rattle.std.specs.Prelude.{◌≡◌, ℕ, zero, suc, ◌+◌, ◌-◌, nat_lt, nat_le, cond, if◌then◌else◌, List, [], ◌∷◌, ◌++◌, map, take, drop, length, Option, Some, None, Result, Ok, Err}
+use Rattle.std.specs.Prelude.{◌≡◌, ℕ, zero, suc, ◌+◌, ◌-◌, nat_lt, nat_le, cond, if◌then◌else◌}
+use Rattle.std.specs.Prelude.{List, [], ◌∷◌, ◌++◌, map, take, drop, length, Option, Some, None}
+use Rattle.std.specs.Prelude.{Result, Ok, Err}
 use Rattle.gimli_base.specs.declared.error.Error.{Error}
 use Rattle.gimli_units.specs.Entry.{Attr}
 use Rattle.gimli_units.specs.Rows.{Row, Ahead}
@@ -21,7 +23,15 @@ flat (r ∷ rs) = attributes_of r ++ flat rs
 
 -- a row whose first attribute has this index
 abbrev pub numbered_row : ℕ → Row → GimliEntry
-numbered_row first r = record { offset = r.offset; depth = r.depth; first = first; attributes = length (attributes_of r); tag = r.entry.tag.0; has_children = cond r.entry.has_children 1 0 }
+numbered_row first r = record {
+  offset = r.offset;
+  depth = r.depth;
+  first = first;
+  attributes =
+      length (attributes_of r);
+  tag = r.entry.tag.0;
+  has_children = cond r.entry.has_children 1 0;
+}
 
 abbrev pub numbered : ℕ → List Row → List GimliEntry
 numbered first [] = []
@@ -31,12 +41,15 @@ numbered first (r ∷ rs) = numbered_row first r ∷ numbered (first + length (a
 abbrev pub fit : ℕ → ℕ → List Row → ℕ
 fit zero space rows = 0
 fit (suc room) space [] = 0
-fit (suc room) space (r ∷ rs) = if nat_le (length (attributes_of r)) space then suc (fit room (space - length (attributes_of r)) rs) else 0
+fit (suc room) space (r ∷ rs) =
+    if nat_le (length (attributes_of r)) space then suc (fit room (space - length (attributes_of r))
+    rs) else 0
 
 -- the status where so many of all rows ahead are written, and there is room for so many
 abbrev pub status_fit : ℕ → ℕ → ℕ → Option Error → ℕ
 status_fit room count total None = if nat_lt count total then more else end
-status_fit room count total (Some e) = if nat_lt count total then more else if nat_lt count room then row_refused e else more
+status_fit room count total (Some e) =
+    if nat_lt count total then more else if nat_lt count room then row_refused e else more
 
 -- how many attributes the first of these rows has
 abbrev pub first_wants : List Row → ℕ

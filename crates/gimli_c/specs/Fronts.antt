@@ -1,5 +1,7 @@
 -- The rows that a call writes, of those ahead of a place.
-use Rattle.std.specs.Prelude.{◌≡◌, ℕ, ◌+◌, ◌-◌, ◌^◌, ◌==◌, nat_lt, min, ℤ, ◌+ℤ◌, unsigned_abs, cond, if◌then◌else◌, List, [], ◌∷◌, ◌++◌, map, take, drop, length, Option, Some, None, Result, Ok, Err}
+use Rattle.std.specs.Prelude.{◌≡◌, ℕ, ◌+◌, ◌-◌, ◌^◌, ◌==◌, nat_lt, min, ℤ, ◌+ℤ◌, unsigned_abs, cond}
+use Rattle.std.specs.Prelude.{if◌then◌else◌, List, [], ◌∷◌, ◌++◌, map, take, drop, length, Option}
+use Rattle.std.specs.Prelude.{Some, None, Result, Ok, Err}
 use Rattle.gimli_base.specs.declared.common.SectionId.{SectionId}
 use Rattle.gimli_base.specs.declared.error.Error.{Error}
 use Rattle.gimli_base.specs.declared.error.Error.TheVariants.{OffsetOutOfBounds}
@@ -15,29 +17,39 @@ use Rattle.gimli_c.specs.declared.rows.GimliRow.{GimliRow}
 use Rattle.gimli_c.specs.declared.sections.GimliSections.{GimliSections}
 use Rattle.gimli_c.specs.declared.rows.GimliPlace.{GimliPlace}
 use Rattle.gimli_c.specs.Units.{units_id, units_view, abbreviations_view}
-use Rattle.gimli_c.specs.Status.{more, end, too_deep, refused, row_refused, memory_refused, row_memory_refused}
+use Rattle.gimli_c.specs.Status.{more, end, too_deep, refused, row_refused, memory_refused}
+use Rattle.gimli_c.specs.Status.{row_memory_refused}
 
 abbrev pub row_of : Row → GimliRow
-row_of r = record { offset = r.offset; depth = r.depth; tag = r.entry.tag.0; has_children = cond r.entry.has_children 1 0 }
+row_of r = record {
+  offset = r.offset;
+  depth = r.depth;
+  tag = r.entry.tag.0;
+  has_children =
+      cond r.entry.has_children 1 0;
+}
 
 abbrev pub at : ℕ → ℤ → GimliPlace
 at offset depth = record { offset = offset; depth = depth }
 
 -- the rows ahead of a reader of entries, whose depths are counted from `base`
 abbrev pub ahead_of : ℕ → ℤ → RawPlace → Ahead
-ahead_of limit base p = ahead_at (entry_at limit p.encoding (found p.abbreviations)) p.end (base +ℤ p.depth) p.rest
+ahead_of limit base p = ahead_at (entry_at limit p.encoding (found p.abbreviations)) p.end
+    (base +ℤ p.depth) p.rest
 
 -- the rows of a unit from a place on, which is in bounds or at the unit's end
 abbrev pub rows_from : ℕ → UnitView → Map → GimliPlace → Ahead
 rows_from limit u declared place =
-    ahead_at (entry_at limit u.encoding declared) (whole_length u) place.depth (cut (place.offset - header_size u) u.entries)
+    ahead_at (entry_at limit u.encoding declared) (whole_length u) place.depth
+    (cut (place.offset - header_size u) u.entries)
 
 -- the rows of a unit from a place on, or the status of a call that reads none
 abbrev pub unit_ahead : ℕ → UnitView → Map → GimliPlace → Result Ahead ℕ
 unit_ahead limit u declared place =
     if place.offset == whole_length u then Ok (rows_from limit u declared place)
     else if in_bounds u place.offset then
-    (if nat_lt (unsigned_abs place.depth + (whole_length u - place.offset)) (2 ^ 63) then Ok (rows_from limit u declared place) else Err too_deep)
+    (if nat_lt (unsigned_abs place.depth + (whole_length u - place.offset)) (2 ^ 63) then Ok
+    (rows_from limit u declared place) else Err too_deep)
     else Err (refused (OffsetOutOfBounds place.offset))
 
 abbrev pub declared_ahead : ℕ → UnitView → Result Map Error → GimliPlace → Result Ahead ℕ
@@ -45,7 +57,8 @@ declared_ahead limit u (Ok declared) place = unit_ahead limit u declared place
 declared_ahead limit u (Err e) place = Err (refused e)
 
 abbrev pub read_ahead : ℕ → Result UnitView Error → View → GimliPlace → Result Ahead ℕ
-read_ahead limit (Ok u) declarations place = declared_ahead limit u (map_at u.abbreviations declarations) place
+read_ahead limit (Ok u) declarations place =
+    declared_ahead limit u (map_at u.abbreviations declarations) place
 read_ahead limit (Err e) declarations place = Err (refused e)
 
 -- the rows from a place on, of the unit at an offset of a section
@@ -60,7 +73,12 @@ section_rows s unit place =
 
 -- what is ahead behind so many rows
 abbrev pub behind_rows : ℕ → Ahead → Ahead
-behind_rows count a = record { rows = drop count a.rows; refusal = a.refusal; stop = a.stop; stop_depth = a.stop_depth }
+behind_rows count a = record {
+  rows = drop count a.rows;
+  refusal = a.refusal;
+  stop = a.stop;
+  stop_depth = a.stop_depth;
+}
 
 -- the place of the first row, or where the rows stop
 abbrev pub first_place : List Row → ℕ → ℤ → GimliPlace
@@ -72,22 +90,27 @@ abbrev pub status_at : ℕ → ℕ → Option Error → ℕ
 status_at room count None = if nat_lt room count then more else end
 status_at room count (Some e) = if nat_lt count room then row_refused e else more
 
--- Rows from the front of those ahead are written, the rest stays as it was, and the place is behind them. They are all, or as many as there is
--- room for, unless memory was refused.
-pub record Filled (ahead : Ahead) (old : List GimliRow) (place : GimliPlace) (new : List GimliRow) (count status : ℕ) : Type 0 where
+-- Rows from the front of those ahead are written, the rest stays as it was, and the place is behind
+-- them. They are all, or as many as there is room for, unless memory was refused.
+pub record Filled (ahead : Ahead) (old : List GimliRow) (place : GimliPlace) (new : List GimliRow)
+    (count status : ℕ) : Type 0 where
   pub rows : new ≡ map row_of (take count ahead.rows) ++ drop count old
   pub behind : place ≡ first_place (drop count ahead.rows) ahead.stop ahead.stop_depth
-  pub whole : (status ≡ memory_refused → ⊥) → (status ≡ row_memory_refused → ⊥) → (count ≡ min (length old) (length ahead.rows)) × (status ≡ status_at (length old) (length ahead.rows) ahead.refusal)
+  pub whole : (status ≡ memory_refused → ⊥) → (status ≡ row_memory_refused → ⊥)
+      → (count ≡ min (length old) (length ahead.rows))
+      × (status ≡ status_at (length old) (length ahead.rows) ahead.refusal)
 
 -- no row is written, and the place stays
-pub record Stopped (stop : ℕ) (from : GimliPlace) (old : List GimliRow) (place : GimliPlace) (new : List GimliRow) (count status : ℕ) : Type 0 where
+pub record Stopped (stop : ℕ) (from : GimliPlace) (old : List GimliRow) (place : GimliPlace)
+    (new : List GimliRow) (count status : ℕ) : Type 0 where
   pub rows : new ≡ old
   pub none : count ≡ 0
   pub place_stays : place ≡ from
   pub whole : (status ≡ memory_refused → ⊥) → status ≡ stop
 
 -- what a call does
-abbrev pub ToldRows : Result Ahead ℕ → GimliPlace → List GimliRow → GimliPlace → List GimliRow → ℕ → ℕ → Type 0
+abbrev pub ToldRows : Result Ahead ℕ → GimliPlace → List GimliRow → GimliPlace → List GimliRow → ℕ
+    → ℕ → Type 0
 ToldRows (Ok ahead) from old place new count status = Filled ahead old place new count status
 ToldRows (Err stop) from old place new count status = Stopped stop from old place new count status
 

@@ -75,7 +75,8 @@ pub record IsUnlisted {Y : Type 0} (stop : ℕ) (old new : List Y) (count status
   pub stopped : status ≡ stop
 
 -- what a call does
-abbrev pub IsToldList : {X Y : Type 0} → (X → Y) → Result (List (Result X Error)) ℕ → List Y → List Y
+abbrev pub IsToldList : {X Y : Type 0} → (X → Y) → Result (List (Result X Error)) ℕ → List Y
+    → List Y
     → ℕ → ℕ → Type 0
 IsToldList f (Ok answers) old new count status = IsListed f answers old new count status
 IsToldList f (Err stop) old new count status = IsUnlisted stop old new count status

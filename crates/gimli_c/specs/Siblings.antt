@@ -9,7 +9,8 @@ use Rattle.gimli_units.specs.CursorPlace.{Place, Moved, next_row, next_of_depth}
 use Rattle.gimli_units.specs.FirstFalse.{first_false}
 use Rattle.gimli_units.specs.Rows.{Ahead}
 use Rattle.gimli_units.specs.Unit.{UnitView, whole_length, in_bounds}
-use Rattle.gimli_units.specs.UnitRows.{unit_rows_from, unit_rows, start_view, IsHonestFrom, StandsAt}
+use Rattle.gimli_units.specs.UnitRows.{unit_rows_from, unit_rows, start_view, IsHonestFrom}
+use Rattle.gimli_units.specs.UnitRows.{StandsAt}
 use Rattle.gimli_c.specs.declared.rows.GimliRow.{GimliRow}
 use Rattle.gimli_c.specs.declared.sections.GimliSections.{GimliSections}
 use Rattle.gimli_c.specs.Status.{more, end, refused, row_refused}

@@ -1,6 +1,7 @@
 //! Attributes, as numbers.
 
-ghost use Rattle.std.specs.Prelude.{◌≡◌, ◌+◌, ◌≤◌, ◌++◌, ◌%◌, ◌/◌, ◌^◌, pos, map, take, drop, length};
+ghost use Rattle.std.specs.Prelude.{◌≡◌, ◌+◌, ◌≤◌, ◌++◌, ◌%◌, ◌/◌, ◌^◌, pos, map, take, drop};
+ghost use Rattle.std.specs.Prelude.{length};
 ghost use Rattle.gimli_units.specs.Value.{map_value, map_attribute};
 ghost use Rattle.gimli_c.specs.Attrs.{plain, wide, added, lying, values_of, attr_of};
 

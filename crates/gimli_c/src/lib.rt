@@ -89,9 +89,9 @@ pub extern "C" fn gimli_rows(
     told.status
 }
 
-/// The same with the attributes of each row in `attrs`; `filled` says how many of each were written.
-/// A row whose attributes have no space left is not written, nor are those behind it, and the place
-/// is at it; the status is then 0, and `filled.wanted` is the number of its attributes.
+/// The same with the attributes of each row in `attrs`; `filled` says how many of each were
+/// written. A row whose attributes have no space left is not written, nor are those behind it, and
+/// the place is at it; the status is then 0, and `filled.wanted` is the number of its attributes.
 #[unsafe(no_mangle)]
 pub extern "C" fn gimli_entries(
     alloc: Global,
@@ -126,8 +126,8 @@ pub extern "C" fn gimli_entries(
 /// before the null that closes their list. Of the place the offset is read, and its depth becomes
 /// that of `row`. `units` and `abbreviations` are read.
 ///
-/// Where `follows` is 0 all rows between are read. Else the references of entries are followed; where
-/// they are honest, as `gimli_first_false` finds out, the answer is the same.
+/// Where `follows` is 0 all rows between are read. Else the references of entries are followed;
+/// where they are honest, as `gimli_first_false` finds out, the answer is the same.
 ///
 /// Status 0: `row` is the sibling. Otherwise `row` is as it was. Status 1: there is none, or a null
 /// stands at the place. From 512 on: what is read at the place or behind it was refused. Any other:
@@ -161,12 +161,13 @@ pub extern "C" fn gimli_sibling(
     }
 }
 
-/// Finds the first row of a unit of `units` whose sibling reference can be followed and is false: it
-/// does not lead just past the null that closes its children. `units` and `abbreviations` are read.
+/// Finds the first row of a unit of `units` whose sibling reference can be followed and is false:
+/// it does not lead just past the null that closes its children. `units` and `abbreviations` are
+/// read.
 ///
-/// Status 0: it stands at `offset`. Otherwise `offset` is as it was. Status 1: there is none, so from
-/// each row of the unit references may be followed. Any other: the unit or its abbreviations were
-/// refused. 280 says that memory was refused.
+/// Status 0: it stands at `offset`. Otherwise `offset` is as it was. Status 1: there is none, so
+/// from each row of the unit references may be followed. Any other: the unit or its abbreviations
+/// were refused. 280 says that memory was refused.
 #[unsafe(no_mangle)]
 pub extern "C" fn gimli_first_false(
     alloc: Global,
@@ -212,11 +213,11 @@ pub extern "C" fn gimli_unit_of_address(
 }
 
 /// Finds the ranges of the list that the value of an attribute names, as `gimli_entries` writes it
-/// for `DW_AT_ranges` of an entry of `unit`. `ranges` and `rnglists` are read, and `addresses` where
-/// the list names addresses by index.
+/// for `DW_AT_ranges` of an entry of `unit`. `ranges` and `rnglists` are read, and `addresses`
+/// where the list names addresses by index.
 ///
-/// `count` is the number of all ranges before the first that is refused; as many as there is room for
-/// are written, and what is behind them in `into` stays as it was.
+/// `count` is the number of all ranges before the first that is refused; as many as there is room
+/// for are written, and what is behind them in `into` stays as it was.
 ///
 /// Status 0: there are more than were written. Status 1: the list ends behind them. Status 3: the
 /// value names no list. From 512 on: what is read behind them was refused. Any other: the size of
@@ -243,8 +244,8 @@ pub extern "C" fn gimli_ranges(
     told.status
 }
 
-/// The same of locations, whose expressions are told by where they lie in their section: in `loclists`
-/// from version 5 on, and else in `loc`. These two are read, and `addresses`.
+/// The same of locations, whose expressions are told by where they lie in their section: in
+/// `loclists` from version 5 on, and else in `loc`. These two are read, and `addresses`.
 #[unsafe(no_mangle)]
 pub extern "C" fn gimli_locations(
     sections: &GimliSections<'_>,

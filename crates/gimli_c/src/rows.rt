@@ -6,7 +6,8 @@ ghost use Rattle.gimli_units.specs.RawPlace.{next_offset_of};
 ghost use Rattle.gimli_units.specs.Unit.{whole_length};
 ghost use Rattle.gimli_units.specs.UnitHeld.{unit_view};
 ghost use Rattle.gimli_c.specs.Units.{section_id};
-ghost use Rattle.gimli_c.specs.Fronts.{at, ahead_of, unit_ahead, rows_ahead, Filled, ToldRows, Resumes};
+ghost use Rattle.gimli_c.specs.Fronts.{at, ahead_of, unit_ahead, rows_ahead, Filled, ToldRows};
+ghost use Rattle.gimli_c.specs.Fronts.{Resumes};
 
 use crate::sections::{UnitSections, header_in};
 use crate::status::{END, MORE, TOO_DEEP, refused, row_refused};

@@ -19,12 +19,18 @@ attributes-preserved g c =
     let h : i < length c.args.attributes.now = omega (arith, c.attributes-test.true) in
     record {
       place = omega (arith, inv.place);
-      written = rw inv.place (slot_more (λ a. attr_of (map_attribute g.R.Reader.view g.R.Offset.ReaderOffset.number a)) c.args.attributes.now c.args.into.now c.attributes.into c.args.from i c.attribute-item.result c.attr_of.result h c.requires inv.written
-          (c.attr_of.ensures ∙ ap (λ a. attr_of (map_attribute g.R.Reader.view g.R.Offset.ReaderOffset.number a)) c.attribute-item.is));
+      written = rw inv.place (slot_more
+          (λ a. attr_of (map_attribute g.R.Reader.view g.R.Offset.ReaderOffset.number a))
+          c.args.attributes.now c.args.into.now c.attributes.into c.args.from i
+          c.attribute-item.result c.attr_of.result h c.requires inv.written
+          (c.attr_of.ensures ∙ ap (λ a. attr_of
+          (map_attribute g.R.Reader.view g.R.Offset.ReaderOffset.number a))
+          c.attribute-item.is));
     }
 
 pub returns : goal.returns
 returns g c =
-    let all : c.attributes.attribute-index ≡ length c.args.attributes.now = omega (arith, c.attributes-test.false, c.attributes.auto.attribute-index-end) in
+    let all : c.attributes.attribute-index ≡ length c.args.attributes.now =
+    omega (arith, c.attributes-test.false, c.attributes.auto.attribute-index-end) in
     let w = rw all at c.attributes.invariant.written in
     rw take-length at w

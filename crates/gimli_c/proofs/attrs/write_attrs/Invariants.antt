@@ -6,5 +6,7 @@ use Rattle.gimli_c.proofs.attrs.write_attrs.Given as goal
 abbrev pub invariant-attributes : goal.invariant-attributes
 invariant-attributes g l = record {
   place : l.at ≡ l.from + l.attribute-index;
-  written : l.into ≡ (take l.from l.initial.into ++ map (λ a. attr_of (map_attribute g.R.Reader.view g.R.Offset.ReaderOffset.number a)) (take l.attribute-index l.attributes)) ++ drop (l.from + l.attribute-index) l.initial.into;
+  written : l.into ≡ (take l.from l.initial.into
+      ++ map (λ a. attr_of (map_attribute g.R.Reader.view g.R.Offset.ReaderOffset.number a))
+      (take l.attribute-index l.attributes)) ++ drop (l.from + l.attribute-index) l.initial.into;
 }

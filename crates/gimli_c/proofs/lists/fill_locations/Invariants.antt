@@ -8,7 +8,8 @@ abbrev pub invariant-found : goal.invariant-found
 invariant-found g l =
     let limit = g.R.Offset.ReaderOffset.limit in
     record {
-      front : ListFront location_row (locations_ahead limit l.initial.list) (locations_ahead limit l.list)
+      front : ListFront location_row (locations_ahead limit l.initial.list)
+          (locations_ahead limit l.list)
           l.initial.locations l.locations l.count;
       fits : l.count + length l.list.raw.rest.bytes ≤ length l.initial.list.raw.rest.bytes;
     }

@@ -13,9 +13,17 @@ returns-clause-told g c =
     let back : to_z w64 (of_z w64 c.args.depth) ≡ c.args.depth = to_z-of_z w64 _ c.ranges.depth in
     let number = g.R.Offset.ReaderOffset.number c.args.offset in
     let u = unit_view c.in-Ok.header in
-    rw (c.stopped-in-Err-abbreviations.ensures, c.refused-in-Err-abbreviations.ensures, back, ← c.in-Ok.ensures)
-    (told_undeclared g.R.Offset.ReaderOffset.limit (unit_view c.in-Ok.header) (at number c.args.depth) c.args.rows.now c.in-Ok.header.entries_fit c.in-Err-abbreviations.error
-    (map_at u.abbreviations (g.R.Reader.view c.args.sections.now.abbreviations.section)) c.in-Err-abbreviations.ensures)
+    rw (
+      c.stopped-in-Err-abbreviations.ensures,
+      c.refused-in-Err-abbreviations.ensures,
+      back,
+      ← c.in-Ok.ensures,
+    )
+    (told_undeclared g.R.Offset.ReaderOffset.limit (unit_view c.in-Ok.header)
+    (at number c.args.depth) c.args.rows.now c.in-Ok.header.entries_fit
+    c.in-Err-abbreviations.error
+    (map_at u.abbreviations (g.R.Reader.view c.args.sections.now.abbreviations.section))
+    c.in-Err-abbreviations.ensures)
 
 pub returns-in-Ok-abbreviations-clause-resumes : goal.returns-in-Ok-abbreviations-clause-resumes
 returns-in-Ok-abbreviations-clause-resumes g c =
@@ -23,5 +31,10 @@ returns-in-Ok-abbreviations-clause-resumes g c =
     let number = g.R.Offset.ReaderOffset.number c.args.offset in
     let told = rw back at c.unit_rows.ensures in
     rw (← c.in-Ok.ensures, ← c.in-Ok-abbreviations.ensures)
-    (unit_resumes g.R.Offset.ReaderOffset.limit (unit_view c.in-Ok.header) (found c.in-Ok-abbreviations.table) c.in-Ok.header.entries_fit (at number c.args.depth) c.unit_rows.result.place c.unit_rows.result.count
-    (moved_rows (unit_ahead g.R.Offset.ReaderOffset.limit (unit_view c.in-Ok.header) (found c.in-Ok-abbreviations.table) (at number c.args.depth)) (at number c.args.depth) c.args.rows.now c.unit_rows.result.place c.unit_rows.new.rows c.unit_rows.result.count c.unit_rows.result.status told))
+    (unit_resumes g.R.Offset.ReaderOffset.limit (unit_view c.in-Ok.header)
+    (found c.in-Ok-abbreviations.table) c.in-Ok.header.entries_fit (at number c.args.depth)
+    c.unit_rows.result.place c.unit_rows.result.count
+    (moved_rows (unit_ahead g.R.Offset.ReaderOffset.limit (unit_view c.in-Ok.header)
+    (found c.in-Ok-abbreviations.table) (at number c.args.depth)) (at number c.args.depth)
+    c.args.rows.now c.unit_rows.result.place c.unit_rows.new.rows c.unit_rows.result.count
+    c.unit_rows.result.status told))

@@ -1,11 +1,14 @@
-use Rattle.std.proofs.Common.{◌≡◌, ◌+◌, ◌-◌, ◌<◌, ◌≤◌, ◌^◌, sym, ap, ◌∙◌, arith, length, unsigned_abs, w64, to_z, of_z}
+use Rattle.std.proofs.Common.{◌≡◌, ◌+◌, ◌-◌, ◌<◌, ◌≤◌, ◌^◌, sym, ap, ◌∙◌, arith, length}
+use Rattle.std.proofs.Common.{unsigned_abs, w64, to_z, of_z}
 use Rattle.std.proofs.lemmas.Int.{to_z-of_z}
 use Rattle.gimli_units.specs.Unit.{whole_length}
 use Rattle.gimli_units.specs.RawPlace.{RawPlace}
 use Rattle.gimli_units.specs.UnitHeld.{unit_view}
 use Rattle.gimli_c.specs.Fronts.{at}
-use Rattle.gimli_c.proofs.Bounds.{read_bounds, below_end, bytes_left, told_ended, told_outside, told_deep, told_filled}
-use Rattle.gimli_c.proofs.rows.unit_rows.Goals.{then-left-via-then-left, then-left-via-else-left+then-steps-left}
+use Rattle.gimli_c.proofs.Bounds.{read_bounds, below_end, bytes_left, told_ended, told_outside}
+use Rattle.gimli_c.proofs.Bounds.{told_deep, told_filled}
+use Rattle.gimli_c.proofs.rows.unit_rows.Goals.{then-left-via-then-left}
+use Rattle.gimli_c.proofs.rows.unit_rows.Goals.{then-left-via-else-left+then-steps-left}
 use Rattle.gimli_c.proofs.rows.unit_rows.Goals as goal
 
 pub returns-then-start-whole : goal.returns-then-start-whole
@@ -13,65 +16,110 @@ returns-then-start-whole g c =
     let back : to_z w64 (of_z w64 c.args.depth) ≡ c.args.depth = to_z-of_z w64 _ c.ranges.depth in
     let number = g.R.Offset.ReaderOffset.number c.args.offset in
     let here : number ≡ whole_length (unit_view c.args.unit.now) =
-    sym c.into_u64-start.ensures.value ∙ c.if-start-whole.true ∙ c.into_u64-whole.ensures.value ∙ c.length_including_self.ensures in
+    sym c.into_u64-start.ensures.value ∙ c.if-start-whole.true ∙ c.into_u64-whole.ensures.value
+    ∙ c.length_including_self.ensures in
     rw (c.stopped.ensures, back)
-    (told_ended g.R.Offset.ReaderOffset.limit (unit_view c.args.unit.now) c.args.table.now (at number c.args.depth) c.args.rows.now c.args.unit.now.entries_fit here)
+    (told_ended g.R.Offset.ReaderOffset.limit (unit_view c.args.unit.now) c.args.table.now
+    (at number c.args.depth) c.args.rows.now c.args.unit.now.entries_fit here)
 
 pub returns-in-Err : goal.returns-in-Err
 returns-in-Err g c =
     let back : to_z w64 (of_z w64 c.args.depth) ≡ c.args.depth = to_z-of_z w64 _ c.ranges.depth in
     let number = g.R.Offset.ReaderOffset.number c.args.offset in
     let apart : number ≡ whole_length (unit_view c.args.unit.now) → ⊥ =
-    λ h. c.if-start-whole.false (c.into_u64-start.ensures.value ∙ h ∙ sym (c.into_u64-whole.ensures.value ∙ c.length_including_self.ensures)) in
+    λ h. c.if-start-whole.false (c.into_u64-start.ensures.value ∙ h
+    ∙ sym (c.into_u64-whole.ensures.value ∙ c.length_including_self.ensures)) in
     rw (c.stopped-in-Err.ensures, c.refused.ensures, back)
-    (told_outside g.R.Offset.ReaderOffset.limit (unit_view c.args.unit.now) c.args.table.now (at number c.args.depth) c.args.rows.now apart c.in-Err.error c.in-Err.ensures)
+    (told_outside g.R.Offset.ReaderOffset.limit (unit_view c.args.unit.now) c.args.table.now
+    (at number c.args.depth) c.args.rows.now apart c.in-Err.error c.in-Err.ensures)
 
 pub overflow_sub-left : goal.overflow_sub-left
 overflow_sub-left g c =
     let number = g.R.Offset.ReaderOffset.number c.args.offset in
-    let below = below_end (unit_view c.args.unit.now) number (read_bounds (unit_view c.args.unit.now) c.args.table.now number c.in-Ok.entries c.in-Ok.ensures).0 in
-    omega (arith, below.1, c.into_u64-start.ensures.value, c.into_u64-whole.ensures.value, c.length_including_self.ensures)
+    let below = below_end (unit_view c.args.unit.now) number
+    (read_bounds (unit_view c.args.unit.now) c.args.table.now number c.in-Ok.entries
+    c.in-Ok.ensures).0 in
+    omega (
+      arith,
+      below.1,
+      c.into_u64-start.ensures.value,
+      c.into_u64-whole.ensures.value,
+      c.length_including_self.ensures,
+    )
 
 pub returns-then-left : goal.returns-then-left
 returns-then-left g c =
     let back : to_z w64 (of_z w64 c.args.depth) ≡ c.args.depth = to_z-of_z w64 _ c.ranges.depth in
     let number = g.R.Offset.ReaderOffset.number c.args.offset in
     let apart : number ≡ whole_length (unit_view c.args.unit.now) → ⊥ =
-    λ h. c.if-start-whole.false (c.into_u64-start.ensures.value ∙ h ∙ sym (c.into_u64-whole.ensures.value ∙ c.length_including_self.ensures)) in
+    λ h. c.if-start-whole.false (c.into_u64-start.ensures.value ∙ h
+    ∙ sym (c.into_u64-whole.ensures.value ∙ c.length_including_self.ensures)) in
     let start : c.into_u64-start.result ≡ number = c.into_u64-start.ensures.value in
-    let whole : c.into_u64-whole.result ≡ whole_length (unit_view c.args.unit.now) = c.into_u64-whole.ensures.value ∙ c.length_including_self.ensures in
-    let steps : c.unsigned_abs-steps.result ≡ unsigned_abs c.args.depth = c.unsigned_abs-steps.ensures.value ∙ ap unsigned_abs back in
-    let deep : 2 ^ 63 ≤ unsigned_abs c.args.depth + (whole_length (unit_view c.args.unit.now) - number) = elim c.then-left.branch [
+    let whole : c.into_u64-whole.result ≡ whole_length (unit_view c.args.unit.now) =
+    c.into_u64-whole.ensures.value ∙ c.length_including_self.ensures in
+    let steps : c.unsigned_abs-steps.result ≡ unsigned_abs c.args.depth =
+    c.unsigned_abs-steps.ensures.value ∙ ap unsigned_abs back in
+    let deep : 2 ^ 63 ≤ unsigned_abs c.args.depth + (whole_length (unit_view c.args.unit.now)
+    - number) = elim c.then-left.branch [
       | then-left-via-then-left w ↦ omega (arith, w.if-left.true, start, whole)
-      | then-left-via-else-left+then-steps-left w ↦ omega (arith, w.if-left.false, w.if-steps-left.true, start, whole, steps)
+      | then-left-via-else-left+then-steps-left w ↦ omega (
+        arith,
+        w.if-left.false,
+        w.if-steps-left.true,
+        start,
+        whole,
+        steps,
+      )
     ] in
     rw (c.stopped-then-left.ensures, back)
-    (told_deep g.R.Offset.ReaderOffset.limit (unit_view c.args.unit.now) c.args.table.now (at number c.args.depth) c.args.rows.now apart c.in-Ok.entries c.in-Ok.ensures deep)
+    (told_deep g.R.Offset.ReaderOffset.limit (unit_view c.args.unit.now) c.args.table.now
+    (at number c.args.depth) c.args.rows.now apart c.in-Ok.entries c.in-Ok.ensures deep)
 
 pub fill_rows-requires : goal.fill_rows-requires
 fill_rows-requires g c =
     let back : to_z w64 (of_z w64 c.args.depth) ≡ c.args.depth = to_z-of_z w64 _ c.ranges.depth in
     let number = g.R.Offset.ReaderOffset.number c.args.offset in
     let start : c.into_u64-start.result ≡ number = c.into_u64-start.ensures.value in
-    let whole : c.into_u64-whole.result ≡ whole_length (unit_view c.args.unit.now) = c.into_u64-whole.ensures.value ∙ c.length_including_self.ensures in
-    let steps : c.unsigned_abs-steps.result ≡ unsigned_abs c.args.depth = c.unsigned_abs-steps.ensures.value ∙ ap unsigned_abs back in
-    let yes = read_bounds (unit_view c.args.unit.now) c.args.table.now number c.in-Ok.entries c.in-Ok.ensures in
-    let bytes : length c.in-Ok.entries.rest.bytes ≡ whole_length (unit_view c.args.unit.now) - number =
-    ap (λ (p : RawPlace). length p.rest.bytes) yes.1 ∙ bytes_left (unit_view c.args.unit.now) number c.args.unit.now.entries_fit yes.0 in
-    let none : unsigned_abs c.in-Ok.entries.depth ≡ 0 = ap (λ (p : RawPlace). unsigned_abs p.depth) yes.1 in
-    rw back (omega (arith, c.if-left.false, c.if-steps-left.false, start, whole, steps, bytes, none))
+    let whole : c.into_u64-whole.result ≡ whole_length (unit_view c.args.unit.now) =
+    c.into_u64-whole.ensures.value ∙ c.length_including_self.ensures in
+    let steps : c.unsigned_abs-steps.result ≡ unsigned_abs c.args.depth =
+    c.unsigned_abs-steps.ensures.value ∙ ap unsigned_abs back in
+    let yes = read_bounds (unit_view c.args.unit.now) c.args.table.now number c.in-Ok.entries
+    c.in-Ok.ensures in
+    let bytes : length c.in-Ok.entries.rest.bytes ≡ whole_length (unit_view c.args.unit.now)
+    - number =
+    ap (λ (p : RawPlace). length p.rest.bytes) yes.1 ∙ bytes_left (unit_view c.args.unit.now) number
+    c.args.unit.now.entries_fit yes.0 in
+    let none : unsigned_abs c.in-Ok.entries.depth ≡ 0 =
+    ap (λ (p : RawPlace). unsigned_abs p.depth) yes.1 in
+    rw back (omega (
+      arith,
+      c.if-left.false,
+      c.if-steps-left.false,
+      start,
+      whole,
+      steps,
+      bytes,
+      none,
+    ))
 
 pub returns : goal.returns
 returns g c =
     let back : to_z w64 (of_z w64 c.args.depth) ≡ c.args.depth = to_z-of_z w64 _ c.ranges.depth in
     let number = g.R.Offset.ReaderOffset.number c.args.offset in
     let apart : number ≡ whole_length (unit_view c.args.unit.now) → ⊥ =
-    λ h. c.if-start-whole.false (c.into_u64-start.ensures.value ∙ h ∙ sym (c.into_u64-whole.ensures.value ∙ c.length_including_self.ensures)) in
+    λ h. c.if-start-whole.false (c.into_u64-start.ensures.value ∙ h
+    ∙ sym (c.into_u64-whole.ensures.value ∙ c.length_including_self.ensures)) in
     let start : c.into_u64-start.result ≡ number = c.into_u64-start.ensures.value in
-    let whole : c.into_u64-whole.result ≡ whole_length (unit_view c.args.unit.now) = c.into_u64-whole.ensures.value ∙ c.length_including_self.ensures in
-    let steps : c.unsigned_abs-steps.result ≡ unsigned_abs c.args.depth = c.unsigned_abs-steps.ensures.value ∙ ap unsigned_abs back in
-    let shallow : unsigned_abs c.args.depth + (whole_length (unit_view c.args.unit.now) - number) < 2 ^ 63 =
+    let whole : c.into_u64-whole.result ≡ whole_length (unit_view c.args.unit.now) =
+    c.into_u64-whole.ensures.value ∙ c.length_including_self.ensures in
+    let steps : c.unsigned_abs-steps.result ≡ unsigned_abs c.args.depth =
+    c.unsigned_abs-steps.ensures.value ∙ ap unsigned_abs back in
+    let shallow : unsigned_abs c.args.depth + (whole_length (unit_view c.args.unit.now) - number)
+    < 2 ^ 63 =
     omega (arith, c.if-left.false, c.if-steps-left.false, start, whole, steps) in
     let f = rw back at c.fill_rows.ensures in
-    told_filled g.R.Offset.ReaderOffset.limit (unit_view c.args.unit.now) c.args.table.now (at number c.args.depth) c.args.rows.now apart c.in-Ok.entries c.fill_rows.result.place c.fill_rows.new.rows c.fill_rows.result.count c.fill_rows.result.status
+    told_filled g.R.Offset.ReaderOffset.limit (unit_view c.args.unit.now) c.args.table.now
+    (at number c.args.depth) c.args.rows.now apart c.in-Ok.entries c.fill_rows.result.place
+    c.fill_rows.new.rows c.fill_rows.result.count c.fill_rows.result.status
     c.in-Ok.ensures shallow f

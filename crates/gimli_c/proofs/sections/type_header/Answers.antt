@@ -13,7 +13,11 @@ returns-in-Err g c =
 pub returns-in-Ok-Some : goal.returns-in-Ok-Some
 returns-in-Ok-Some g c =
     let there = rw c.copy-rest.ensures at c.in-Ok.ensures.value in
-    let next = rw (c.units.ensures.begin, c.from.ensures, c.in-Ok-Some.field-0-is) at c.in-Ok-Some.ensures.value in
+    let next = rw (
+      c.units.ensures.begin,
+      c.from.ensures,
+      c.in-Ok-Some.field-0-is,
+    ) at c.in-Ok-Some.ensures.value in
     next_is g.R.Offset.ReaderOffset.limit DebugTypes (g.R.Offset.ReaderOffset.number c.args.offset)
     (g.R.Reader.view c.args.units.now) (g.R.Reader.view c.skip.new.self)
     (Ok (Some (unit_view c.in-Ok-Some.header))) c.next.new.self there next
@@ -21,7 +25,11 @@ returns-in-Ok-Some g c =
 pub returns-in-Ok-None : goal.returns-in-Ok-None
 returns-in-Ok-None g c =
     let there = rw c.copy-rest.ensures at c.in-Ok.ensures.value in
-    let next = rw (c.units.ensures.begin, c.from.ensures, c.in-Ok-None.field-0-is) at c.in-Ok-None.ensures.value in
+    let next = rw (
+      c.units.ensures.begin,
+      c.from.ensures,
+      c.in-Ok-None.field-0-is,
+    ) at c.in-Ok-None.ensures.value in
     rw c.offset_id-place.ensures (next_is g.R.Offset.ReaderOffset.limit DebugTypes
     (g.R.Offset.ReaderOffset.number c.args.offset) (g.R.Reader.view c.args.units.now)
     (g.R.Reader.view c.skip.new.self) (Ok None) c.next.new.self there next)

@@ -50,5 +50,6 @@ returns-in-None-clause-told g c = λ honest _ _.
     let moved = c.in-Ok-step.ensures (honest_on limit from on c.in-Ok.field-0 read honest) in
     let told = sibling_told from.raw.end (place_of limit from) (place_of limit on) c.args.depth
     c.args.row.now c.in-Ok.field-0 read.moves (place_of limit c.step.new.cursor)
-    c.in-Ok-step.field-0 (at_stop on.raw.end from.raw.end (place_of limit on) _ read.unit.end moved) in
+    c.in-Ok-step.field-0 (at_stop on.raw.end from.raw.end (place_of limit on) _ read.unit.end moved)
+    in
     rw (← c.in-None.ensures.entry) at told

@@ -22,7 +22,8 @@ returns-in-Ok-clause-told g c = λ honest m r.
           rw w.if-follows.false
           (sym c.in-Ok.is ∙ w.cursor-is ∙ w.entries_plain_at_offset-cursor.ensures)
     ] in
-    let from = sibling_from limit u t c.args.follows n c.args.depth c.args.row.now c.in-Ok.cursor is in
+    let from = sibling_from limit u t c.args.follows n c.args.depth c.args.row.now c.in-Ok.cursor is
+    in
     let told = rw back at c.find_behind.ensures.told in
     told (λ f. honest_cursor limit u t c.args.follows (Some n) c.in-Ok.cursor is
     (honest (sym from.0 ∙ f))) m r ∙ from.1
