@@ -1,7 +1,7 @@
 //! Rows, and entries with their attributes.
 
 use crate::{Attribute, END, Error, MORE, Place, Result, Row, sys};
-use alloc::{vec, vec::Vec};
+use alloc::vec::Vec;
 
 /// The rows of a unit, up to the first that is refused.
 pub struct Rows<'a> {
@@ -10,20 +10,18 @@ pub struct Rows<'a> {
     place: Place,
     rows: Vec<Row>,
     at: usize,
-    count: usize,
     status: u32,
 }
 
 impl<'a> Rows<'a> {
     pub(crate) fn new(sections: sys::Sections<'a>, unit: u64, place: Place, room: usize) -> Self {
-        let rows = vec![Row::default(); room.max(1)];
+        let rows = Vec::with_capacity(room.max(1));
         Rows {
             sections,
             unit,
             place,
             rows,
             at: 0,
-            count: 0,
             status: MORE,
         }
     }
@@ -38,17 +36,11 @@ impl Iterator for Rows<'_> {
     type Item = Result<Row>;
 
     fn next(&mut self) -> Option<Self::Item> {
-        if self.at == self.count && self.status == MORE {
+        if self.at == self.rows.len() && self.status == MORE {
             self.at = 0;
-            self.status = sys::rows(
-                &self.sections,
-                self.unit,
-                &mut self.place,
-                &mut self.rows,
-                &mut self.count,
-            );
+            self.status = sys::rows(&self.sections, self.unit, &mut self.place, &mut self.rows);
         }
-        if self.at < self.count {
+        if self.at < self.rows.len() {
             self.at += 1;
             return Some(Ok(self.rows[self.at - 1]));
         }
@@ -86,8 +78,8 @@ impl<'a> Entries<'a> {
             units,
             unit,
             place,
-            rows: vec![sys::Entry::default(); room.max(1)],
-            attrs: vec![sys::Attr::default(); space],
+            rows: Vec::with_capacity(room.max(1)),
+            attrs: Vec::with_capacity(space),
             filled: sys::Filled::default(),
             at: 0,
             status: MORE,
@@ -101,9 +93,10 @@ impl<'a> Entries<'a> {
 
     /// The next entry, a null too; none at the end, and behind a refusal.
     pub fn next_entry(&mut self) -> Result<Option<Entry<'a, '_>>> {
-        while self.at == self.filled.rows && self.status == MORE {
-            if self.filled.rows == 0 && self.filled.wanted > self.attrs.len() {
-                self.attrs.resize(self.filled.wanted, sys::Attr::default());
+        while self.at == self.rows.len() && self.status == MORE {
+            if self.rows.is_empty() {
+                self.attrs.clear();
+                self.attrs.reserve(self.filled.wanted);
             }
             self.at = 0;
             self.status = sys::entries(
@@ -115,7 +108,7 @@ impl<'a> Entries<'a> {
                 &mut self.filled,
             );
         }
-        if self.at < self.filled.rows {
+        if self.at < self.rows.len() {
             let row = &self.rows[self.at];
             self.at += 1;
             let attrs = &self.attrs[row.first..row.first + row.attributes];

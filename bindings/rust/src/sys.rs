@@ -5,6 +5,7 @@
 //! guarantee. A slice's pointer is never null, and its length is below 2^63.
 
 use crate::{Bases, Location, Place, Range, Row};
+use alloc::vec::Vec;
 
 /// Bytes of a section, as a pointer and a length.
 #[repr(C)]
@@ -132,38 +133,49 @@ pub(crate) fn unit(sections: &Sections<'_>, offset: u64, unit: &mut Unit) -> u32
     unsafe { raw::gimli_unit(sections, offset, unit) }
 }
 
+/// Fills a buffer as far as its capacity.
 pub(crate) fn rows(
     sections: &Sections<'_>,
     unit: u64,
     place: &mut Place,
-    rows: &mut [Row],
-    count: &mut usize,
+    rows: &mut Vec<Row>,
 ) -> u32 {
-    // SAFETY: the module's text.
-    unsafe { raw::gimli_rows(sections, unit, place, rows.as_mut_ptr(), rows.len(), count) }
+    rows.clear();
+    let mut count = 0;
+    // SAFETY: the module's text. A buffer need not be set before, and the first `count` rows are written by the call.
+    unsafe {
+        let status = raw::gimli_rows(
+            sections,
+            unit,
+            place,
+            rows.as_mut_ptr(),
+            rows.capacity(),
+            &mut count,
+        );
+        rows.set_len(count);
+        status
+    }
 }
 
+/// Fills both buffers as far as their capacity.
 pub(crate) fn entries(
     sections: &Sections<'_>,
     unit: u64,
     place: &mut Place,
-    rows: &mut [Entry],
-    attrs: &mut [Attr],
+    rows: &mut Vec<Entry>,
+    attrs: &mut Vec<Attr>,
     filled: &mut Filled,
 ) -> u32 {
-    let (rows, room) = (rows.as_mut_ptr(), rows.len());
-    // SAFETY: the module's text.
+    rows.clear();
+    attrs.clear();
+    let (room, space) = (rows.capacity(), attrs.capacity());
+    // SAFETY: the module's text. Buffers need not be set before, and as many rows and attributes as `filled` says are written.
     unsafe {
-        raw::gimli_entries(
-            sections,
-            unit,
-            place,
-            rows,
-            room,
-            attrs.as_mut_ptr(),
-            attrs.len(),
-            filled,
-        )
+        let (to, and) = (rows.as_mut_ptr(), attrs.as_mut_ptr());
+        let status = raw::gimli_entries(sections, unit, place, to, room, and, space, filled);
+        rows.set_len(filled.rows);
+        attrs.set_len(filled.attributes);
+        status
     }
 }
 
