@@ -1,16 +1,20 @@
 -- The children of a unit's root, counted over its rows (DWARF 5, 2.3).
-use Rattle.std.specs.Prelude.{ℕ, ℤ, ◌+◌, if◌then◌else◌, List, [], ◌∷◌, Option, Some, None, Result, Ok, Err}
+use Rattle.std.specs.Prelude.{ℕ, ℤ, ◌+◌, if◌then◌else◌, List, [], ◌∷◌, Option, Some, None, Result}
+use Rattle.std.specs.Prelude.{Ok, Err}
 use Rattle.gimli_base.specs.declared.error.Error.{Error}
 use Rattle.gimli_units.specs.Entry.{is_null}
 use Rattle.gimli_units.specs.Rows.{Row, Ahead}
 use Rattle.gimli_units.specs.CursorPlace.{has_depth}
-use Rattle.gimli_units.specs.TreePlace.{Told, a_node, list_end, has_entered, has_left, no_node, a_fault, to_root, children_of}
+use Rattle.gimli_units.specs.TreePlace.{Told, a_node, list_end, has_entered, has_left, no_node}
+use Rattle.gimli_units.specs.TreePlace.{a_fault, to_root, children_of}
 
--- the rows of a depth before the null that closes their list, counted on from n; a refusal before it is the answer
+-- the rows of a depth before the null that closes their list, counted on from n; a refusal before
+-- it is the answer
 abbrev pub counted : ℤ → Option Error → ℕ → List Row → Result ℕ Error
 counted depth refusal n [] = elim refusal [ None ↦ Ok n | Some e ↦ Err e ]
 counted depth refusal n (r ∷ rest) =
-    if has_depth depth r then (if is_null r.entry then Ok n else counted depth refusal (n + 1) rest) else counted depth refusal n rest
+    if has_depth depth r then (if is_null r.entry then Ok n else counted depth refusal (n + 1) rest)
+    else counted depth refusal n rest
 
 -- a list's, which has none where it is closed
 abbrev pub count_in : Option ℤ → ℕ → Ahead → Result ℕ Error

@@ -3,6 +3,8 @@ use Rattle.std.specs.Prelude.{◌≡◌, ℕ, Bool, true, false, Result, Ok}
 use Rattle.gimli_base.specs.declared.error.Error.{Error}
 use Rattle.gimli_units.specs.TreeMoves.{TreeView, HasGoneOn}
 
-pub record HasEntered (limit : ℕ) (old : TreeView) (outcome : Result Bool Error) (new : TreeView) : Type 0 where
-  pub some : old.cursor.entry.has_children ≡ true → HasGoneOn limit old.cursor.raw.depth old outcome new
+pub record HasEntered (limit : ℕ) (old : TreeView) (outcome : Result Bool Error) (new : TreeView) :
+    Type 0 where
+  pub some : old.cursor.entry.has_children ≡ true
+      → HasGoneOn limit old.cursor.raw.depth old outcome new
   pub none : old.cursor.entry.has_children ≡ false → (outcome ≡ Ok false) × (new ≡ old)

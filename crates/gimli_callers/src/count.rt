@@ -29,8 +29,9 @@ fn count<R: Reader, A: Allocator>(children: &mut EntriesTreeIter<'_, '_, R, A>) 
     Ok(count)
 }
 
-/// How many children the root of a tree has, by the tree's own walk: where the sibling references are honest, as many as there
-/// are rows of their depth before the null that closes their list, or the refusal that comes first.
+/// How many children the root of a tree has, by the tree's own walk: where the sibling references
+/// are honest, as many as there are rows of their depth before the null that closes their list, or
+/// the refusal that comes first.
 pub fn count_children<R: Reader, A: Allocator>(tree: &mut EntriesTree<'_, R, A>) -> Result<usize>
     ensures counted { let start = tree.old.start in
         let rows = rows_of R.Offset.limit start in

@@ -15,8 +15,9 @@ use gimli_units::{UnitHeader, UnitOffset};
 use gimli_walk::{CursorAnswer, CursorStep, Run, run_cursor, run_cursor_plain};
 use std::alloc::Allocator;
 
-/// The answers of a cursor that follows references, and of one that follows none, to the same steps, where no reference of the
-/// unit is false. From the root, or from the offset of a row of the unit, they are the same answers, memory aside.
+/// The answers of a cursor that follows references, and of one that follows none, to the same
+/// steps, where no reference of the unit is false. From the root, or from the offset of a row of
+/// the unit, they are the same answers, memory aside.
 pub fn run_both<R: Reader, A: Allocator + Copy>(
     alloc: A,
     unit: &UnitHeader<R>,

@@ -19,7 +19,8 @@ use std::alloc::Allocator;
 fn has_child<R: Reader, A: Allocator>(walker: &mut EntriesTreeWalker<'_, R, A>) -> Result<bool>
     requires sound { IsWalker walker.old }
     requires node { walker.old.is_on ≡ true }
-    ensures ok { IfOk result (λ b. HasEntered R.Offset.limit walker.old.tree (Ok b) walker.new.tree) }
+    ensures ok { IfOk result (λ b.
+        HasEntered R.Offset.limit walker.old.tree (Ok b) walker.new.tree) }
     ensures lists { IfOk result (λ b. walker.new.lists ≡ walker.old.lists) }
     ensures err { IfErr result (λ e. (e ≡ OutOfMemory → ⊥)
         → HasEntered R.Offset.limit walker.old.tree (Err e) walker.new.tree) }
@@ -46,9 +47,9 @@ fn count_entered<R: Reader, A: Allocator>(walker: &mut EntriesTreeWalker<'_, R, 
     Ok(count)
 }
 
-/// How many children the root of a tree has, where the list of each child is begun in between: where the sibling references
-/// are honest, as many as there are rows of their depth before the null that closes their list, or the refusal that comes
-/// first.
+/// How many children the root of a tree has, where the list of each child is begun in between:
+/// where the sibling references are honest, as many as there are rows of their depth before the
+/// null that closes their list, or the refusal that comes first.
 pub fn count_entered_children<R: Reader, A: Allocator>(
     walker: &mut EntriesTreeWalker<'_, R, A>,
 ) -> Result<usize>

@@ -28,8 +28,9 @@ fn step<R: Reader, A: Allocator>(cursor: &mut EntriesCursor<'_, R, A>) -> Result
     }
 }
 
-/// Where the next sibling of a unit's first entry stands, by the references of a unit whose references are not false: exactly
-/// where the rows say; or `None` where a reference of the unit is false.
+/// Where the next sibling of a unit's first entry stands, by the references of a unit whose
+/// references are not false: exactly where the rows say; or `None` where a reference of the unit is
+/// false.
 pub fn second_of_depth<R: Reader, A: Allocator + Copy>(
     alloc: A,
     unit: &UnitHeader<R>,
@@ -52,8 +53,9 @@ pub fn second_of_depth<R: Reader, A: Allocator + Copy>(
     }
 }
 
-/// Where the next sibling of the entry at the offset of a row stands, by the references of a unit whose references are not
-/// false: exactly where the rows from that offset on say; or `None` where a reference of the unit is false.
+/// Where the next sibling of the entry at the offset of a row stands, by the references of a unit
+/// whose references are not false: exactly where the rows from that offset on say; or `None` where
+/// a reference of the unit is false.
 pub fn sibling_at<R: Reader, A: Allocator + Copy>(
     alloc: A,
     unit: &UnitHeader<R>,

@@ -3,8 +3,8 @@ use std::process::Abort;
 
 // Tries a byte order: which byte comes first in it, and that its kept form gives it back.
 fn tries_order<E: Endianity>(rt: &impl Abort, endian: E, is_big: bool) {
-    assert_eq!(rt; endian.is_big_endian(), is_big);
-    assert_eq!(rt; E::from_kept(endian.kept()), endian);
+    assert!(rt; endian.is_big_endian() == is_big);
+    assert!(rt; E::from_kept(endian.kept()) == endian);
 }
 
 #[test]
@@ -13,6 +13,6 @@ fn tries_each_order(rt: HostRuntime) {
     tries_order(&rt, BigEndian, true);
     tries_order(&rt, RunTimeEndian::Little, false);
     tries_order(&rt, RunTimeEndian::Big, true);
-    assert_eq!(rt; LittleEndian::default(), LittleEndian);
-    assert_eq!(rt; BigEndian::default(), BigEndian);
+    assert!(rt; LittleEndian::default() == LittleEndian);
+    assert!(rt; BigEndian::default() == BigEndian);
 }

@@ -14,8 +14,8 @@ const BYTES: [u8; 5] = [0x81, 0x02, 0x03, 0x04, 0x05];
 
 // Tries in which byte order a reader reads, and which bytes it has from a place on.
 fn has<R: Reader>(rt: &impl Abort, reader: R, order: R::Endian, bytes: &[u8], place: u64) {
-    assert_eq!(rt; reader.endian(), order);
-    assert_eq!(rt; reader.offset_id(), ReaderOffsetId(place));
+    assert!(rt; reader.endian() == order);
+    assert!(rt; reader.offset_id() == ReaderOffsetId(place));
     assert!(rt; has_bytes(&reader, bytes));
 }
 
@@ -26,11 +26,11 @@ fn begin_where_they_are_made(rt: HostRuntime) {
     has(&rt, WholeSlice::new(&BYTES, big), big, &BYTES, 0);
     let mut reader = EndianSlice::new_at(&BYTES, LittleEndian, 7);
     let front = reader.split(2).expect(&rt, "two bytes");
-    assert_eq!(rt; (front.slice(), reader.slice()), (&BYTES[..2], &BYTES[2..]));
+    assert!(rt; (front.slice(), reader.slice()) == (&BYTES[..2], &BYTES[2..]));
     has(&rt, reader, LittleEndian, &BYTES[2..], 9);
     let mut reader = WholeSlice::new_at(&BYTES, LittleEndian, 7);
     let front = reader.split(2).expect(&rt, "two bytes");
-    assert_eq!(rt; (front.slice(), reader.slice()), (&BYTES[..2], &BYTES[2..]));
+    assert!(rt; (front.slice(), reader.slice()) == (&BYTES[..2], &BYTES[2..]));
     has(&rt, reader, LittleEndian, &BYTES[2..], 9);
 }
 
@@ -63,8 +63,8 @@ fn tries_copies<R: Reader + Copy>(
     order: R::Endian,
 ) -> Result<(), Fail> {
     let (mut clone, mut assigned, mut copy) = (reader.clone()?, reader, reader.copy());
-    assert_eq!(rt; clone.read_u32(), Ok(0x8102_0304));
-    assert_eq!(rt; assigned.read_u16(), Ok(0x8102));
+    assert!(rt; clone.read_u32() == Ok(0x8102_0304));
+    assert!(rt; assigned.read_u16() == Ok(0x8102));
     copy.empty();
     assert!(rt; copy.is_empty());
     has(rt, clone, order, &BYTES[4..], 104);
@@ -92,8 +92,8 @@ fn compares<T: Copy + Debug + PartialEq + Hash>(
     others: [T; 4],
 ) {
     for other in same {
-        assert_eq!(rt; value, other);
-        assert_eq!(rt; hash_of(&value), hash_of(&other));
+        assert!(rt; value == other);
+        assert!(rt; hash_of(&value) == hash_of(&other));
     }
     for other in others {
         assert_ne!(rt; value, other);
@@ -132,13 +132,13 @@ fn show_their_fields(rt: HostRuntime) -> Result<(), Fail> {
     let reader = part(&[0x01, 0x02], RunTimeEndian::Big);
     let text = format!(in rt.alloc(); "{reader:?}")?;
     let wanted = "EndianSlice { bytes: [1, 2], endian: Big, place: 100 }";
-    assert_eq!(rt; text.as_str(), wanted);
+    assert!(rt; text.as_str() == wanted);
     let mut reader = whole(&rt, &[0x07, 0x01, 0x02, 0x08], RunTimeEndian::Big);
-    assert_eq!(rt; reader.read_u8(), Ok(0x07));
-    assert_eq!(rt; reader.truncate(2), Ok(()));
+    assert!(rt; reader.read_u8() == Ok(0x07));
+    assert!(rt; reader.truncate(2) == Ok(()));
     let text = format!(in rt.alloc(); "{reader:?}")?;
     let wanted = "WholeSlice { bytes: [1, 2], endian: Big, place: 101 }";
-    assert_eq!(rt; text.as_str(), wanted);
+    assert!(rt; text.as_str() == wanted);
     Ok(())
 }
 
@@ -146,29 +146,29 @@ fn show_their_fields(rt: HostRuntime) -> Result<(), Fail> {
 fn answer_each_call(rt: HostRuntime) {
     let bytes = [1, 2, 3, 4, 5, 6, 7, 8, 4, 9, 10];
     let mut reader = part(&bytes, BigEndian);
-    assert_eq!(rt; (reader.read_u8(), reader.read_u16()), (Ok(1), Ok(0x0203)));
-    assert_eq!(rt; reader.read_uint(3), Ok(0x04_0506));
-    assert_eq!(rt; reader.read_uleb128(), Ok(7));
-    assert_eq!(rt; reader.read_uleb128_u16(), Ok(8));
-    assert_eq!(rt; reader.read_address_size(), Ok(4));
-    assert_eq!(rt; reader.read_address(1), Ok(9));
-    assert_eq!(rt; reader.read_sized_offset(1), Ok(10));
-    assert_eq!(rt; reader.read_u64(), Err(end_at(111)));
+    assert!(rt; (reader.read_u8(), reader.read_u16()) == (Ok(1), Ok(0x0203)));
+    assert!(rt; reader.read_uint(3) == Ok(0x04_0506));
+    assert!(rt; reader.read_uleb128() == Ok(7));
+    assert!(rt; reader.read_uleb128_u16() == Ok(8));
+    assert!(rt; reader.read_address_size() == Ok(4));
+    assert!(rt; reader.read_address(1) == Ok(9));
+    assert!(rt; reader.read_sized_offset(1) == Ok(10));
+    assert!(rt; reader.read_u64() == Err(end_at(111)));
 }
 
 #[test]
 fn answer_each_other_call(rt: HostRuntime) {
     let bytes = [0x10, 0, 0, 0, 0x80, 0x00, 0x7f, 0x61, 0x00];
     let mut reader = whole(&rt, &bytes, LittleEndian);
-    assert_eq!(rt; reader.find(0x61), Ok(7));
-    assert_eq!(rt; reader.read_u128(), Err(end_at(100)));
-    assert_eq!(rt; reader.copy().read_offset(Format::Dwarf32), Ok(0x10));
-    assert_eq!(rt; reader.read_initial_length(), Ok((0x10, Format::Dwarf32)));
-    assert_eq!(rt; reader.skip_leb128(), Ok(()));
-    assert_eq!(rt; reader.read_sleb128(), Ok(-1));
-    assert_eq!(rt; reader.lookup_offset_id(ReaderOffsetId(108)), Some(1));
+    assert!(rt; reader.find(0x61) == Ok(7));
+    assert!(rt; reader.read_u128() == Err(end_at(100)));
+    assert!(rt; reader.copy().read_offset(Format::Dwarf32) == Ok(0x10));
+    assert!(rt; reader.read_initial_length() == Ok((0x10, Format::Dwarf32)));
+    assert!(rt; reader.skip_leb128() == Ok(()));
+    assert!(rt; reader.read_sleb128() == Ok(-1));
+    assert!(rt; reader.lookup_offset_id(ReaderOffsetId(108)) == Some(1));
     let text = reader.copy().read_null_terminated_slice();
-    assert_eq!(rt; text.map(|text| text.len()), Ok(1));
-    assert_eq!(rt; reader.skip(1), Ok(()));
-    assert_eq!(rt; reader.read_slice(&mut [0; 2]), Err(end_at(108)));
+    assert!(rt; text.map(|text| text.len()) == Ok(1));
+    assert!(rt; reader.skip(1) == Ok(()));
+    assert!(rt; reader.read_slice(&mut [0; 2]) == Err(end_at(108)));
 }

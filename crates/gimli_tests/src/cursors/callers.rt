@@ -73,9 +73,9 @@ fn goes_over_all_entries(rt: HostRuntime) -> Result<(), Fail> {
     let alloc = rt.alloc();
     let table = table_of(alloc, &TABLE_NESTED_STRINGS)?;
     let unit = unit_of(&rt, input(&NESTED_STRINGS, LittleEndian));
-    assert_eq!(rt; count_parents(alloc, &unit, &table)?, 3);
+    assert!(rt; count_parents(alloc, &unit, &table)? == 3);
     let unit = unit_of(&rt, whole(&rt, &NESTED_STRINGS, LittleEndian));
-    assert_eq!(rt; count_parents(alloc, &unit, &table)?, 3);
+    assert!(rt; count_parents(alloc, &unit, &table)? == 3);
     Ok(())
 }
 
@@ -84,9 +84,9 @@ fn goes_over_the_children_of_the_root(rt: HostRuntime) -> Result<(), Fail> {
     let alloc = rt.alloc();
     let table = table_of(alloc, &TABLE_NESTED_STRINGS)?;
     let unit = unit_of(&rt, input(&NESTED_STRINGS, LittleEndian));
-    assert_eq!(rt; count_parents_below_the_root(alloc, &unit, &table)?, 1);
+    assert!(rt; count_parents_below_the_root(alloc, &unit, &table)? == 1);
     let unit = unit_of(&rt, whole(&rt, &NESTED_STRINGS, LittleEndian));
-    assert_eq!(rt; count_parents_below_the_root(alloc, &unit, &table)?, 1);
+    assert!(rt; count_parents_below_the_root(alloc, &unit, &table)? == 1);
     Ok(())
 }
 
@@ -98,8 +98,8 @@ fn goes_into_each_node(rt: HostRuntime) -> Result<(), Fail> {
     let alloc = rt.alloc();
     let table = table_of(alloc, &TABLE_WITH_SIBLINGS)?;
     let unit = unit_of(&rt, input(&BRANCHES, LittleEndian));
-    assert_eq!(rt; count_entries_of(alloc, &unit, &table)?, 4);
+    assert!(rt; count_entries_of(alloc, &unit, &table)? == 4);
     let unit = unit_of(&rt, whole(&rt, &BRANCHES, LittleEndian));
-    assert_eq!(rt; count_entries_of(alloc, &unit, &table)?, 4);
+    assert!(rt; count_entries_of(alloc, &unit, &table)? == 4);
     Ok(())
 }

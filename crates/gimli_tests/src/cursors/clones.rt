@@ -69,11 +69,8 @@ fn tries_clone_of_tree<R: Reader>(
 ) -> Result<(), Fail> {
     let clone = tree.try_clone(alloc)?;
     let entry = clone.entry();
-    assert_eq!(rt;
-        (entry.offset().0.into_u64(), entry.depth(), entry.tag().0),
-        (0x0b, 0, 0x2e)
-    );
-    assert_eq!(rt; (clone.reads(), clone.next_depth()), (1, 1));
+    assert!(rt; (entry.offset().0.into_u64(), entry.depth(), entry.tag().0) == (0x0b, 0, 0x2e));
+    assert!(rt; (clone.reads(), clone.next_depth()) == (1, 1));
     Ok(())
 }
 

@@ -92,7 +92,7 @@ fn tries_chain<R: Reader>(rt: &impl Abort, alloc: Global, entries: R) -> Result<
 #[test]
 fn walks_a_deep_chain(rt: HostRuntime) -> Result<(), Fail> {
     let entries = chain(rt.alloc())?;
-    assert_eq!(rt; entries.len(), 20_000);
+    assert!(rt; entries.len() == 20_000);
     tries_chain(&rt, rt.alloc(), input(&entries, LittleEndian))?;
     tries_chain(&rt, rt.alloc(), whole(&rt, &entries, LittleEndian))
 }
@@ -156,7 +156,7 @@ fn tries_siblings<R: Reader>(rt: &impl Abort, alloc: Global, entries: R) -> Resu
 #[test]
 fn walks_a_long_list_of_siblings(rt: HostRuntime) -> Result<(), Fail> {
     let entries = siblings(rt.alloc())?;
-    assert_eq!(rt; entries.len(), 70_002);
+    assert!(rt; entries.len() == 70_002);
     tries_siblings(&rt, rt.alloc(), input(&entries, LittleEndian))?;
     tries_siblings(&rt, rt.alloc(), whole(&rt, &entries, LittleEndian))
 }
@@ -195,7 +195,7 @@ fn tries_false_siblings<R: Reader>(rt: &impl Abort, alloc: Global, entries: R) -
 #[test]
 fn walks_a_long_list_of_false_references(rt: HostRuntime) -> Result<(), Fail> {
     let entries = false_siblings(rt.alloc())?;
-    assert_eq!(rt; entries.len(), 50_000);
+    assert!(rt; entries.len() == 50_000);
     tries_false_siblings(&rt, rt.alloc(), input(&entries, LittleEndian))?;
     tries_false_siblings(&rt, rt.alloc(), whole(&rt, &entries, LittleEndian))
 }

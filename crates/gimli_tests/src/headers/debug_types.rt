@@ -26,14 +26,14 @@ fn tries_copies<R: Reader + PartialEq>(rt: &impl Abort, reader: R) {
     for offset in [0, 26] {
         let mut copied = units.copy();
         let found = copied.next().expect(rt, "refused").expect(rt, "no unit");
-        assert_eq!(rt; found.offset().0.into_u64(), offset);
+        assert!(rt; found.offset().0.into_u64() == offset);
         // the step of the copy left the source
         let unit = units.next().expect(rt, "refused").expect(rt, "no unit");
         assert!(rt; unit == found && unit.copy() == found);
-        assert_eq!(rt; units.copy().next(), copied.next());
+        assert!(rt; units.copy().next() == copied.next());
     }
-    assert_eq!(rt; units.copy().next(), Ok(None));
-    assert_eq!(rt; units.next(), Ok(None));
+    assert!(rt; units.copy().next() == Ok(None));
+    assert!(rt; units.next() == Ok(None));
 }
 
 #[test]
@@ -50,7 +50,7 @@ fn holds<R: Reader>(rt: &impl Abort, section: &DebugTypes<R>, place: u64) {
         has_bytes_at(section.reader(), &TWO_UNITS, place),
         "not at {place}"
     );
-    assert_eq!(rt; <DebugTypes<R> as Section<R>>::id(), SectionId::DebugTypes);
+    assert!(rt; (<DebugTypes<R> as Section<R>>::id()) == SectionId::DebugTypes);
 }
 
 #[test]
@@ -64,11 +64,11 @@ fn holds_the_bytes_of_the_section(rt: HostRuntime) {
     );
     // places are counted from the first one of a section
     let section = DebugTypes::new(&TWO_UNITS[..5], LittleEndian);
-    assert_eq!(rt; section.units().next(), Err(end_at(4)));
+    assert!(rt; section.units().next() == Err(end_at(4)));
     let section: DebugTypes<EndianSlice<'_, LittleEndian>> = DebugTypes::default();
-    assert_eq!(rt; section.units().next(), Ok(None));
+    assert!(rt; section.units().next() == Ok(None));
     let section: DebugTypes<WholeSlice<'_, BigEndian>> = DebugTypes::default();
-    assert_eq!(rt; section.units().next(), Ok(None));
+    assert!(rt; section.units().next() == Ok(None));
 }
 
 // Tries that a section lends its reader.
@@ -95,6 +95,6 @@ fn answers_each_call(rt: HostRuntime) {
     let section = DebugTypes::new(&TWO_UNITS[..30], LittleEndian);
     let mut items = section.units();
     assert!(rt; next_of(&mut items).is_some());
-    assert_eq!(rt; next_of(&mut items), Some(Err(end_at(30))));
-    assert_eq!(rt; next_of(&mut items), None);
+    assert!(rt; next_of(&mut items) == Some(Err(end_at(30))));
+    assert!(rt; next_of(&mut items) == None);
 }

@@ -45,7 +45,7 @@ fn first_set<R: Reader>(rt: &impl Abort, reader: R) -> ArangeHeader<R> {
 
 // Tries the range of an entry.
 fn tries_range(rt: &impl Abort, entry: &ArangeEntry, begin: u64, end: u64) {
-    assert_eq!(rt; entry.range(), Range { begin, end });
+    assert!(rt; entry.range() == Range { begin, end });
 }
 
 // What a raw entry stands for.
@@ -63,15 +63,15 @@ fn tries_turns<R: Reader>(rt: &impl Abort, mut entries: ArangeEntryIter<R>) {
     let found = entry_of(rt, &mut entries);
     tries_range(rt, &found, 3, 7);
     let second = raw_entry_of(rt, &mut entries);
-    assert_eq!(rt; (second.address(), second.length()), (0xfe, 1));
+    assert!(rt; (second.address(), second.length()) == (0xfe, 1));
     let third = raw_entry_of(rt, &mut entries);
     // what a raw entry stands for does not depend on the place
     let converted = convert(&entries, raw).expect(rt, "refused");
     tries_range(rt, &converted.expect(rt, "no range"), 1, 3);
-    assert_eq!(rt; convert(&entries, second), Ok(None));
-    assert_eq!(rt; convert(&entries, third), Err(Error::AddressOverflow));
+    assert!(rt; convert(&entries, second) == Ok(None));
+    assert!(rt; convert(&entries, third) == Err(Error::AddressOverflow));
     // and leaves the place: a range whose end is given is converted again
-    assert_eq!(rt; convert(&entries, found.copy()), Ok(Some(found)));
+    assert!(rt; convert(&entries, found.copy()) == Ok(Some(found)));
     let last = entry_of(rt, &mut entries);
     tries_range(rt, &last, 9, 10);
     tries_no_entry(rt, &mut entries);
@@ -79,8 +79,8 @@ fn tries_turns<R: Reader>(rt: &impl Abort, mut entries: ArangeEntryIter<R>) {
 
 // Tries that no entry is left, by each call.
 fn tries_no_entry<R: Reader>(rt: &impl Abort, entries: &mut ArangeEntryIter<R>) {
-    assert_eq!(rt; entries.next_raw(), Ok(None));
-    assert_eq!(rt; entries.next(), Ok(None));
+    assert!(rt; entries.next_raw() == Ok(None));
+    assert!(rt; entries.next() == Ok(None));
     assert!(rt; next_of(entries).is_none());
 }
 
@@ -110,7 +110,7 @@ fn are_ordered_by_their_fields(rt: HostRuntime) -> std::result::Result<(), Fail>
     assert!(rt; low < high && low != high && low.range() == high.range() && low < first);
     let text = format!(in rt.alloc(); "{first:?}")?;
     let wanted = "ArangeEntry { range: Range { begin: 1, end: 3 }, length: 2 }";
-    assert_eq!(rt; text.as_str(), wanted);
+    assert!(rt; text.as_str() == wanted);
     Ok(())
 }
 
@@ -120,9 +120,9 @@ fn tries_next_set<R: Reader + PartialEq>(rt: &impl Abort, headers: &mut ArangeHe
     let item = next_of(&mut headers.copy()).expect(rt, "no set");
     // the steps of the copies left the source
     let header = header_of(rt, headers);
-    assert_eq!(rt; header, found);
-    assert_eq!(rt; item, Ok(found));
-    assert_eq!(rt; header.copy(), header);
+    assert!(rt; header == found);
+    assert!(rt; item == Ok(found));
+    assert!(rt; header.copy() == header);
     tries_copied_entries(rt, header.copy().entries());
 }
 
@@ -130,11 +130,11 @@ fn tries_next_set<R: Reader + PartialEq>(rt: &impl Abort, headers: &mut ArangeHe
 fn tries_copied_entries<R: Reader>(rt: &impl Abort, mut entries: ArangeEntryIter<R>) {
     let item = next_of(&mut entries.copy()).expect(rt, "no item");
     let entry = entry_of(rt, &mut entries);
-    assert_eq!(rt; item, Ok(entry.copy()));
+    assert!(rt; item == Ok(entry.copy()));
     tries_range(rt, &entry.copy(), 1, 3);
     let last = entry_of(rt, &mut entries.copy());
     tries_range(rt, &last, 3, 7);
-    assert_eq!(rt; last, entry_of(rt, &mut entries));
+    assert!(rt; last == entry_of(rt, &mut entries));
     tries_no_entry(rt, &mut entries);
 }
 
@@ -146,7 +146,7 @@ fn tries_copies<R: Reader + PartialEq>(rt: &impl Abort, reader: R) {
     let mut headers = section.headers();
     tries_next_set(rt, &mut headers);
     tries_next_set(rt, &mut headers);
-    assert_eq!(rt; headers.next(), Ok(None));
+    assert!(rt; headers.next() == Ok(None));
     assert!(rt; next_of(&mut headers).is_none());
 }
 
@@ -171,9 +171,9 @@ fn headers_are_compared_by_their_parts(rt: HostRuntime) {
 // Tries which section it is, and what it holds.
 fn tries_section<R: Reader>(rt: &impl Abort, section: &DebugAranges<R>, first: u64) {
     let id = <DebugAranges<R> as Section<R>>::id();
-    assert_eq!(rt; id, SectionId::DebugAranges);
+    assert!(rt; id == SectionId::DebugAranges);
     assert!(rt; has_bytes(section.reader(), &TWO_SETS));
-    assert_eq!(rt; section.reader().offset_id().0, first);
+    assert!(rt; section.reader().offset_id().0 == first);
 }
 
 #[test]
@@ -187,5 +187,5 @@ fn is_a_section(rt: HostRuntime) {
 #[test]
 fn is_empty_by_default(rt: HostRuntime) {
     let section = DebugAranges::<Part<'_>>::default();
-    assert_eq!(rt; section.headers().next(), Ok(None));
+    assert!(rt; section.headers().next() == Ok(None));
 }

@@ -56,7 +56,7 @@ fn tries_location<R: Reader>(
 ) {
     let found = found.expect(rt, "no location").copy();
     let end = begin.saturating_add(0x100);
-    assert_eq!(rt; found.range, Range { begin, end });
+    assert!(rt; found.range == Range { begin, end });
     assert!(rt; has_bytes(&found.expr.0, &[byte]));
 }
 
@@ -82,7 +82,7 @@ fn tries_conversions<R: Reader>(rt: &impl Abort, locations: &mut LocListIter<R>)
         addr: DebugAddrIndex(R::Offset::from_u8(0)),
     };
     let refusal = locations.convert_raw(missing).err();
-    assert_eq!(rt; refusal, Some(end_at_first()));
+    assert!(rt; refusal == Some(end_at_first()));
     tries_last(rt, locations);
 }
 
@@ -118,8 +118,8 @@ fn locations_are_compared_by_their_bytes(rt: HostRuntime) -> std::result::Result
     let assigned = found;
     let elsewhere = location(2, EndianSlice::new(&[0x30, 0x9f], LittleEndian));
     for same in [assigned, found.copy(), found.clone()?, elsewhere] {
-        assert_eq!(rt; same, found);
-        assert_eq!(rt; hash_of(&same), hash_of(&found));
+        assert!(rt; same == found);
+        assert!(rt; hash_of(&same) == hash_of(&found));
     }
     let later = location(3, part(&[0x30, 0x9f]));
     let other = location(2, part(&[0x30, 0x9e]));
@@ -165,7 +165,7 @@ fn sections_are_borrowed_in_order(rt: HostRuntime) -> std::result::Result<(), Fa
         lengths = lengths.wrapping_mul(16).wrapping_add(bytes.len() as u64);
         EndianSlice::new(bytes, LittleEndian)
     });
-    assert_eq!(rt; lengths, 0x53);
+    assert!(rt; lengths == 0x53);
     tries_sections(&rt, &borrowed, &[0x9f], &[0x30]);
     tries_sections(&rt, &borrowed.copy(), &[0x9f], &[0x30]);
     Ok(())
@@ -175,16 +175,16 @@ fn sections_are_borrowed_in_order(rt: HostRuntime) -> std::result::Result<(), Fa
 fn sections_are_kept(rt: HostRuntime) -> std::result::Result<(), Fail> {
     let old = DebugLoc::new(&[1, 2, 0, 0], LittleEndian);
     let new = DebugLocLists::new(&[5, 0], LittleEndian);
-    assert_eq!(rt; old.copy().reader().slice(), [1, 2, 0, 0].as_slice());
-    assert_eq!(rt; new.copy().reader().slice(), [5, 0].as_slice());
+    assert!(rt; old.copy().reader().slice() == [1, 2, 0, 0].as_slice());
+    assert!(rt; new.copy().reader().slice() == [5, 0].as_slice());
     let of_both = LocationLists::new(old, new);
     tries_sections(&rt, &of_both.clone()?, &[], &[]);
     let empty: LocationLists<Part<'_>> = LocationLists::default();
     // an empty section has its end alone
     let end = empty.lookup_offset_id(ReaderOffsetId(0));
-    assert_eq!(rt; end, Some((SectionId::DebugLoc, 0)));
+    assert!(rt; end == Some((SectionId::DebugLoc, 0)));
     assert!(rt; empty.lookup_offset_id(ReaderOffsetId(1)).is_none());
-    assert_eq!(rt; <DebugLoc<Part<'_>>>::id(), SectionId::DebugLoc);
-    assert_eq!(rt; <DebugLocLists<Part<'_>>>::id(), SectionId::DebugLocLists);
+    assert!(rt; (<DebugLoc<Part<'_>>>::id()) == SectionId::DebugLoc);
+    assert!(rt; (<DebugLocLists<Part<'_>>>::id()) == SectionId::DebugLocLists);
     Ok(())
 }

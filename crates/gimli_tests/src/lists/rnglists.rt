@@ -64,22 +64,22 @@ fn converted<R: Reader>(
 fn tries_conversions<R: Reader>(rt: &impl Abort, ranges: &mut RngListIter<R>) {
     let first = raw_of(rt, ranges);
     let again = first.copy();
-    assert_eq!(rt; converted(ranges, first), Ok(Some(from(0x0101_0200))));
+    assert!(rt; converted(ranges, first) == Ok(Some(from(0x0101_0200))));
     let base = raw_of(rt, ranges);
-    assert_eq!(rt; converted(ranges, base), Ok(None));
+    assert!(rt; converted(ranges, base) == Ok(None));
     // the entry counts from the new base
-    assert_eq!(rt; converted(ranges, again), Ok(Some(from(0x0201_0200))));
+    assert!(rt; converted(ranges, again) == Ok(Some(from(0x0201_0200))));
     let missing = RawRngListEntry::BaseAddressx {
         addr: DebugAddrIndex(R::Offset::from_u8(0)),
     };
-    assert_eq!(rt; converted(ranges, missing), Err(end_at_first()));
+    assert!(rt; converted(ranges, missing) == Err(end_at_first()));
     tries_last(rt, ranges);
 }
 
 // Tries the last range of the two pairs, and that none is left.
 fn tries_last<R: Reader>(rt: &impl Abort, ranges: &mut RngListIter<R>) {
-    assert_eq!(rt; ranges.next(), Ok(Some(from(0x0201_0400))));
-    assert_eq!(rt; ranges.next(), Ok(None));
+    assert!(rt; ranges.next() == Ok(Some(from(0x0201_0400))));
+    assert!(rt; ranges.next() == Ok(None));
     assert!(rt; next_of(ranges).is_none());
 }
 
@@ -100,15 +100,15 @@ fn entries_end_behind_a_refusal(rt: HostRuntime) {
     let entries = lists.raw_ranges(RangeListsOffset(16), encoding(4, 4));
     let mut entries = entries.expect(&rt, "no list");
     let wanted = Error::UnexpectedEof(ReaderOffsetId(120));
-    assert_eq!(rt; entries.next().err(), Some(wanted));
+    assert!(rt; entries.next().err() == Some(wanted));
     assert!(rt; matches!(entries.next(), Ok(None)));
     assert!(rt; next_of(&mut entries).is_none());
 }
 
 // Tries the bytes of both sections.
 fn tries_slices(rt: &impl Abort, lists: &RangeLists<Part<'_>>, old: &[u8], new: &[u8]) {
-    assert_eq!(rt; lists.debug_ranges().reader().slice(), old);
-    assert_eq!(rt; lists.debug_rnglists().reader().slice(), new);
+    assert!(rt; lists.debug_ranges().reader().slice() == old);
+    assert!(rt; lists.debug_rnglists().reader().slice() == new);
 }
 
 #[test]
@@ -123,7 +123,7 @@ fn sections_are_borrowed_in_order(rt: HostRuntime) -> std::result::Result<(), Fa
         lengths = lengths.wrapping_mul(16).wrapping_add(bytes.len() as u64);
         EndianSlice::new(bytes, LittleEndian)
     });
-    assert_eq!(rt; lengths, 0x32);
+    assert!(rt; lengths == 0x32);
     tries_slices(&rt, &borrowed, &[1, 2, 3], &[4, 5]);
     Ok(())
 }
@@ -139,19 +139,19 @@ fn sections_are_kept_and_replaced(rt: HostRuntime) -> std::result::Result<(), Fa
     tries_slices(&rt, &of_both.copy(), &[4], &[3]);
     tries_slices(&rt, &same, &[1, 2], &[3]);
     tries_slices(&rt, &RangeLists::default(), &[], &[]);
-    assert_eq!(rt; <DebugRanges<Part<'_>>>::id(), SectionId::DebugRanges);
-    assert_eq!(rt; <DebugRngLists<Part<'_>>>::id(), SectionId::DebugRngLists);
+    assert!(rt; (<DebugRanges<Part<'_>>>::id()) == SectionId::DebugRanges);
+    assert!(rt; (<DebugRngLists<Part<'_>>>::id()) == SectionId::DebugRngLists);
     let text = format!(in rt.alloc(); "{:?}", RangeListsOffset(7_usize))?;
-    assert_eq!(rt; text.as_str(), "RangeListsOffset(7)");
+    assert!(rt; text.as_str() == "RangeListsOffset(7)");
     Ok(())
 }
 
 #[test]
 fn is_of_version_5_by_default(rt: HostRuntime) {
     let mut header = ListsHeader::default();
-    assert_eq!(rt; header.encoding, encoding(5, 0));
-    assert_eq!(rt; header.offset_entry_count, 0);
-    assert_eq!(rt; header.size(), 12);
+    assert!(rt; header.encoding == encoding(5, 0));
+    assert!(rt; header.offset_entry_count == 0);
+    assert!(rt; header.size() == 12);
     header.encoding.format = Format::Dwarf64;
-    assert_eq!(rt; header.size(), 20);
+    assert!(rt; header.size() == 20);
 }

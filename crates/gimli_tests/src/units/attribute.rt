@@ -31,9 +31,9 @@ fn tries_equality(
     other: AttributeValue<Input<'_>>,
 ) -> Result<(), Fail> {
     let copied = first;
-    assert_eq!(rt; copied, first);
-    assert_eq!(rt; first.clone()?, first);
-    assert_eq!(rt; first.copy(), first);
+    assert!(rt; copied == first);
+    assert!(rt; first.clone()? == first);
+    assert!(rt; first.copy() == first);
     assert_ne!(rt; first, other);
     Ok(())
 }
@@ -43,7 +43,7 @@ fn values_are_equal_where_all_parts_are(rt: HostRuntime) -> Result<(), Fail> {
     for (i, (first, other)) in pairs().into_iter().enumerate() {
         tries_equality(&rt, first, other)?;
         for (j, (second, _)) in pairs().into_iter().enumerate() {
-            assert_eq!(rt; first == second, i == j);
+            assert!(rt; (first == second) == (i == j));
         }
     }
     Ok(())
@@ -63,9 +63,9 @@ fn attribute<'a>(
 fn attributes_are_equal_where_all_parts_are(rt: HostRuntime) -> Result<(), Fail> {
     let first = attribute(&rt, rt.alloc(), (0x03, 0x0b), &[5])?;
     let copied = first;
-    assert_eq!(rt; copied, first);
-    assert_eq!(rt; first.clone()?, first);
-    assert_eq!(rt; first.copy(), first);
+    assert!(rt; copied == first);
+    assert!(rt; first.clone()? == first);
+    assert!(rt; first.copy() == first);
     let others = [
         // another name
         attribute(&rt, rt.alloc(), (0x04, 0x0b), &[5])?,
@@ -83,8 +83,8 @@ fn attributes_are_equal_where_all_parts_are(rt: HostRuntime) -> Result<(), Fail>
 #[test]
 fn shows_its_parts(rt: HostRuntime) -> Result<(), Fail> {
     let shown = attribute(&rt, rt.alloc(), (0x3b, 0x0b), &[5])?;
-    assert_eq!(rt; (shown.name(), shown.form()), (DwAt(0x3b), DwForm(0x0b)));
-    assert_eq!(rt; shown.raw_value(), AttributeValue::Data1(5));
-    assert_eq!(rt; shown.value(), AttributeValue::Udata(5));
+    assert!(rt; (shown.name(), shown.form()) == (DwAt(0x3b), DwForm(0x0b)));
+    assert!(rt; shown.raw_value() == AttributeValue::Data1(5));
+    assert!(rt; shown.value() == AttributeValue::Udata(5));
     Ok(())
 }

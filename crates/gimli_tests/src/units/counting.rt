@@ -111,7 +111,7 @@ fn passes_forms_of_known_sizes_by_one_skip(rt: HostRuntime) -> std::result::Resu
         &[0x06, 0x05, 0x0c],
         b"\x01\x02\x03\x04\x05\x06\x01\0",
     )?;
-    assert_eq!(rt; skips, 1);
+    assert!(rt; skips == 1);
     // of no bytes too
     let skips = skips_of(
         &rt,
@@ -119,6 +119,6 @@ fn passes_forms_of_known_sizes_by_one_skip(rt: HostRuntime) -> std::result::Resu
         &[0x19, 0x0b, 0x19, 0x14],
         b"\0\0\0\0\0\0\0\0\0\0",
     )?;
-    assert_eq!(rt; skips, 1);
+    assert!(rt; skips == 1);
     Ok(())
 }

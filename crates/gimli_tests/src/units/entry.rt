@@ -35,19 +35,19 @@ fn second(rt: &impl Abort, alloc: Global) -> Result<Entry<Input<'static>>, Fail>
 fn a_null_has_no_part(rt: HostRuntime) {
     let entry = Entry::<Input<'_>>::null(rt.alloc());
     assert!(rt; entry.is_null());
-    assert_eq!(rt; parts(&entry), (DwTag(0), false, 0, 0, 0));
+    assert!(rt; parts(&entry) == (DwTag(0), false, 0, 0, 0));
 }
 
 #[test]
 fn a_new_entry_has_its_parts(rt: HostRuntime) -> Result<(), Fail> {
     let read = second(&rt, rt.alloc())?;
     let attributes = read.attrs;
-    assert_eq!(rt; attributes.len(), 1);
+    assert!(rt; attributes.len() == 1);
     let attribute = attributes[0];
     let entry = Entry::new(DwTag(0x34), true, attributes, UnitOffset(300));
     assert!(rt; !entry.is_null());
-    assert_eq!(rt; parts(&entry), (DwTag(0x34), true, 1, 300, 0));
-    assert_eq!(rt; entry.attrs(), [attribute].as_slice());
+    assert!(rt; parts(&entry) == (DwTag(0x34), true, 1, 300, 0));
+    assert!(rt; entry.attrs() == [attribute].as_slice());
     Ok(())
 }
 
@@ -56,22 +56,22 @@ fn the_tag_alone_tells_a_null(rt: HostRuntime) -> Result<(), Fail> {
     let read = second(&rt, rt.alloc())?;
     let mut entry = Entry::new(DwTag(0), true, read.attrs, UnitOffset(300));
     assert!(rt; entry.is_null());
-    assert_eq!(rt; parts(&entry), (DwTag(0), true, 1, 300, 0));
+    assert!(rt; parts(&entry) == (DwTag(0), true, 1, 300, 0));
     entry.tag = DwTag(1);
     entry.has_children = false;
     entry.attrs.clear();
     assert!(rt; !entry.is_null());
-    assert_eq!(rt; parts(&entry), (DwTag(1), false, 0, 300, 0));
+    assert!(rt; parts(&entry) == (DwTag(1), false, 0, 300, 0));
     Ok(())
 }
 
 #[test]
 fn becomes_a_null_where_it_stands(rt: HostRuntime) -> Result<(), Fail> {
     let mut entry = second(&rt, rt.alloc())?;
-    assert_eq!(rt; parts(&entry), (DwTag(0x2e), true, 1, 0x10, 1));
+    assert!(rt; parts(&entry) == (DwTag(0x2e), true, 1, 0x10, 1));
     entry.set_null();
     assert!(rt; entry.is_null());
-    assert_eq!(rt; parts(&entry), (DwTag(0), false, 0, 0x10, 1));
+    assert!(rt; parts(&entry) == (DwTag(0), false, 0, 0x10, 1));
     Ok(())
 }
 
@@ -79,8 +79,8 @@ fn becomes_a_null_where_it_stands(rt: HostRuntime) -> Result<(), Fail> {
 fn a_clone_has_equal_parts(rt: HostRuntime) -> Result<(), Fail> {
     let entry = second(&rt, rt.alloc())?;
     let clone = entry.try_clone(rt.alloc())?;
-    assert_eq!(rt; parts(&clone), parts(&entry));
-    assert_eq!(rt; clone.attrs(), entry.attrs());
+    assert!(rt; parts(&clone) == parts(&entry));
+    assert!(rt; clone.attrs() == entry.attrs());
     let null = Entry::<Input<'_>>::null(rt.alloc());
     assert!(rt; null.try_clone(rt.alloc())?.is_null());
     Ok(())
@@ -99,10 +99,10 @@ fn tries_copied_reader<R: Reader>(
 ) -> Result<(), Fail> {
     read_entry(raw, entry)?;
     let mut copy = raw.copy();
-    assert_eq!(rt; next_of(&copy), (0x10, 1));
+    assert!(rt; next_of(&copy) == (0x10, 1));
     read_entry(&mut copy, entry)?;
-    assert_eq!(rt; next_of(&copy).0, 0x15);
-    assert_eq!(rt; next_of(raw).0, 0x10);
+    assert!(rt; next_of(&copy).0 == 0x15);
+    assert!(rt; next_of(raw).0 == 0x10);
     Ok(())
 }
 

@@ -79,7 +79,7 @@ fn passes_many_attributes(rt: HostRuntime) -> std::result::Result<(), Fail> {
     }
     let table = table_of(rt.alloc(), &[0])?;
     let mut input = EndianSlice::new(&zeros, LittleEndian);
-    assert_eq!(rt; passes(&table, &given, input), Ok(10_000));
+    assert!(rt; passes(&table, &given, input) == Ok(10_000));
     // one byte less
     input.truncate(9_999)?;
     let refused = passes(&table, &given, input).err();

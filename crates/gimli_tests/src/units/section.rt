@@ -34,31 +34,28 @@ fn unit_in(section: SectionId, offset: usize) -> UnitHeader<Input<'static>> {
 // Tries an offset of the section in which the unit lies, which is neither `.debug_info` nor `.debug_types`.
 fn tries_own(rt: &impl Abort, unit: &UnitHeader<Input<'_>>) {
     let own = UnitSectionOffset(0x2b);
-    assert_eq!(rt; own.to_unit_offset(unit), Some(UnitOffset(0x0b)));
-    assert_eq!(rt; own.to_debug_info_offset(unit), None);
-    assert_eq!(rt; own.to_debug_types_offset(unit), None);
-    assert_eq!(rt; UnitSectionOffset(0x34).to_unit_offset(unit), None);
+    assert!(rt; own.to_unit_offset(unit) == Some(UnitOffset(0x0b)));
+    assert!(rt; own.to_debug_info_offset(unit) == None);
+    assert!(rt; own.to_debug_types_offset(unit) == None);
+    assert!(rt; UnitSectionOffset(0x34).to_unit_offset(unit) == None);
 }
 
 // Tries offsets of `.debug_info` and of `.debug_types` in a unit that lies in neither.
 fn tries_others(rt: &impl Abort, unit: &UnitHeader<Input<'_>>) {
     let (info, types) = (DebugInfoOffset(0x2b), DebugTypesOffset(0x2b));
-    assert_eq!(rt; info.to_unit_offset(unit), None);
-    assert_eq!(rt; info.to_unit_section_offset(unit), None);
-    assert_eq!(rt; types.to_unit_offset(unit), None);
-    assert_eq!(rt; types.to_unit_section_offset(unit), None);
+    assert!(rt; info.to_unit_offset(unit) == None);
+    assert!(rt; info.to_unit_section_offset(unit) == None);
+    assert!(rt; types.to_unit_offset(unit) == None);
+    assert!(rt; types.to_unit_section_offset(unit) == None);
 }
 
 // Tries an offset of a unit at 0x20 that lies in neither section.
 fn tries_of_unit(rt: &impl Abort, unit: &UnitHeader<Input<'_>>) {
     let offset = UnitOffset(0x0b);
     assert!(rt; unit.offset() == UnitSectionOffset(0x20));
-    assert_eq!(rt;
-        offset.to_unit_section_offset(unit),
-        UnitSectionOffset(0x2b)
-    );
-    assert_eq!(rt; offset.to_debug_info_offset(unit), None);
-    assert_eq!(rt; offset.to_debug_types_offset(unit), None);
+    assert!(rt; offset.to_unit_section_offset(unit) == UnitSectionOffset(0x2b));
+    assert!(rt; offset.to_debug_info_offset(unit) == None);
+    assert!(rt; offset.to_debug_types_offset(unit) == None);
     assert!(rt; offset.is_in_bounds(unit));
 }
 
@@ -66,11 +63,8 @@ fn tries_of_unit(rt: &impl Abort, unit: &UnitHeader<Input<'_>>) {
 fn offsets_of_other_sections_are_of_neither_kind(rt: HostRuntime) {
     for section in OTHERS {
         let unit = unit_in(section, 0x20);
-        assert_eq!(rt; unit.section(), section);
-        assert_eq!(rt;
-            (unit.debug_info_offset(), unit.debug_types_offset()),
-            (None, None)
-        );
+        assert!(rt; unit.section() == section);
+        assert!(rt; (unit.debug_info_offset(), unit.debug_types_offset()) == (None, None));
         tries_own(&rt, &unit);
         tries_others(&rt, &unit);
         tries_of_unit(&rt, &unit);
@@ -80,9 +74,9 @@ fn offsets_of_other_sections_are_of_neither_kind(rt: HostRuntime) {
 // Tries what the last offset of each kind is in a unit.
 fn tries_last(rt: &impl Abort, unit: &UnitHeader<Input<'_>>, wanted: Option<UnitOffset<usize>>) {
     let last = UnitSectionOffset(usize::MAX);
-    assert_eq!(rt; last.to_unit_offset(unit), wanted);
+    assert!(rt; last.to_unit_offset(unit) == wanted);
     let types = DebugTypesOffset(usize::MAX);
-    assert_eq!(rt; types.to_unit_offset(unit), wanted);
+    assert!(rt; types.to_unit_offset(unit) == wanted);
 }
 
 #[test]
@@ -101,9 +95,9 @@ fn reaches_the_last_offset(rt: HostRuntime) {
     tries_last(&rt, &unit, Some(UnitOffset(0x13)));
     let last = UnitSectionOffset(usize::MAX);
     let types = DebugTypesOffset(usize::MAX);
-    assert_eq!(rt; UnitOffset(0x13).to_unit_section_offset(&unit), last);
-    assert_eq!(rt; UnitOffset(0x13).to_debug_types_offset(&unit), Some(types));
-    assert_eq!(rt; UnitOffset(0x13).to_debug_info_offset(&unit), None);
+    assert!(rt; UnitOffset(0x13).to_unit_section_offset(&unit) == last);
+    assert!(rt; UnitOffset(0x13).to_debug_types_offset(&unit) == Some(types));
+    assert!(rt; UnitOffset(0x13).to_debug_info_offset(&unit) == None);
     // after another unit
     let unit = unit_in(SectionId::DebugTypes, 0x20);
     tries_last(&rt, &unit, None);

@@ -20,11 +20,8 @@ fn walks_into_60000_nested_lists(rt: HostRuntime) -> Result<(), Fail> {
         steps.push(TreeStep::Next)?;
     }
     let mut out = Vec::new(alloc);
-    assert_eq!(rt;
-        walk_text(alloc, Mode::Tree(&steps), &info, &TABLE, &mut out),
-        Ok(0)
-    );
-    assert_eq!(rt; out.iter().filter(|byte| **byte == b'\n').count(), 120_001);
+    assert!(rt; walk_text(alloc, Mode::Tree(&steps), &info, &TABLE, &mut out) == Ok(0));
+    assert!(rt; out.iter().filter(|byte| **byte == b'\n').count() == 120_001);
     assert!(rt; out.starts_with(b"node b 0 2e 1\nentered\nnode c 1 2e 1\nentered\n"));
     assert!(rt; out.ends_with(b"node ea6a 59999 2e 1\nentered\nend\n"));
     Ok(())

@@ -58,11 +58,11 @@ fn tries_entry<R: Reader>(rt: &impl Abort, alloc: Global, info: R, abbrev: R) ->
     let mut raw = unit.entries_raw(&table, None)?;
     let mut passed = raw.copy();
     let mut entry = DebuggingInformationEntry::null(alloc);
-    assert_eq!(rt; raw.read_entry(&mut entry), Ok(true));
+    assert!(rt; raw.read_entry(&mut entry) == Ok(true));
     assert!(rt; has_values(&entry));
     assert!(rt; raw.is_empty());
     let declared = passed.read_abbreviation()?.expect(rt, "a null");
-    assert_eq!(rt; passed.skip_attributes(declared.attributes()), Ok(()));
+    assert!(rt; passed.skip_attributes(declared.attributes()) == Ok(()));
     assert!(rt; passed.is_empty());
     Ok(())
 }
@@ -90,18 +90,18 @@ fn tries_cut_entry<R: Reader>(
     let mut raw = unit.entries_raw(&table, None)?;
     let mut entry = DebuggingInformationEntry::null(alloc);
     // 12 bytes and 9,999 more are there
-    assert_eq!(rt; raw.read_entry(&mut entry), Err(end_at(10_011)));
+    assert!(rt; raw.read_entry(&mut entry) == Err(end_at(10_011)));
     assert!(rt; entry.is_null() && entry.attrs().is_empty());
-    assert_eq!(rt; (raw.next_offset().0.into_u64(), raw.next_depth()), (11, 0));
+    assert!(rt; (raw.next_offset().0.into_u64(), raw.next_depth()) == (11, 0));
     let declared = raw.read_abbreviation()?.expect(rt, "a null");
     let mut attrs = Vec::new(alloc);
     let answer = raw.read_attributes(declared.attributes(), &mut attrs);
-    assert_eq!(rt; answer, Err(end_at(10_011)));
+    assert!(rt; answer == Err(end_at(10_011)));
     assert!(rt; attrs.is_empty());
-    assert_eq!(rt; raw.next_offset().0.into_u64(), 12);
+    assert!(rt; raw.next_offset().0.into_u64() == 12);
     let answer = raw.skip_attributes(declared.attributes());
     assert!(rt; matches!(answer, Err(Error::UnexpectedEof(_))));
-    assert_eq!(rt; raw.next_offset().0.into_u64(), 12);
+    assert!(rt; raw.next_offset().0.into_u64() == 12);
     Ok(())
 }
 

@@ -9,7 +9,10 @@ returns-in_err-advance g c =
     rw r (record {
       counted = λ honest fine.
           let k = c.steps.invariant.2 honest in
-          sym (k.1 ∙ failed g.R.Offset.ReaderOffset.limit _ _ _ c.advance.new.self.tree.now _ _ (λ o. rw c.in_err-advance.was at e.gone_on o (c.steps.invariant.0 o)) (λ o. sym c.in_err-advance.was ∙ (e.closed o).0) k.0 fine);
+          sym (k.1
+          ∙ failed g.R.Offset.ReaderOffset.limit _ _ _ c.advance.new.self.tree.now _ _
+          (λ o. rw c.in_err-advance.was at e.gone_on o (c.steps.invariant.0 o))
+          (λ o. sym c.in_err-advance.was ∙ (e.closed o).0) k.0 fine);
     })
 
 pub steps-preserved : goal.steps-preserved
@@ -25,7 +28,9 @@ steps-preserved g c =
       (λ honest.
           let k = c.steps.invariant.2 honest in (
             stays_honest g.R.Offset.ReaderOffset.limit _ _ _ _ gone k.0 true refl,
-            k.1 ∙ rw (was, e.opened yes, e.depth) (counts g.R.Offset.ReaderOffset.limit _ _ _ _ gone k.0 c.steps.count),
+            k.1
+                ∙ rw (was, e.opened yes, e.depth)
+                (counts g.R.Offset.ReaderOffset.limit _ _ _ _ gone k.0 c.steps.count),
           )),
     )
 
@@ -36,5 +41,7 @@ returns g c =
     record {
       counted = λ honest.
           let k = c.steps.invariant.2 honest in
-          sym (k.1 ∙ ended g.R.Offset.ReaderOffset.limit _ _ _ c.advance.new.self.tree.now _ (λ o. rw no at e.gone_on o (c.steps.invariant.0 o)) k.0);
+          sym (k.1
+          ∙ ended g.R.Offset.ReaderOffset.limit _ _ _ c.advance.new.self.tree.now _
+          (λ o. rw no at e.gone_on o (c.steps.invariant.0 o)) k.0);
     }

@@ -11,8 +11,10 @@ invariant-steps g l =
     × (l.count + length l.children.tree.now.cursor.raw.rest.bytes < 2 ^ 63)
     × (IsHonestCursor g.R.Offset.ReaderOffset.limit l.fn.children.tree.now.cursor
     → IsHonestCursor g.R.Offset.ReaderOffset.limit l.children.tree.now.cursor
-    × (count_in (list_of l.fn.children.is_open l.fn.children.depth) 0 (rows_of g.R.Offset.ReaderOffset.limit l.fn.children.tree.now.cursor.raw)
-    ≡ count_in (list_of l.children.is_open l.children.depth) l.count (rows_of g.R.Offset.ReaderOffset.limit l.children.tree.now.cursor.raw)))
+    × (count_in (list_of l.fn.children.is_open l.fn.children.depth) 0
+    (rows_of g.R.Offset.ReaderOffset.limit l.fn.children.tree.now.cursor.raw)
+    ≡ count_in (list_of l.children.is_open l.children.depth) l.count
+    (rows_of g.R.Offset.ReaderOffset.limit l.children.tree.now.cursor.raw)))
 
 abbrev pub decreases-steps : goal.decreases-steps
 decreases-steps g l = length l.children.tree.now.cursor.raw.rest.bytes

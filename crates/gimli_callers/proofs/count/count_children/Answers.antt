@@ -13,5 +13,7 @@ returns g c =
     let list = e.children entry in
     record {
       counted = λ honest.
-          rw (root_counted g.R.Offset.ReaderOffset.limit _ _ begun honest, ← list, ← e.same_tree) (c.count.ensures.counted (rw e.same_tree (root_honest g.R.Offset.ReaderOffset.limit _ _ begun honest)));
+          rw (root_counted g.R.Offset.ReaderOffset.limit _ _ begun honest, ← list, ← e.same_tree)
+          (c.count.ensures.counted
+          (rw e.same_tree (root_honest g.R.Offset.ReaderOffset.limit _ _ begun honest)));
     }

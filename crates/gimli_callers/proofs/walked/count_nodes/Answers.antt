@@ -3,7 +3,8 @@ use Rattle.gimli_callers.proofs.NodeCounts.{node_counts, node_fewer, end_counts,
 use Rattle.gimli_callers.proofs.walked.count_nodes.Goals as goal
 
 pub nodes-init : goal.nodes-init
-nodes-init g c = let few = c.requires.sound.tree.sound.few in (omega (arith, few), λ honest. (honest, refl))
+nodes-init g c =
+    let few = c.requires.sound.tree.sound.few in (omega (arith, few), λ honest. (honest, refl))
 
 pub returns-in_err-next : goal.returns-in_err-next
 returns-in_err-next g c =
@@ -11,7 +12,9 @@ returns-in_err-next g c =
     rw r (record {
       counted = λ honest fine.
           let k = c.nodes.invariant.1 honest in
-          sym (k.1 ∙ fault_counts g.R.Offset.ReaderOffset.limit _ _ _ _ _ (rw c.in_err-next.was at c.next.ensures.asked) k.0 fine);
+          sym (k.1
+          ∙ fault_counts g.R.Offset.ReaderOffset.limit _ _ _ _ _
+          (rw c.in_err-next.was at c.next.ensures.asked) k.0 fine);
     })
 
 pub nodes-preserved : goal.nodes-preserved
@@ -33,5 +36,7 @@ returns g c =
     record {
       counted = λ honest.
           let k = c.nodes.invariant.1 honest in
-          sym (k.1 ∙ end_counts g.R.Offset.ReaderOffset.limit _ _ _ _ (rw no at c.next.ensures.asked) k.0);
+          sym (k.1
+          ∙ end_counts g.R.Offset.ReaderOffset.limit _ _ _ _ (rw no at c.next.ensures.asked)
+          k.0);
     }

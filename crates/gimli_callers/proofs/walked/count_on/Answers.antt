@@ -8,14 +8,18 @@ returns-in_err-next g c =
     let sound = c.walk.invariant.0.tree.sound in
     rw r (record {
       counted = λ fine. sym (c.walk.invariant.3
-          ∙ step_fault g.R.Offset.ReaderOffset.limit c.walk.walker c.next.new.self sound c.walk.walker.lists c.walk.count _ (rw c.in_err-next.was at c.next.ensures.asked) c.walk.invariant.1 fine);
+          ∙ step_fault g.R.Offset.ReaderOffset.limit c.walk.walker c.next.new.self sound
+          c.walk.walker.lists c.walk.count _ (rw c.in_err-next.was at c.next.ensures.asked)
+          c.walk.invariant.1 fine);
     })
 
 pub walk-smaller-in_ok-enter : goal.walk-smaller-in_ok-enter
 walk-smaller-in_ok-enter g c =
     let yes = c.in_ok-next.was ∙ ap Ok c.if-branch.true in
     let sound = c.walk.invariant.0.tree.sound in
-    let gone = step_in g.R.Offset.ReaderOffset.limit c.walk.walker c.next.new.self sound c.walk.walker.lists c.walk.count c.enter.new.self (rw yes at c.next.ensures.asked) c.walk.invariant.1 c.in_ok-enter.ensures.entered.1 in
+    let gone = step_in g.R.Offset.ReaderOffset.limit c.walk.walker c.next.new.self sound
+    c.walk.walker.lists c.walk.count c.enter.new.self (rw yes at c.next.ensures.asked)
+    c.walk.invariant.1 c.in_ok-enter.ensures.entered.1 in
     let fewer = gone.fewer in
     let deeper = gone.deeper in
     omega (arith, fewer, deeper)
@@ -24,17 +28,26 @@ pub walk-preserved-in_ok-enter : goal.walk-preserved-in_ok-enter
 walk-preserved-in_ok-enter g c =
     let yes = c.in_ok-next.was ∙ ap Ok c.if-branch.true in
     let sound = c.walk.invariant.0.tree.sound in
-    let gone = step_in g.R.Offset.ReaderOffset.limit c.walk.walker c.next.new.self sound c.walk.walker.lists c.walk.count c.enter.new.self (rw yes at c.next.ensures.asked) c.walk.invariant.1 c.in_ok-enter.ensures.entered.1 in
+    let gone = step_in g.R.Offset.ReaderOffset.limit c.walk.walker c.next.new.self sound
+    c.walk.walker.lists c.walk.count c.enter.new.self (rw yes at c.next.ensures.asked)
+    c.walk.invariant.1 c.in_ok-enter.ensures.entered.1 in
     let fewer = gone.fewer in
-    let few = c.walk.invariant.2 in
-    (c.in_ok-enter.ensures.sound, gone.ready, omega (arith, fewer, few), c.walk.invariant.3 ∙ gone.count)
+    let few = c.walk.invariant.2 in (
+      c.in_ok-enter.ensures.sound,
+      gone.ready,
+      omega (arith, fewer, few),
+      c.walk.invariant.3
+          ∙ gone.count,
+    )
 
 pub walk-smaller : goal.walk-smaller
 walk-smaller g c =
     let no = c.in_ok-next.was ∙ ap Ok c.if-branch.false in
     let sound = c.walk.invariant.0.tree.sound in
     let some = rw c.entered.ensures at c.walk-test.true in
-    let gone = step_out g.R.Offset.ReaderOffset.limit c.walk.walker c.next.new.self sound c.walk.walker.lists c.walk.count c.leave.new.self (rw no at c.next.ensures.asked) c.walk.invariant.1 some c.leave.ensures.left.1 in
+    let gone = step_out g.R.Offset.ReaderOffset.limit c.walk.walker c.next.new.self sound
+    c.walk.walker.lists c.walk.count c.leave.new.self (rw no at c.next.ensures.asked)
+    c.walk.invariant.1 some c.leave.ensures.left.1 in
     let fewer = gone.fewer in
     let higher = gone.higher in
     omega (arith, fewer, higher)
@@ -44,7 +57,9 @@ walk-preserved g c =
     let no = c.in_ok-next.was ∙ ap Ok c.if-branch.false in
     let sound = c.walk.invariant.0.tree.sound in
     let some = rw c.entered.ensures at c.walk-test.true in
-    let gone = step_out g.R.Offset.ReaderOffset.limit c.walk.walker c.next.new.self sound c.walk.walker.lists c.walk.count c.leave.new.self (rw no at c.next.ensures.asked) c.walk.invariant.1 some c.leave.ensures.left.1 in
+    let gone = step_out g.R.Offset.ReaderOffset.limit c.walk.walker c.next.new.self sound
+    c.walk.walker.lists c.walk.count c.leave.new.self (rw no at c.next.ensures.asked)
+    c.walk.invariant.1 some c.leave.ensures.left.1 in
     let fewer = gone.fewer in
     let few = c.walk.invariant.2 in
     (c.leave.ensures.sound, gone.ready, omega (arith, fewer, few), c.walk.invariant.3 ∙ gone.count)
@@ -53,4 +68,9 @@ pub returns : goal.returns
 returns g c =
     let least = c.walk-test.false in
     let none : c.entered.result ≡ 0 = omega (arith, least) in
-    record { counted = sym (c.walk.invariant.3 ∙ none_left g.R.Offset.ReaderOffset.limit c.walk.walker c.walk.walker.lists c.walk.count refl (sym c.entered.ensures ∙ none)) }
+    record {
+      counted = sym
+          (c.walk.invariant.3
+          ∙ none_left g.R.Offset.ReaderOffset.limit c.walk.walker c.walk.walker.lists c.walk.count
+          refl (sym c.entered.ensures ∙ none));
+    }

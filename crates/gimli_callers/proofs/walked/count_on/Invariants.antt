@@ -8,7 +8,10 @@ invariant-walk g l =
     IsWalker l.walker
     × IsReady l.walker
     × (l.count + length l.walker.tree.cursor.raw.rest.bytes < 2 ^ 63)
-    × (rest_of g.R.Offset.ReaderOffset.limit l.fn.from l.fn.walker ≡ rest_of g.R.Offset.ReaderOffset.limit l.count l.walker)
+    × (rest_of g.R.Offset.ReaderOffset.limit l.fn.from l.fn.walker
+    ≡ rest_of g.R.Offset.ReaderOffset.limit l.count l.walker)
 
 abbrev pub decreases-walk : goal.decreases-walk
-decreases-walk g l = length l.walker.tree.cursor.raw.rest.bytes + length l.walker.tree.cursor.raw.rest.bytes + length l.walker.lists
+decreases-walk g l =
+    length l.walker.tree.cursor.raw.rest.bytes + length l.walker.tree.cursor.raw.rest.bytes
+    + length l.walker.lists
