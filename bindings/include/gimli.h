@@ -184,7 +184,7 @@ uint32_t gimli_unit(const gimli_sections_t *sections, uint64_t offset, gimli_uni
 uint32_t gimli_rows(const gimli_sections_t *sections, uint64_t unit, gimli_place_t *place, gimli_row_t *rows, size_t room,
                     size_t *count);
 
-/* The same with the attributes of each row, one row's behind those of the row before. Rows are written as long as there is
+/* The same with the attributes of each row, one row's after those of the row before. Rows are written as long as there is
    room for them and space for all their attributes. MORE with filled->wanted not 0: the next row wants so much space. */
 uint32_t gimli_entries(const gimli_sections_t *sections, uint64_t unit, gimli_place_t *place, gimli_entry_t *rows, size_t room,
                        gimli_attr_t *attrs, size_t space, gimli_filled_t *filled);

@@ -140,7 +140,7 @@ class Dwarf:
         raise Refused(status)
 
     def units(self):
-        """The units, one behind the other."""
+        """The units, one after the other."""
         offset = 0
         while (unit := self.found("unit", Unit(), offset)) is not None:
             yield unit

@@ -26,7 +26,7 @@ impl<'a> Rows<'a> {
         }
     }
 
-    /// The place behind the rows that were read from the section; after a refusal that of what was refused.
+    /// The place after the rows that were read from the section; after a refusal that of what was refused.
     pub fn place(&self) -> Place {
         self.place
     }
@@ -86,12 +86,12 @@ impl<'a> Entries<'a> {
         }
     }
 
-    /// The place behind the entries that were read from the section; after a refusal that of what was refused.
+    /// The place after the entries that were read from the section; after a refusal that of what was refused.
     pub fn place(&self) -> Place {
         self.place
     }
 
-    /// The next entry, a null too; none at the end, and behind a refusal.
+    /// The next entry, a null too; none at the end, and after a refusal.
     pub fn next_entry(&mut self) -> Result<Option<Entry<'a, '_>>> {
         while self.at == self.rows.len() && self.status == MORE {
             if self.rows.is_empty() {

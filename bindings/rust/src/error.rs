@@ -9,7 +9,7 @@ macro_rules! errors {
         #[non_exhaustive]
         pub enum Error {
             $(#[doc = $text] $name,)*
-            /// The depth of a place is so great that depths behind it may be out of range.
+            /// The depth of a place is so great that depths after it may be out of range.
             TooDeep,
             /// The value of an attribute names no list.
             NoList,

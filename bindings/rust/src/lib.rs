@@ -86,7 +86,7 @@ impl UnitHeader {
         self.unit.offset
     }
 
-    /// The number of its bytes: the next unit begins behind them.
+    /// The number of its bytes: the next unit begins after them.
     pub fn length_including_self(&self) -> u64 {
         self.unit.length
     }
@@ -210,7 +210,7 @@ pub struct Bases {
 pub struct Range {
     /// The first address.
     pub begin: u64,
-    /// The address behind the last.
+    /// The address after the last.
     pub end: u64,
 }
 
@@ -220,7 +220,7 @@ pub struct Range {
 pub struct Location {
     /// The first address.
     pub begin: u64,
-    /// The address behind the last.
+    /// The address after the last.
     pub end: u64,
     /// Where the expression lies.
     pub place: u64,
@@ -242,7 +242,7 @@ impl<'a> Sections<'a> {
         }
     }
 
-    /// The units of `.debug_info`, one behind the other, up to the first that is refused.
+    /// The units of `.debug_info`, one after the other, up to the first that is refused.
     pub fn units(&self) -> Units<'a> {
         Units {
             sections: *self,

@@ -103,7 +103,7 @@ module _ (limit : ℕ) (u : UnitView) (t : Table) (place : GimliPlace) (old : Li
       })
 
   module _ (apart : place.offset ≡ whole_length u → ⊥) where
-    -- before the entries, or behind the unit
+    -- before the entries, or after the unit
     pub told_outside : (e : Error) → Err e ≡ entries_from u t (Some place.offset)
         → ToldRows (unit_ahead limit u (found t) place) place old place old 0 (refused e)
     told_outside e is =

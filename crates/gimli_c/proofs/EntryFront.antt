@@ -28,7 +28,7 @@ use Rattle.gimli_c.specs.Entries.{first_wants, wrote, FilledEntries}
 use Rattle.gimli_c.proofs.Slots.{slot, written_more}
 use Rattle.gimli_c.proofs.Front.{before_rows, depth_from, depth_near, first_ahead, some_left}
 
--- `n` rows and `used` attributes were written, and what is ahead was behind them
+-- `n` rows and `used` attributes were written, and what is ahead was after them
 pub record EntryFront (limit : ℕ) (base : ℤ) (start now : RawPlace) (old new : List GimliEntry)
     (old_attrs new_attrs : List GimliAttr) (n used : ℕ) : Type 0 where
   pub taken : List Row

@@ -34,7 +34,7 @@ before_rows taken a = record {
   stop_depth = a.stop_depth;
 }
 
--- `n` rows were written, and what is ahead was behind them
+-- `n` rows were written, and what is ahead was after them
 pub record Front (limit : ℕ) (base : ℤ) (start now : RawPlace) (old new : List GimliRow)
     (n : ℕ) : Type 0 where
   pub taken : List Row

@@ -105,7 +105,7 @@ module _ (limit : ℕ) (u : UnitView) (declared : Map) (fits : length u.entries.
       ∙ ap Ok (unique_rows next (whole_length u) (λ x w y. entry_at-shorter limit u.encoding
       declared x w y) rows v d refusal stop stop_depth h)
 
-  -- behind so many rows
+  -- after so many rows
   chain : (n : ℕ) (rows : List Row) (v : View) (d : ℤ) (refusal : Option Error) (stop : ℕ)
       (stop_depth : ℤ)
       → AreRows (entry_at limit u.encoding declared) (whole_length u) v d rows refusal stop

@@ -1,4 +1,4 @@
--- Writes behind a front.
+-- Writes after a front.
 use Rattle.std.proofs.Common.{◌≡◌, ℕ, suc, ◌+◌, ◌<◌, ◌≤◌, List, [], ◌∷◌, ◌++◌, map, take, drop}
 use Rattle.std.proofs.Common.{length, get_or, slice_set, refl, ap, ◌∙◌, arith, add-one}
 use Rattle.std.proofs.Common.{append_assoc, length-append}
@@ -13,7 +13,7 @@ slot_at {X} xs old x h =
     ∙ set-append_seam xs _ (drop (suc (length xs)) old) x
     ∙ rw (append_assoc, add-one) refl
 
--- a write behind a front
+-- a write after a front
 pub slot : {X : Type 0} → (xs old : List X) (n : ℕ) (x : X) → length xs ≡ n → n < length old
     → slice_set (xs ++ drop n old) n x ≡ (xs ++ x ∷ []) ++ drop (n + 1) old
 slot xs old n x e h = rw (← e) (slot_at xs old x (rw e h))
@@ -38,7 +38,7 @@ slot_more {X} {Y} f xs old new from i d y h room is value =
     (from + i) y front (omega (arith, h, room))
     ∙ rw (value, map_more f xs i d h, place) (simp append_assoc)
 
--- more is written behind what was
+-- more is written after what was
 pub written_more : {Y : Type 0} → (done more old new : List Y) (used : ℕ) → length done ≡ used
     → new ≡ (take used (done ++ drop used old) ++ more) ++ drop (used + length more) (done
     ++ drop used old)

@@ -88,7 +88,7 @@ module _ (limit : ℕ) (section : SectionId) (n : ℕ) where
       ap (found_unit n w) (ap (λ (p : Result (Option UnitView) Error × UnitsPlace). p.0) is)
       ∙ next_told w ∙ rw (← there) refl
 
-  -- where the offset lies behind the end
+  -- where the offset lies after the end
   pub not_there : (v : View) (e : Error) → Err e ≡ skip_at n v → Err e ≡ header_at limit section n v
   unfolding header_at
   not_there v e is = rw (← is) refl

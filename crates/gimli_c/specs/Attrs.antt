@@ -1,4 +1,4 @@
--- Attributes, as numbers.
+-- The attributes of an entry, as numbers and places of bytes (DWARF 5, 7.5.4 to 7.5.6).
 use Rattle.std.specs.Prelude.{ℕ, pos, ◌%◌, ◌/◌, ◌^◌, cond, length}
 use Rattle.gimli_base.specs.View.{View}
 use Rattle.gimli_units.specs.Entry.{Attr}

@@ -1,4 +1,4 @@
--- The rows and attributes that a call writes, of the rows ahead of a place.
+-- The rows and attributes that a call writes, of the rows ahead of a place (DWARF 5, 2.3).
 use Rattle.std.specs.Prelude.{◌≡◌, ℕ, zero, suc, ◌+◌, ◌-◌, nat_lt, nat_le, cond, if◌then◌else◌}
 use Rattle.std.specs.Prelude.{List, [], ◌∷◌, ◌++◌, map, take, drop, length, Option, Some, None}
 use Rattle.std.specs.Prelude.{Result, Ok, Err}
@@ -16,7 +16,7 @@ use Rattle.gimli_c.specs.Fronts.{first_place}
 abbrev pub attributes_of : Row → List Attr
 attributes_of r = r.entry.attributes
 
--- the attributes of rows, one behind the other
+-- the attributes of rows, one after the other
 abbrev pub flat : List Row → List Attr
 flat [] = []
 flat (r ∷ rs) = attributes_of r ++ flat rs
@@ -56,7 +56,7 @@ abbrev pub first_wants : List Row → ℕ
 first_wants [] = 0
 first_wants (r ∷ rs) = length (attributes_of r)
 
--- how many attributes the row behind the first `count` has, where there is room for it
+-- how many attributes the row after the first `count` has, where there is room for it
 abbrev pub wanted_of : ℕ → ℕ → List Row → ℕ
 wanted_of room count rows = if nat_lt count room then first_wants (drop count rows) else 0
 
@@ -66,7 +66,7 @@ wrote rows attributes wanted =
     record { rows = rows; attributes = attributes; wanted = wanted }
 
 -- Rows from the front of those ahead are written with their attributes, the rest stays as it was,
--- and the place is behind them. They are as many as fit, unless memory was refused.
+-- and the place is after them. They are as many as fit, unless memory was refused.
 pub record FilledEntries (ahead : Ahead) (old : List GimliEntry) (old_attrs : List GimliAttr)
     (place : GimliPlace) (new : List GimliEntry) (attrs : List GimliAttr) (n : GimliFilled)
     (status : ℕ) : Type 0 where

@@ -1,4 +1,4 @@
--- The rows that a call writes, of those ahead of a place.
+-- The rows that a call writes, of those ahead of a place (DWARF 5, 2.3).
 use Rattle.std.specs.Prelude.{◌≡◌, ℕ, ◌+◌, ◌-◌, ◌^◌, ◌==◌, nat_lt, min, ℤ, ◌+ℤ◌, unsigned_abs, cond}
 use Rattle.std.specs.Prelude.{if◌then◌else◌, List, [], ◌∷◌, ◌++◌, map, take, drop, length, Option}
 use Rattle.std.specs.Prelude.{Some, None, Result, Ok, Err}
@@ -71,7 +71,7 @@ abbrev pub section_rows : GimliSections → ℕ → GimliPlace → Result Ahead 
 section_rows s unit place =
     rows_ahead (2 ^ 64) (units_id s) (units_view s) (abbreviations_view s) unit place
 
--- what is ahead behind so many rows
+-- what is ahead after so many rows
 abbrev pub behind_rows : ℕ → Ahead → Ahead
 behind_rows count a = record {
   rows = drop count a.rows;
@@ -90,7 +90,7 @@ abbrev pub status_at : ℕ → ℕ → Option Error → ℕ
 status_at room count None = if nat_lt room count then more else end
 status_at room count (Some e) = if nat_lt count room then row_refused e else more
 
--- Rows from the front of those ahead are written, the rest stays as it was, and the place is behind
+-- Rows from the front of those ahead are written, the rest stays as it was, and the place is after
 -- them. They are all, or as many as there is room for, unless memory was refused.
 pub record Filled (ahead : Ahead) (old : List GimliRow) (place : GimliPlace) (new : List GimliRow)
     (count status : ℕ) : Type 0 where
@@ -114,7 +114,7 @@ abbrev pub ToldRows : Result Ahead ℕ → GimliPlace → List GimliRow → Giml
 ToldRows (Ok ahead) from old place new count status = Filled ahead old place new count status
 ToldRows (Err stop) from old place new count status = Stopped stop from old place new count status
 
--- from the place behind so many rows the next call goes on with the others
+-- from the place after so many rows the next call goes on with the others
 abbrev pub Resumes : Result Ahead ℕ → ℕ → Result Ahead ℕ → Type 0
 Resumes (Ok ahead) count next = next ≡ Ok (behind_rows count ahead)
 Resumes (Err stop) count next = next ≡ Err stop

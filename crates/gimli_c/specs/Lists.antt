@@ -1,4 +1,4 @@
--- The ranges and the locations that a call writes, of those of a list.
+-- The ranges and the locations that a call writes, of those of a list (DWARF 5, 2.6.2 and 2.17.3).
 use Rattle.std.specs.Prelude.{◌≡◌, ℕ, ◌==◌, ◌^◌, nat_lt, not, if◌then◌else◌, Bool, List, [], ◌∷◌}
 use Rattle.std.specs.Prelude.{◌++◌, map, take, drop, length, Option, Some, None, Result, Ok, Err}
 use Rattle.gimli_base.specs.declared.common.Encoding.{Encoding}
@@ -55,7 +55,7 @@ first_refusal (Err e ∷ rest) = Some e
 abbrev pub list_status : ℕ → ℕ → ℕ → ℕ
 list_status room count last = if nat_lt room count then more else last
 
--- the status behind the last
+-- the status after the last
 abbrev pub last_status : Option Error → ℕ
 last_status None = end
 last_status (Some e) = row_refused e

@@ -1,4 +1,4 @@
--- The next sibling of a row, and the first reference that is false.
+-- The next sibling of a row, and the first reference that is false (DWARF 5, 2.3).
 use Rattle.std.specs.Prelude.{ℕ, ℤ, pos, ◌^◌, cond, if◌then◌else◌, Option, Some, None, Result}
 use Rattle.std.specs.Prelude.{Ok, Err}
 use Rattle.gimli_base.specs.declared.error.Error.{Error}
@@ -35,14 +35,14 @@ current_told depth p old = elim p.current [
   | None ↦ (end, old)
 ]
 
--- the same behind a step, which may be refused
+-- the same after a step, which may be refused
 abbrev pub moved_told : ℤ → Moved → GimliRow → ℕ × GimliRow
 moved_told depth m old = elim m.outcome [
   | Ok b ↦ current_told depth m.place old
   | Err e ↦ (row_refused e, old)
 ]
 
--- a step behind another
+-- a step after another
 abbrev pub behind_told : ℕ → Moved → ℤ → GimliRow → ℕ × GimliRow
 behind_told stop m depth old = elim m.outcome [
   | Ok b ↦ moved_told depth (next_of_depth stop m.place) old

@@ -1,4 +1,4 @@
--- Statuses.
+-- The statuses of calls: what each number tells a caller of C.
 use Rattle.std.specs.Prelude.{◌≡◌, ℕ, ◌+◌}
 use Rattle.gimli_base.specs.declared.error.Error.{Error}
 use Rattle.gimli_base.specs.Refusal.{number_of}
@@ -19,7 +19,7 @@ no_list = 3
 abbrev pub refused : Error → ℕ
 refused e = 256 + number_of e
 
--- a refusal of what is read behind the rows
+-- a refusal of what is read after the rows
 abbrev pub row_refused : Error → ℕ
 row_refused e = 512 + number_of e
 

@@ -1,4 +1,4 @@
--- The sections that a caller names, and the header of a unit, as numbers.
+-- The sections that a caller names, and the header of a unit, as numbers (DWARF 5, 7.5.1).
 use Rattle.std.specs.Prelude.{ℕ, ◌==◌, ◌^◌, if◌then◌else◌, Bool, not, length, List, Result, Ok, Err}
 use Rattle.gimli_base.specs.declared.common.SectionId.{SectionId}
 use Rattle.gimli_base.specs.declared.common.SectionId.TheVariants.{DebugInfo, DebugTypes}

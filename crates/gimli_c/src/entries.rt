@@ -41,7 +41,7 @@ pub struct GimliFilled {
     pub rows: usize,
     /// The number of attributes.
     pub attributes: usize,
-    /// Where the row behind those was left since its attributes have no space, their number; else
+    /// Where the row after those was left since its attributes have no space, their number; else
     /// 0.
     pub wanted: usize,
 }

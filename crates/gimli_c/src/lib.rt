@@ -54,13 +54,13 @@ pub extern "C" fn gimli_unit(sections: &GimliSections<'_>, offset: u64, unit: &m
 }
 
 /// Reads on in a unit of `units`, from a place on, as many rows as there is room for in `rows`, and
-/// leaves the place behind them. `count` is their number; what is behind them in `rows` stays as it
+/// leaves the place after them. `count` is their number; what is after them in `rows` stays as it
 /// was. `units` and `abbreviations` are read.
 ///
-/// Status 0: `rows` is full, and there is more. Status 1: the unit ends behind the rows. Status 2:
-/// the depth of the place is out of range. From 512 on: what is read behind the rows was refused.
+/// Status 0: `rows` is full, and there is more. Status 1: the unit ends after the rows. Status 2:
+/// the depth of the place is out of range. From 512 on: what is read after the rows was refused.
 /// Any other: the unit, its abbreviations or the place's offset was refused. 280 and 536 say that
-/// memory was refused; then the place is behind the rows, too.
+/// memory was refused; then the place is after the rows, too.
 #[unsafe(no_mangle)]
 pub extern "C" fn gimli_rows(
     alloc: Global,
@@ -90,7 +90,7 @@ pub extern "C" fn gimli_rows(
 }
 
 /// The same with the attributes of each row in `attrs`; `filled` says how many of each were
-/// written. A row whose attributes have no space left is not written, nor are those behind it, and
+/// written. A row whose attributes have no space left is not written, nor are those after it, and
 /// the place is at it; the status is then 0, and `filled.wanted` is the number of its attributes.
 #[unsafe(no_mangle)]
 pub extern "C" fn gimli_entries(
@@ -130,7 +130,7 @@ pub extern "C" fn gimli_entries(
 /// where they are honest, as `gimli_first_false` finds out, the answer is the same.
 ///
 /// Status 0: `row` is the sibling. Otherwise `row` is as it was. Status 1: there is none, or a null
-/// stands at the place. From 512 on: what is read at the place or behind it was refused. Any other:
+/// stands at the place. From 512 on: what is read at the place or after it was refused. Any other:
 /// the unit, its abbreviations or the offset was refused. 280 and 536 say that memory was refused.
 #[unsafe(no_mangle)]
 pub extern "C" fn gimli_sibling(
@@ -217,10 +217,10 @@ pub extern "C" fn gimli_unit_of_address(
 /// where the list names addresses by index.
 ///
 /// `count` is the number of all ranges before the first that is refused; as many as there is room
-/// for are written, and what is behind them in `into` stays as it was.
+/// for are written, and what is after them in `into` stays as it was.
 ///
-/// Status 0: there are more than were written. Status 1: the list ends behind them. Status 3: the
-/// value names no list. From 512 on: what is read behind them was refused. Any other: the size of
+/// Status 0: there are more than were written. Status 1: the list ends after them. Status 3: the
+/// value names no list. From 512 on: what is read after them was refused. Any other: the size of
 /// addresses, the index or the offset was refused.
 #[unsafe(no_mangle)]
 pub extern "C" fn gimli_ranges(

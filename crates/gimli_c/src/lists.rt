@@ -45,7 +45,7 @@ pub struct GimliBases {
 pub struct GimliRange {
     /// The first address.
     pub begin: u64,
-    /// The address behind the last.
+    /// The address after the last.
     pub end: u64,
 }
 
@@ -55,7 +55,7 @@ pub struct GimliRange {
 pub struct GimliLocation {
     /// The first address.
     pub begin: u64,
-    /// The address behind the last.
+    /// The address after the last.
     pub end: u64,
     /// Where the expression lies in the section of the list.
     pub place: u64,
@@ -99,7 +99,7 @@ fn none(status: u32) -> Listed
     Listed { count: 0, status }
 }
 
-// The status where there is room for so many, and this is the status behind the last.
+// The status where there is room for so many, and this is the status after the last.
 fn status_behind(room: usize, count: usize, last: u32) -> u32
     ensures { result ≡ list_status room count last }
 {

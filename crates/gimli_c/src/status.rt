@@ -24,7 +24,7 @@ pub(crate) fn refused(error: Error) -> u32
     256 + u32::from(error.number())
 }
 
-/// The status of a refusal of what is read behind the rows.
+/// The status of a refusal of what is read after the rows.
 pub(crate) fn row_refused(error: Error) -> u32
     ensures { result ≡ row_refused error }
 {

@@ -17,7 +17,7 @@ use gimli_units::{UnitHeader, UnitType};
 pub struct GimliUnit {
     /// Where the unit begins in its section.
     pub offset: u64,
-    /// The number of its bytes, the length field included: the next unit begins behind them.
+    /// The number of its bytes, the length field included: the next unit begins after them.
     pub length: u64,
     /// The number of bytes before its entries, which is the offset of the first.
     pub header_size: u64,
