@@ -2,22 +2,11 @@
    rows.c does, then one for each attribute: its name, form and class, its number, and its text where it has one. */
 #define _POSIX_C_SOURCE 200809L
 #include "gimli.h"
+#include "read_file.h"
 #include <inttypes.h>
 #include <stdio.h>
 #include <stdlib.h>
 #include <time.h>
-
-static uint8_t *read_file(const char *name, size_t *length) {
-    FILE *file = fopen(name, "rb");
-    if (!file) return NULL;
-    fseek(file, 0, SEEK_END);
-    *length = (size_t)ftell(file);
-    rewind(file);
-    uint8_t *bytes = malloc(*length + 1);
-    if (bytes && fread(bytes, 1, *length, file) != *length) return NULL;
-    fclose(file);
-    return bytes;
-}
 
 int main(int argc, char **argv) {
     if (argc < 3) return 2;

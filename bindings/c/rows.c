@@ -2,23 +2,12 @@
    gimli_walk_program rows; with REPEAT nothing is printed but the time. */
 #define _POSIX_C_SOURCE 200809L
 #include "gimli.h"
+#include "read_file.h"
 #include <inttypes.h>
 #include <stdio.h>
 #include <stdlib.h>
 #include <string.h>
 #include <time.h>
-
-static uint8_t *read_file(const char *name, size_t *length) {
-    FILE *file = fopen(name, "rb");
-    if (!file) return NULL;
-    fseek(file, 0, SEEK_END);
-    *length = (size_t)ftell(file);
-    rewind(file);
-    uint8_t *bytes = malloc(*length + 1);
-    if (bytes && fread(bytes, 1, *length, file) != *length) return NULL;
-    fclose(file);
-    return bytes;
-}
 
 static gimli_sections_t sections;
 static size_t room = 4096;
