@@ -5,45 +5,53 @@ use Rattle.std.proofs.Common.{refl, sym, ap, ◌∙◌, arith, append_assoc}
 use Rattle.std.proofs.lemmas.List.{append-nil}
 use Rattle.gimli_base.specs.declared.error.Error.{Error}
 use Rattle.gimli_base.specs.View.{View}
-use Rattle.gimli_base.specs.Reading.{Reads}
-use Rattle.gimli_base.specs.Items.{Items, before, then_items, items_within, items_at, whole}
+use Rattle.gimli_base.specs.Reading.{Reads, eof}
+use Rattle.gimli_base.specs.Chain.{then_others, chain_within, chain}
+use Rattle.gimli_base.specs.Items.{Items, item_of_read, items_at, whole}
 use Rattle.gimli_base.specs.View.{IsLater}
 use Rattle.gimli_base.proofs.Later.{LeavesLater, IsLater-trans, ok_leaves_later}
 use Rattle.gimli_base.proofs.Later.{err_leaves_later}
 
+-- items before others
+abbrev pub before : {A : Type 0} → List A → Items A → Items A
+before xs r = record { items = xs ++ r.items; ending = r.ending }
+
+-- n items at most, and how they end
+abbrev pub items_within : {A : Type 0} → (View → Reads (Option A)) → Result View Error → ℕ → View
+    → Items A
+items_within next cut_short n v = chain_within (λ w. item_of_read (next w)) cut_short n v
+
 -- after the items xs the view v is left, and the rest of the items is read there
 pub record ItemsSoFar {A : Type 0} (next : View → Reads (Option A)) (all : Items A) (xs : List A)
     (v : View) : Type 0 where
+  pub cut_short : Result View Error
   pub fuel : ℕ
   pub enough : length v.bytes < fuel
-  pub same : all ≡ before xs (items_within next fuel v)
+  pub same : all ≡ before xs (items_within next cut_short fuel v)
 
 pub items_begin : {A : Type 0} → (next : View → Reads (Option A)) (v : View)
     → ItemsSoFar next (items_at next v) [] v
-unfolding items_at
-items_begin next v = record { fuel = suc (length v.bytes); enough = omega arith; same = refl }
+unfolding items_at chain
+items_begin next v =
+    record {
+      cut_short = Err (eof v);
+      fuel = suc (length v.bytes);
+      enough = omega arith;
+      same = refl;
+    }
 
 with_first : {A : Type 0} → (xs : List A) (a : A) (r : Items A)
     → before xs (before (a ∷ []) r) ≡ before (xs ++ a ∷ []) r
 with_first xs a r = rw (append_assoc xs (a ∷ []) r.items) refl
 
-within_more : {A : Type 0} → (next : View → Reads (Option A)) (n : ℕ) (v : View) (a : A) (w : View)
-    → Ok (Some a, w) ≡ next v
-    → items_within next (suc n) v ≡ before (a ∷ []) (items_within next n w)
-unfolding items_within
-within_more next n v a w h = ap (λ r. then_items r (items_within next n)) (sym h)
-
-within_refused : {A : Type 0} → (next : View → Reads (Option A)) (n : ℕ) (v : View) (e : Error)
-    → Err e ≡ next v
-    → items_within next (suc n) v ≡ record { items = []; ending = Err e }
-unfolding items_within
-within_refused next n v e h = ap (λ r. then_items r (items_within next n)) (sym h)
-
-within_end : {A : Type 0} → (next : View → Reads (Option A)) (n : ℕ) (v w : View)
-    → Ok (None, w) ≡ next v
-    → items_within next (suc n) v ≡ record { items = []; ending = Ok w }
-unfolding items_within
-within_end next n v w h = ap (λ r. then_items r (items_within next n)) (sym h)
+-- the first item, and those after it, or the end
+within_first : {A : Type 0}
+    → (next : View → Reads (Option A)) (cut_short : Result View Error) (n : ℕ) (v : View)
+    (r : Reads (Option A)) → r ≡ next v
+    → items_within next cut_short (suc n) v ≡ then_others (item_of_read r) (items_within next cut_short n)
+unfolding chain_within
+within_first next cut_short n v r h =
+    ap (λ x. then_others (item_of_read x) (items_within next cut_short n)) (sym h)
 
 pub items_more : {A : Type 0}
     → (next : View → Reads (Option A)) (all : Items A) (xs : List A) (v : View) (a : A) (w : View)
@@ -51,37 +59,40 @@ pub items_more : {A : Type 0}
     → ItemsSoFar next all (xs ++ a ∷ []) w
 items_more {A} next all xs v a w s h lt = more s.fuel s.enough s.same
   where
-    more : (fuel : ℕ) → length v.bytes < fuel → all ≡ before xs (items_within next fuel v)
+    more : (fuel : ℕ) → length v.bytes < fuel → all ≡ before xs (items_within next s.cut_short fuel v)
         → ItemsSoFar next all (xs ++ a ∷ []) w
     more zero enough same = absurd (omega (arith, enough))
     more (suc n) enough same = record {
+      cut_short = s.cut_short;
       fuel = n;
       enough = omega (arith, enough, lt);
-      same = same ∙ ap (before xs) (within_more next n v a w h)
-          ∙ with_first xs a (items_within next n w);
+      same = same ∙ ap (before xs) (within_first next s.cut_short n v (Ok (Some a, w)) h)
+          ∙ with_first xs a (items_within next s.cut_short n w);
     }
 
 -- the items are over, by a refusal or by the mark
 ended : {A : Type 0} → (next : View → Reads (Option A)) (all : Items A) (xs : List A) (v : View)
-    (ending : Result View Error)
-    → ((n : ℕ) → items_within next (suc n) v ≡ record { items = []; ending = ending })
-    → (fuel : ℕ) → length v.bytes < fuel → all ≡ before xs (items_within next fuel v)
+    (ending : Result View Error) (s : ItemsSoFar next all xs v)
+    → ((n : ℕ) → items_within next s.cut_short (suc n) v ≡ record { items = []; ending = ending })
     → all ≡ record { items = xs; ending = ending }
-ended next all xs v ending h zero enough same = absurd (omega (arith, enough))
-ended next all xs v ending h (suc n) enough same =
-    same ∙ ap (before xs) (h n) ∙ rw (append-nil xs) refl
+ended {A} next all xs v ending s h = by s.fuel s.enough s.same
+  where
+    by : (fuel : ℕ) → length v.bytes < fuel → all ≡ before xs (items_within next s.cut_short fuel v)
+        → all ≡ record { items = xs; ending = ending }
+    by zero enough same = absurd (omega (arith, enough))
+    by (suc n) enough same = same ∙ ap (before xs) (h n) ∙ rw (append-nil xs) refl
 
 pub items_refused : {A : Type 0}
     → (next : View → Reads (Option A)) (all : Items A) (xs : List A) (v : View) (e : Error)
     → ItemsSoFar next all xs v → Err e ≡ next v → all ≡ record { items = xs; ending = Err e }
 items_refused next all xs v e s h =
-    ended next all xs v (Err e) (λ n. within_refused next n v e h) s.fuel s.enough s.same
+    ended next all xs v (Err e) s (λ n. within_first next s.cut_short n v (Err e) h)
 
 pub items_end : {A : Type 0}
     → (next : View → Reads (Option A)) (all : Items A) (xs : List A) (v w : View)
     → ItemsSoFar next all xs v → Ok (None, w) ≡ next v → all ≡ record { items = xs; ending = Ok w }
 items_end next all xs v w s h =
-    ended next all xs v (Ok w) (λ n. within_end next n v w h) s.fuel s.enough s.same
+    ended next all xs v (Ok w) s (λ n. within_first next s.cut_short n v (Ok (None, w)) h)
 
 before-later : {A : Type 0} → (a : A) (v : View) (r : Items A) → LeavesLater 0 v (whole r)
     → LeavesLater 0 v (whole (before (a ∷ []) r))
@@ -93,28 +104,32 @@ before-later {A} a v r h = cases r.ending h
     cases (Ok w) k = ok_leaves_later 0 v (a ∷ r.items, w) (k r.items w refl)
     cases (Err e) k = err_leaves_later {A = List A} 0 v e
 
-within-later : {A : Type 0} → (next : View → Reads (Option A))
+within-later : {A : Type 0} → (next : View → Reads (Option A)) (before : View)
     → ((v : View) → LeavesLater 0 v (next v)) → (n : ℕ) (v : View)
-    → LeavesLater 0 v (whole (items_within next n v))
-unfolding items_within
-within-later {A} next h zero v = err_leaves_later {A = List A} 0 v _
-within-later {A} next h (suc n) v = cases (next v) (h v) (λ u. within-later next h n u)
+    → LeavesLater 0 v (whole (items_within next (Err (eof before)) n v))
+unfolding chain_within
+within-later {A} next before h zero v = err_leaves_later {A = List A} 0 v _
+within-later {A} next before h (suc n) v =
+    cases (next v) (h v) (λ u. within-later next before h n u)
   where
     cases : (r : Reads (Option A)) → LeavesLater 0 v r
-        → ((u : View) → LeavesLater 0 u (whole (items_within next n u)))
-        → LeavesLater 0 v (whole (then_items r (items_within next n)))
+        → ((u : View) → LeavesLater 0 u (whole (items_within next (Err (eof before)) n u)))
+        → LeavesLater 0 v
+        (whole (then_others (item_of_read r) (items_within next (Err (eof before)) n)))
     cases (Err e) k others = err_leaves_later {A = List A} 0 v e
     cases (Ok p) k others = item p.0 (k p.0 p.1 refl)
       where
         item : (o : Option A) → IsLater 0 v p.1
-            → LeavesLater 0 v (whole (then_items (Ok (o, p.1)) (items_within next n)))
+            → LeavesLater 0 v
+            (whole
+            (then_others (item_of_read (Ok (o, p.1))) (items_within next (Err (eof before)) n)))
         item None l = ok_leaves_later 0 v ([], p.1) l
-        item (Some a) l = before-later a v (items_within next n p.1)
+        item (Some a) l = before-later a v (items_within next (Err (eof before)) n p.1)
             (λ x w e. IsLater-trans 0 0 v p.1 w l (others p.1 x w e))
 
 -- where each item leaves a later view, so do all
 pub whole-later : {A : Type 0} → (next : View → Reads (Option A))
     → ((v : View) → LeavesLater 0 v (next v)) → (v : View)
     → LeavesLater 0 v (whole (items_at next v))
-unfolding items_at
-whole-later next h v = within-later next h (suc (length v.bytes)) v
+unfolding items_at chain
+whole-later next h v = within-later next v h (suc (length v.bytes)) v

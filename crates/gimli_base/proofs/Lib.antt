@@ -1,4 +1,5 @@
 pub mod OneByte
+pub mod ChainSteps
 pub mod ItemTurns
 pub mod Both
 pub mod LebTurns

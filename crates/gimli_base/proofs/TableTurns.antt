@@ -7,9 +7,9 @@ use Rattle.std.specs.Prelude.{◌&&◌}
 use Rattle.gimli_base.specs.declared.error.Error.{Error}
 use Rattle.gimli_base.specs.declared.error.Error.TheVariants.{DuplicateAbbreviationCode}
 use Rattle.gimli_base.specs.View.{View}
-use Rattle.gimli_base.specs.Items.{Items, items_within}
-use Rattle.gimli_base.proofs.ItemTurns.{ItemsSoFar, items_begin, items_more, items_refused}
-use Rattle.gimli_base.proofs.ItemTurns.{items_end}
+use Rattle.gimli_base.specs.Items.{Items}
+use Rattle.gimli_base.proofs.ItemTurns.{ItemsSoFar, items_within, items_begin, items_more}
+use Rattle.gimli_base.proofs.ItemTurns.{items_refused, items_end}
 use Rattle.gimli_base.specs.Abbreviations.{Declaration, declaration_of, repeats, map_of}
 use Rattle.gimli_base.specs.Abbreviations.{declaration_at, declarations_at}
 use Rattle.gimli_base.specs.Table.{Table, found}
@@ -60,7 +60,7 @@ pub table_again : (all : Items Declaration) (t : Table) (v : View) (d : Declarat
     → is_some (found t d.code) ≡ true → map_of all ≡ Err DuplicateAbbreviationCode
 table_again all t v d w s h lt some =
     let more = items_more declaration_at all s.declared v d w s.read h lt in
-    let others = items_within declaration_at more.fuel w in
+    let others = items_within declaration_at more.cut_short more.fuel w in
     let there : is_some (declaration_of s.declared d.code)
     ≡ true = ap is_some (sym (s.same d.code)) ∙ some in
     let again : repeats ((s.declared ++ d ∷ []) ++ others.items)

@@ -1,35 +1,24 @@
--- Items that are read one after the other, up to a mark that ends them, as tables and lists of
--- DWARF are laid out.
-use Rattle.std.specs.Prelude.{ℕ, zero, suc, List, [], ◌∷◌, ◌++◌, length, Option, Some, None, Result}
-use Rattle.std.specs.Prelude.{Ok, Err}
+-- Items that are read one after the other, up to a mark that ends them, as the declarations of
+-- abbreviations and the attributes of each are laid out (DWARF 5, 7.5.3).
+use Rattle.std.specs.Prelude.{List, length, Option, Some, None, Result, Ok, Err}
 use Rattle.gimli_base.specs.declared.error.Error.{Error}
 use Rattle.gimli_base.specs.View.{View}
 use Rattle.gimli_base.specs.Reading.{Reads, eof}
+use Rattle.gimli_base.specs.Chain.{Chain, chain}
 
 -- the items, and what is left after the mark that ends them, or the refusal in its place
-pub record Items (A : Type 0) : Type 0 where
-  pub items : List A
-  pub ending : Result View Error
+abbrev pub Items : Type 0 → Type 0
+Items A = Chain A (Result View Error)
 
--- items before others
-abbrev pub before : {A : Type 0} → List A → Items A → Items A
-before xs r = record { items = xs ++ r.items; ending = r.ending }
+-- what a read tells of a place: an item, and what is left after it, or the end
+abbrev pub item_of_read : {A : Type 0} → Reads (Option A) → Result (A × View) (Result View Error)
+item_of_read (Ok p) = elim p.0 [ Some a ↦ Ok (a, p.1) | None ↦ Err (Ok p.1) ]
+item_of_read (Err e) = Err (Err e)
 
--- a read of an item, and then the others from what it leaves
-abbrev pub then_items : {A : Type 0} → Reads (Option A) → (View → Items A) → Items A
-then_items (Err e) others = record { items = []; ending = Err e }
-then_items (Ok p) others =
-    elim p.0
-    [ None ↦ record { items = []; ending = Ok p.1 } | Some a ↦ before (a ∷ []) (others p.1) ]
-
--- the items that `next` reads up to none; each takes a byte at least, so that a number above that
--- of the bytes is enough
-unfoldable pub items_within : {A : Type 0} → (View → Reads (Option A)) → ℕ → View → Items A
-items_within next zero v = record { items = []; ending = Err (eof v) }
-items_within next (suc n) v = then_items (next v) (items_within next n)
-
+-- the items that `next` reads up to none; each takes a byte at least, so that the refusal handed to
+-- `chain` never shows
 unfoldable pub items_at : {A : Type 0} → (View → Reads (Option A)) → View → Items A
-items_at next v = items_within next (suc (length v.bytes)) v
+items_at next v = chain (λ w. length w.bytes) (λ w. item_of_read (next w)) (Err (eof v)) v
 
 -- the items, where nothing was refused, and what is left after their mark
 abbrev pub whole : {A : Type 0} → Items A → Reads (List A)

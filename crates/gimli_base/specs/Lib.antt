@@ -4,6 +4,7 @@ pub mod Order
 pub mod Range
 pub mod Reading
 pub mod Refusal
+pub mod Chain
 pub mod Items
 pub mod Abbreviations
 pub mod Table

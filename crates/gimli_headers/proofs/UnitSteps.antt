@@ -1,6 +1,6 @@
 -- The units ahead of a place, as the reading of a header moves it, and how they lie in their
 -- section (DWARF 5, 7.5.1).
-use Rattle.std.specs.Prelude.{◌≡◌, ℕ, zero, suc, ◌+◌, ◌-◌, ◌<◌, ◌≤◌, ◌==◌, nat_le, true, false}
+use Rattle.std.specs.Prelude.{◌≡◌, ℕ, zero, suc, ◌+◌, ◌<◌, ◌≤◌, ◌==◌, nat_le, true, false}
 use Rattle.std.specs.Prelude.{List, [], ◌∷◌, length, Option, Some, None, Result, Ok, Err}
 use Rattle.std.specs.Prelude.{MatchOption}
 use Rattle.std.specs.List.{All}
@@ -18,36 +18,34 @@ use Rattle.gimli_base.proofs.Later.{cut-cut}
 use Rattle.gimli_units.specs.Unit.{UnitView, whole_length}
 use Rattle.gimli_headers.specs.Header.{unit_at}
 use Rattle.gimli_headers.proofs.UnitReads.{unit_at-read, unit_at-shorter}
-use Rattle.gimli_headers.specs.Units.{UnitsPlace, Units, after_unit, no_units, then_unit}
-use Rattle.gimli_headers.specs.Units.{units_within}
-use Rattle.gimli_headers.specs.Units.{units_ahead, units_of, unit_answers, next_unit, before_units}
+use Rattle.gimli_base.specs.Chain.{no_item, then_item, each_answer}
+use Rattle.gimli_base.proofs.ChainSteps.{chain_ended, chain_more}
+use Rattle.gimli_headers.specs.Units.{UnitsPlace, Units, after_unit, unit_or_end}
+use Rattle.gimli_headers.specs.Units.{units_ahead, units_of, next_unit, before_units}
 use Rattle.gimli_base.specs.Reading.{transposed}
 use Rattle.gimli_headers.specs.Units.{IsNextUnit, unit_alone, header_at, Tile, EndsAt}
 use Rattle.gimli_headers.specs.Units.{Tiles, IsHeaderAt}
 
 module _ (limit : ℕ) (section : SectionId) where
-  within_ended : (n : ℕ) (p : UnitsPlace) → length p.rest.bytes ≡ 0
-      → units_within limit section n p ≡ no_units None
-  unfolding units_within
-  within_ended zero p h = refl
-  within_ended (suc n) p h = let t : (length p.rest.bytes == 0) ≡ true = rw h refl in rw t refl
+  abbrev size : UnitsPlace → ℕ
+  size p = length p.rest.bytes
 
-  within_refused : (n : ℕ) (p : UnitsPlace) (e : Error) → (length p.rest.bytes ≡ 0 → ⊥)
+  -- where no byte is left there is no unit
+  ahead_ended : (p : UnitsPlace) → length p.rest.bytes ≡ 0
+      → units_ahead limit section p ≡ no_item None
+  unfolding units_ahead unit_or_end
+  ahead_ended p none =
+      let t : (length p.rest.bytes == 0) ≡ true = rw none refl in
+      chain_ended size (unit_or_end limit section) None p None (rw t refl)
+
+  -- a refusal ends the units
+  ahead_refused : (p : UnitsPlace) (e : Error) → (length p.rest.bytes ≡ 0 → ⊥)
       → Err e ≡ unit_at limit section p.offset p.rest
-      → units_within limit section (suc n) p ≡ no_units (Some e)
-  unfolding units_within
-  within_refused n p e some h =
+      → units_ahead limit section p ≡ no_item (Some e)
+  unfolding units_ahead unit_or_end
+  ahead_refused p e some h =
       let t : (length p.rest.bytes == 0) ≡ false = ne_eqb (length p.rest.bytes) 0 some in
-      rw (t, ← h) refl
-
-  within_more : (n : ℕ) (p : UnitsPlace) (u : UnitView) (w : View) → (length p.rest.bytes ≡ 0 → ⊥)
-      → Ok (u, w) ≡ unit_at limit section p.offset p.rest
-      → units_within limit section (suc n) p
-      ≡ then_unit u (units_within limit section n (after_unit u p))
-  unfolding units_within
-  within_more n p u w some h =
-      let t : (length p.rest.bytes == 0) ≡ false = ne_eqb (length p.rest.bytes) 0 some in
-      rw (t, ← h) refl
+      chain_ended size (unit_or_end limit section) None p (Some e) (rw (t, ← h) refl)
 
   -- fewer bytes are left after a unit
   shorter : (p : UnitsPlace) (u : UnitView) (w : View)
@@ -59,61 +57,38 @@ module _ (limit : ℕ) (section : SectionId) where
       (unit_at-read limit section p.offset p.rest u w h).rest in
       omega (arith, left, rest)
 
-  -- any number that is enough gives the same units
-  within_enough : (m n : ℕ) (p : UnitsPlace) → length p.rest.bytes ≤ m → length p.rest.bytes ≤ n
-      → units_within limit section m p ≡ units_within limit section n p
-  within_enough zero n p h k =
-      let none : length p.rest.bytes ≡ 0 = omega (arith, h) in
-      within_ended zero p none ∙ sym (within_ended n p none)
-  within_enough (suc m) zero p h k =
-      let none : length p.rest.bytes ≡ 0 = omega (arith, k) in
-      within_ended (suc m) p none ∙ sym (within_ended zero p none)
-  within_enough (suc m) (suc n) p h k = elim (eqb_tells (length p.rest.bytes) 0) [
-    | inl none ↦ within_ended (suc m) p none.1 ∙ sym (within_ended (suc n) p none.1)
-    | inr some ↦ read (unit_at limit section p.offset p.rest) refl some.1
-        (λ q lt. within_enough m n q (omega (arith, h, lt)) (omega (arith, k, lt)))
+  abbrev Standing : Type 0
+  Standing = Result (UnitView × UnitsPlace) (Option Error)
+
+  smaller : (p : UnitsPlace) (u : UnitView) (q : UnitsPlace)
+      → Ok (u, q) ≡ unit_or_end limit section p → size q < size p
+  unfolding unit_or_end
+  smaller p u q h = elim (eqb_tells (length p.rest.bytes) 0) [
+    | inl none ↦
+        let is : ◌≡◌ {A = Standing} (Ok (u, q)) (Err None) = rw none.0 at h in absurd (cc)
+    | inr some ↦ by (unit_at limit section p.offset p.rest) refl (rw some.0 at h)
   ]
     where
-      read : (r : Reads UnitView) → r ≡ unit_at limit section p.offset p.rest
-          → (length p.rest.bytes ≡ 0 → ⊥)
-          → ((q : UnitsPlace) → length q.rest.bytes < length p.rest.bytes
-          → units_within limit section m q ≡ units_within limit section n q)
-          → units_within limit section (suc m) p ≡ units_within limit section (suc n) p
-      read (Err e) is some rest = within_refused m p e some is ∙ sym (within_refused n p e some is)
-      read (Ok q) is some rest =
-          within_more m p q.0 q.1 some is
-          ∙ ap (then_unit q.0) (rest (after_unit q.0 p) (shorter p q.0 q.1 is))
-          ∙ sym (within_more n p q.0 q.1 some is)
-
-  -- where no byte is left there is no unit
-  ahead_ended : (p : UnitsPlace) → length p.rest.bytes ≡ 0
-      → units_ahead limit section p ≡ no_units None
-  unfolding units_ahead
-  ahead_ended p none = within_ended (length p.rest.bytes) p none
-
-  -- a refusal ends the units
-  ahead_refused : (p : UnitsPlace) (e : Error) → (length p.rest.bytes ≡ 0 → ⊥)
-      → Err e ≡ unit_at limit section p.offset p.rest
-      → units_ahead limit section p ≡ no_units (Some e)
-  unfolding units_ahead
-  ahead_refused p e some h =
-      let one : length p.rest.bytes ≡ suc (length p.rest.bytes - 1) = omega (arith, some) in
-      ap (λ k. units_within limit section k p) one
-      ∙ within_refused (length p.rest.bytes - 1) p e some h
+      by : (r : Reads UnitView) → r ≡ unit_at limit section p.offset p.rest
+          → ◌≡◌ {A = Standing} (Ok (u, q))
+          (elim r [ Ok x ↦ Ok (x.0, after_unit x.0 p) | Err e ↦ Err (Some e) ])
+          → size q < size p
+      by (Ok x) is same =
+          let pair : (u, q) ≡ (x.0, after_unit x.0 p) = cc in
+          let left : q ≡ after_unit x.0 p = ap (λ (y : UnitView × UnitsPlace). y.1) pair in
+          let less = shorter p x.0 x.1 is in
+          rw left less
+      by (Err e) is same = absurd (cc)
 
   -- a unit, and then those after its whole length
   ahead_more : (p : UnitsPlace) (u : UnitView) (w : View) → (length p.rest.bytes ≡ 0 → ⊥)
       → Ok (u, w) ≡ unit_at limit section p.offset p.rest
-      → units_ahead limit section p ≡ then_unit u (units_ahead limit section (after_unit u p))
-  unfolding units_ahead
+      → units_ahead limit section p ≡ then_item u (units_ahead limit section (after_unit u p))
+  unfolding units_ahead unit_or_end
   ahead_more p u w some h =
-      let one : length p.rest.bytes ≡ suc (length p.rest.bytes - 1) = omega (arith, some) in
-      let lt = shorter p u w h in
-      ap (λ k. units_within limit section k p) one
-      ∙ within_more (length p.rest.bytes - 1) p u w some h
-      ∙ ap (then_unit u)
-      (within_enough (length p.rest.bytes - 1) (length (after_unit u p).rest.bytes) (after_unit u p)
-      (omega (arith, lt)) (omega arith))
+      let t : (length p.rest.bytes == 0) ≡ false = ne_eqb (length p.rest.bytes) 0 some in
+      chain_more size (unit_or_end limit section) smaller None p u (after_unit u p)
+      (rw (t, ← h) refl)
 
   abbrev Next : Type 0
   Next = Result (Option UnitView) Error × UnitsPlace
@@ -143,7 +118,7 @@ module _ (limit : ℕ) (section : SectionId) where
           let place = ap (λ w. record { rest = w; offset = p.offset + whole_length q.0 })
           (unit_at-read limit section p.offset p.rest q.0 q.1 is).rest in
           ahead_more p q.0 q.1 some is
-          ∙ ap (λ l. then_unit q.0 (units_ahead limit section l)) (sym place)
+          ∙ ap (λ l. then_item q.0 (units_ahead limit section l)) (sym place)
 
   -- what `next` answers is the first of the units ahead, and the others are ahead of the place that
   -- it leaves
@@ -181,7 +156,7 @@ module _ (limit : ℕ) (section : SectionId) where
 
   -- the answers ahead of a place
   abbrev pub answers_ahead : UnitsPlace → List (Result UnitView Error)
-  answers_ahead p = unit_answers (units_ahead limit section p)
+  answers_ahead p = each_answer (units_ahead limit section p)
 
   -- an item of the iterator, whose units stand for f of them, is the first of the answers ahead
   pub first_answer : {A : Type 0}
@@ -189,10 +164,10 @@ module _ (limit : ℕ) (section : SectionId) where
       → IsNextUnit limit section p (answer_of (option_map f) (transposed r)) q
       → MatchOption r (answers_ahead p ≡ [])
       (λ x. answers_ahead p ≡ answer_of f x ∷ answers_ahead q)
-  first_answer f p None q h = ap unit_answers h.ahead
-  first_answer f p (Some (Ok u)) q h = ap unit_answers h.ahead
+  first_answer f p None q h = ap each_answer h.ahead
+  first_answer f p (Some (Ok u)) q h = ap each_answer h.ahead
   first_answer f p (Some (Err e)) q h =
-      ap unit_answers h.ahead ∙ ap (λ us. Err e ∷ unit_answers us)
+      ap each_answer h.ahead ∙ ap (λ us. Err e ∷ each_answer us)
       (sym (ahead_ended q (refused_ended p q e h.is)))
 
   module _ (v : View) where
@@ -213,34 +188,37 @@ module _ (limit : ℕ) (section : SectionId) where
     -- the units from an offset on tile what is left from there on, and each is the header at its
     -- offset
     abbrev Lie : ℕ → Units → Type 0
-    Lie o us = ((end : ℕ) × Tile o us.units end × EndsAt limit section v us.refusal end)
-        × All (IsHeaderAt limit section v) us.units
+    Lie o us = ((end : ℕ) × Tile o us.items end × EndsAt limit section v us.ending end)
+        × All (IsHeaderAt limit section v) us.items
 
-    lie_within : (n o : ℕ) → o ≤ length v.bytes → length v.bytes ≤ o + n
-        → Lie o (units_within limit section n (place_at o))
-    unfolding units_within
-    lie_within zero o le enough =
-        ((o, refl, omega (arith, le, enough)), All-nil (IsHeaderAt limit section v))
-    lie_within (suc n) o le enough = elim (eqb_tells (length (cut o v).bytes) 0) [
-      | inl none ↦
-          let all : o ≡ length v.bytes = omega (arith, le, length-drop o v.bytes, none.1) in
-          subst (Lie o) (sym (within_ended (suc n) (place_at o) none.1))
-          ((o, refl, all), All-nil (IsHeaderAt limit section v))
-      | inr some ↦ read (unit_at limit section o (cut o v)) refl some.1 (λ p lt. lie_within n p lt)
+    lie_ended : (o : ℕ) → o ≤ length v.bytes → length (cut o v).bytes ≡ 0
+        → Lie o (units_ahead limit section (place_at o))
+    lie_ended o le none =
+        let all : o ≡ length v.bytes = omega (arith, le, length-drop o v.bytes, none) in
+        subst (Lie o) (sym (ahead_ended (place_at o) none))
+        ((o, refl, all), All-nil (IsHeaderAt limit section v))
+
+    lie_ahead : (n o : ℕ) → o ≤ length v.bytes → length v.bytes ≤ o + n
+        → Lie o (units_ahead limit section (place_at o))
+    lie_ahead zero o le enough =
+        lie_ended o le (omega (arith, le, enough, length-drop o v.bytes))
+    lie_ahead (suc n) o le enough = elim (eqb_tells (length (cut o v).bytes) 0) [
+      | inl none ↦ lie_ended o le none.1
+      | inr some ↦ by (unit_at limit section o (cut o v)) refl some.1 (λ p lt. lie_ahead n p lt)
     ]
       where
-        read : (r : Reads UnitView) → r ≡ unit_at limit section o (cut o v)
+        by : (r : Reads UnitView) → r ≡ unit_at limit section o (cut o v)
             → (length (cut o v).bytes ≡ 0 → ⊥)
             → ((p : ℕ) → p ≤ length v.bytes → length v.bytes ≤ p + n
-            → Lie p (units_within limit section n (place_at p)))
-            → Lie o (units_within limit section (suc n) (place_at o))
-        read (Err e) is some rest =
+            → Lie p (units_ahead limit section (place_at p)))
+            → Lie o (units_ahead limit section (place_at o))
+        by (Err e) is some rest =
             let before : o < length v.bytes = omega (arith, length-drop o v.bytes, some) in
-            subst (Lie o) (sym (within_refused n (place_at o) e some is)) (
+            subst (Lie o) (sym (ahead_refused (place_at o) e some is)) (
               (o, refl, (before, header_at-here o le ∙ ap unit_alone (sym is))),
               All-nil (IsHeaderAt limit section v),
             )
-        read (Ok q) is some rest =
+        by (Ok q) is some rest =
             let u = q.0 in
             let known = unit_at-read limit section o (cut o v) u q.1 is in
             let after : o + whole_length u
@@ -255,24 +233,23 @@ module _ (limit : ℕ) (section : SectionId) where
             let here : header_at limit section u.offset v
             ≡ Ok u = ap (λ k. header_at limit section k v) known.offset_is
             ∙ header_at-here o le ∙ ap unit_alone (sym is) in
-            let more = within_more n (place_at o) u q.1 some is
-            ∙ ap (λ p. then_unit u (units_within limit section n p)) (behind-here o u) in
+            let more = ahead_more (place_at o) u q.1 some is
+            ∙ ap (λ p. then_item u (units_ahead limit section p)) (behind-here o u) in
             subst (Lie o) (sym more) (
               (others.0.0, (known.offset_is, others.0.1), others.0.2),
               All-cons (IsHeaderAt limit section v) u _ here others.1,
             )
 
     lie : Lie 0 (units_of limit section v)
-    unfolding units_ahead
     lie =
         let begin : place_at 0 ≡ record { rest = v; offset = 0 } = rw add-zero refl in
-        subst (λ p. Lie 0 (units_within limit section (length v.bytes) p)) begin
-        (lie_within (length v.bytes) 0 (omega arith) (omega arith))
+        subst (λ p. Lie 0 (units_ahead limit section p)) begin
+        (lie_ahead (length v.bytes) 0 (omega arith) (omega arith))
 
     -- the units of a section tile it
     pub units-tile : Tiles limit section v
     units-tile = lie.0
 
     -- the header at the offset of a unit is that unit
-    pub units-found : All (IsHeaderAt limit section v) (units_of limit section v).units
+    pub units-found : All (IsHeaderAt limit section v) (units_of limit section v).items
     units-found = lie.1

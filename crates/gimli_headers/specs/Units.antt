@@ -1,10 +1,11 @@
 -- The units of a section, one after the other (DWARF 5, 7.5.1).
-use Rattle.std.specs.Prelude.{◌≡◌, ℕ, zero, suc, ◌+◌, ◌<◌, ◌==◌, if◌then◌else◌, List, [], ◌∷◌, ◌++◌}
-use Rattle.std.specs.Prelude.{map, length, Option, Some, None, Result, Ok, Err, IfOk, IfSome}
+use Rattle.std.specs.Prelude.{◌≡◌, ℕ, ◌+◌, ◌<◌, ◌==◌, if◌then◌else◌, List, [], ◌∷◌, length, Option}
+use Rattle.std.specs.Prelude.{Some, None, Result, Ok, Err, IfOk, IfSome}
 use Rattle.gimli_base.specs.declared.common.SectionId.{SectionId}
 use Rattle.gimli_base.specs.declared.error.Error.{Error}
 use Rattle.gimli_base.specs.View.{View, cut, ended}
 use Rattle.gimli_base.specs.Reading.{Reads, ◌>>=◌, skip_at}
+use Rattle.gimli_base.specs.Chain.{Chain, no_item, then_item, chain}
 use Rattle.gimli_units.specs.Unit.{UnitView, whole_length, header_size, size_of_header}
 use Rattle.gimli_headers.specs.Header.{unit_at}
 
@@ -18,40 +19,29 @@ abbrev pub after_unit : UnitView → UnitsPlace → UnitsPlace
 after_unit u p = record { rest = cut (whole_length u) p.rest; offset = p.offset + whole_length u }
 
 -- units one after the other, and the refusal that ends them, if it isn't the end of the bytes
-pub record Units : Type 0 where
-  pub units : List UnitView
-  pub refusal : Option Error
+abbrev pub Units : Type 0
+Units = Chain UnitView (Option Error)
 
--- no unit
-abbrev pub no_units : Option Error → Units
-no_units refusal = record { units = []; refusal = refusal }
-
--- a unit before others
-abbrev pub then_unit : UnitView → Units → Units
-then_unit u us = record { units = u ∷ us.units; refusal = us.refusal }
-
--- The units from a place on: each begins where the whole length of the one before ends, up to the
--- end of the bytes or to the first header that is refused. Each takes a byte at least, so that n,
--- the number of bytes, is enough.
-unfoldable pub units_within : ℕ → SectionId → ℕ → UnitsPlace → Units
-units_within limit section zero p = no_units None
-units_within limit section (suc n) p =
-    if length p.rest.bytes == 0 then no_units None
+-- what stands at a place: a unit, and the place after its whole length, or the end: `None` where no
+-- byte is left, else the refusal of the header
+unfoldable pub unit_or_end : ℕ → SectionId → UnitsPlace
+    → Result (UnitView × UnitsPlace) (Option Error)
+unit_or_end limit section p =
+    if length p.rest.bytes == 0 then Err None
     else elim (unit_at limit section p.offset p.rest) [
-      | Ok q ↦ then_unit q.0 (units_within limit section n (after_unit q.0 p))
-      | Err e ↦ no_units (Some e)
+      | Ok q ↦ Ok (q.0, after_unit q.0 p)
+      | Err e ↦ Err (Some e)
     ]
 
+-- the units from a place on, up to the end of the bytes or to the first header that is refused; each
+-- takes a byte at least, so that the end handed to `chain` never shows
 unfoldable pub units_ahead : ℕ → SectionId → UnitsPlace → Units
-units_ahead limit section p = units_within limit section (length p.rest.bytes) p
+units_ahead limit section p =
+    chain (λ q. length q.rest.bytes) (unit_or_end limit section) None p
 
 -- the units of a section, the first at 0
 abbrev pub units_of : ℕ → SectionId → View → Units
 units_of limit section v = units_ahead limit section (record { rest = v; offset = 0 })
-
--- each unit as an answer, and then the refusal
-abbrev pub unit_answers : Units → List (Result UnitView Error)
-unit_answers us = map Ok us.units ++ elim us.refusal [ None ↦ [] | Some e ↦ Err e ∷ [] ]
 
 -- The next unit of a section, and the place that its reading leaves: none where nothing is left,
 -- and after a refusal nothing is left.
@@ -65,9 +55,9 @@ next_unit limit section p =
 
 -- an answer before units
 abbrev pub before_units : Result (Option UnitView) Error → Units → Units
-before_units (Ok None) us = no_units None
-before_units (Ok (Some u)) us = then_unit u us
-before_units (Err e) us = no_units (Some e)
+before_units (Ok None) us = no_item None
+before_units (Ok (Some u)) us = then_item u us
+before_units (Err e) us = no_item (Some e)
 
 -- What an iterator answers at a place, and the place that it leaves: the next unit. The units ahead
 -- are that one, whose header has the size of its kind, and those ahead of the place that is left.
@@ -101,7 +91,7 @@ EndsAt limit section v (Some e) end =
 abbrev pub Tiles : ℕ → SectionId → View → Type 0
 Tiles limit section v =
     let us : Units = units_of limit section v in
-    (end : ℕ) × Tile 0 us.units end × EndsAt limit section v us.refusal end
+    (end : ℕ) × Tile 0 us.items end × EndsAt limit section v us.ending end
 
 -- the header of a unit is that at the unit's offset
 abbrev pub IsHeaderAt : ℕ → SectionId → View → UnitView → Type 0

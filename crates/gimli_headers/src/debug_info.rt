@@ -116,7 +116,7 @@ impl<R: Reader> DebugInfo<R> {
             (IsHeaderAt R.Offset.limit InfoSection
             (⟦<DebugInfo<R> as Section<R>>⟧.content self.now))
             (units_of R.Offset.limit InfoSection
-            (⟦<DebugInfo<R> as Section<R>>⟧.content self.now)).units }
+            (⟦<DebugInfo<R> as Section<R>>⟧.content self.now)).items }
     {
         DebugInfoUnitHeadersIter {
             input: self.section.copy(),

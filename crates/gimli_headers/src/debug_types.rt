@@ -94,7 +94,7 @@ impl<R: Reader> DebugTypes<R> {
             (IsHeaderAt R.Offset.limit TypesSection
             (⟦<DebugTypes<R> as Section<R>>⟧.content self.now))
             (units_of R.Offset.limit TypesSection
-            (⟦<DebugTypes<R> as Section<R>>⟧.content self.now)).units }
+            (⟦<DebugTypes<R> as Section<R>>⟧.content self.now)).items }
     {
         DebugTypesUnitHeadersIter {
             input: self.section.copy(),

@@ -1,6 +1,6 @@
 -- A list as its reading moves along it, and its answers with the base address that is at hand
 -- (DWARF 5, 2.6.2 and 2.17.3).
-use Rattle.std.specs.Prelude.{◌≡◌, ℕ, zero, suc, ◌+◌, ◌-◌, ◌^◌, ◌<◌, ◌≤◌, ◌==◌, nat_lt, ◌&&◌}
+use Rattle.std.specs.Prelude.{◌≡◌, ℕ, suc, ◌+◌, ◌-◌, ◌^◌, ◌<◌, ◌==◌, nat_lt, ◌&&◌}
 use Rattle.std.specs.Prelude.{if◌then◌else◌, Bool, true, false, List, [], ◌∷◌, ◌++◌, map, min, take}
 use Rattle.std.specs.Prelude.{reverse, length, Option, Some, None, unwrap_or, Result, Ok, Err, IfOk}
 use Rattle.std.specs.List.{All, enumerate_from, filter_map, prefix_len}
@@ -17,8 +17,10 @@ use Rattle.gimli_base.specs.Reading.{Reads, uint_at, address_at, is_size}
 use Rattle.gimli_lists.specs.RawList.{ListEntry, address_or_offset_pair, base_address}
 use Rattle.gimli_lists.specs.RawList.{base_addressx, startx_endx, startx_length, offset_pair}
 use Rattle.gimli_lists.specs.RawList.{default_location, start_end, start_length, EntryReads, Ending}
-use Rattle.gimli_lists.specs.RawList.{end_of_list, used_up, refused, RawList, no_entries}
-use Rattle.gimli_lists.specs.RawList.{then_entry, then_list, list_within, list_at}
+use Rattle.gimli_lists.specs.RawList.{end_of_list, used_up, refused, RawList}
+use Rattle.gimli_lists.specs.RawList.{entry_of_read, entry_or_end, list_at}
+use Rattle.gimli_base.specs.Chain.{no_item, then_item}
+use Rattle.gimli_base.proofs.ChainSteps.{chain_ended, chain_more}
 use Rattle.gimli_base.specs.Address.{min_tombstone, wrapped_sum}
 use Rattle.gimli_lists.specs.Resolved.{LookUp, Resolved, located, located_from, if_found}
 use Rattle.gimli_lists.specs.Resolved.{base_given, first_base, base_before, resolve, resolve_each}
@@ -114,14 +116,14 @@ module _ {P : Type 0} (size : ℕ) (look_up : LookUp) where
 
   -- and so are those of a list
   pub resolved_list-first : (base : ℕ) (e : ListEntry P) (l : RawList P)
-      → resolved_list size look_up base (then_entry e l)
+      → resolved_list size look_up base (then_item e l)
       ≡ then_answers (resolve size look_up base e)
       (resolved_list size look_up (base_after look_up base e) l)
   unfolding resolved_list
   resolved_list-first base e l =
-      ap (λ rs. rs ++ last_answer l.ending) (entry_answers-first base e l.entries)
+      ap (λ rs. rs ++ last_answer l.ending) (entry_answers-first base e l.items)
       ∙ either (resolve size look_up base e)
-      (entry_answers size look_up (base_after look_up base e) l.entries)
+      (entry_answers size look_up (base_after look_up base e) l.items)
     where
       either : (r : Result (Option (Resolved P)) Error) (rs : List (Result (Resolved P) Error))
           → then_answers r rs ++ last_answer l.ending ≡ then_answers r (rs ++ last_answer l.ending)
@@ -154,7 +156,7 @@ module _ {P : Type 0} (size : ℕ) (look_up : LookUp) where
 
   -- of no entry there is the refusal alone
   pub resolved_list-none : (base : ℕ) (ending : Ending)
-      → resolved_list {P = P} size look_up base (no_entries ending) ≡ last_answer ending
+      → resolved_list {P = P} size look_up base (no_item ending) ≡ last_answer ending
   unfolding resolved_list
   resolved_list-none base ending = refl
 
@@ -250,82 +252,78 @@ module _ {P : Type 0} (size : ℕ) (look_up : LookUp) where
       → AllSound size (resolved_list size look_up base l)
   unfolding resolved_list
   resolved_list-sound base l =
-      All-append Sound (entry_answers size look_up base l.entries) (last_answer l.ending)
-      (entry_answers-sound base l.entries) (last_answer-sound l.ending)
+      All-append Sound (entry_answers size look_up base l.items) (last_answer l.ending)
+      (entry_answers-sound base l.items) (last_answer-sound l.ending)
 
 -- the list of a view, where each entry takes a byte at least
 module _ {P : Type 0} (next : EntryReads P)
     (shorter : (v : View) (e : Option (ListEntry P)) (w : View) → Ok (e, w) ≡ next v
     → length w.bytes < length v.bytes) where
-  within_ended : (n : ℕ) (v : View) → length v.bytes ≡ 0 → list_within next n v ≡ no_entries used_up
-  unfolding list_within
-  within_ended zero v h = refl
-  within_ended (suc n) v h = let t : (length v.bytes == 0) ≡ true = rw h refl in rw t refl
+  abbrev size : View → ℕ
+  size v = length v.bytes
 
-  within_some : (n : ℕ) (v : View) → (length v.bytes ≡ 0 → ⊥)
-      → list_within next (suc n) v ≡ then_list (next v) (list_within next n)
-  unfolding list_within
-  within_some n v some = let t : (length v.bytes == 0) ≡ false = ne_eqb (length v.bytes) 0 some in
-      rw t refl
+  abbrev Standing : Type 0
+  Standing = Result (ListEntry P × View) Ending
 
-  -- any number that is enough gives the same list
-  within_enough : (m n : ℕ) (v : View) → length v.bytes ≤ m → length v.bytes ≤ n
-      → list_within next m v ≡ list_within next n v
-  within_enough zero n v h k =
-      let none : length v.bytes ≡ 0 = omega (arith, h) in
-      within_ended zero v none ∙ sym (within_ended n v none)
-  within_enough (suc m) zero v h k =
-      let none : length v.bytes ≡ 0 = omega (arith, k) in
-      within_ended (suc m) v none ∙ sym (within_ended zero v none)
-  within_enough (suc m) (suc n) v h k = elim (eqb_tells (length v.bytes) 0) [
-    | inl none ↦ within_ended (suc m) v none.1 ∙ sym (within_ended (suc n) v none.1)
-    | inr some ↦ within_some m v some.1
-        ∙ read (next v) refl
-        (λ w lt. within_enough m n w (omega (arith, h, lt)) (omega (arith, k, lt)))
-        ∙ sym (within_some n v some.1)
-  ]
-    where
-      read : (r : Reads (Option (ListEntry P))) → r ≡ next v
-          → ((w : View) → length w.bytes < length v.bytes
-          → list_within next m w ≡ list_within next n w)
-          → then_list r (list_within next m) ≡ then_list r (list_within next n)
-      read (Err e) is rest = refl
-      read (Ok (None, w)) is rest = refl
-      read (Ok (Some e, w)) is rest = ap (then_entry e) (rest w (shorter v (Some e) w is))
+  -- where a byte is left, what is read tells what stands there
+  by_read : (v : View) (r : Reads (Option (ListEntry P))) → (length v.bytes ≡ 0 → ⊥) → r ≡ next v
+      → entry_of_read r ≡ entry_or_end next v
+  unfolding entry_or_end
+  by_read v r some h =
+      let t : (length v.bytes == 0) ≡ false = ne_eqb (length v.bytes) 0 some in rw (t, ← h) refl
+
+  list_over : (v : View) (e : Ending) → Err e ≡ entry_or_end next v → list_at next v ≡ no_item e
+  unfolding list_at
+  list_over v e h = chain_ended size (entry_or_end next) used_up v e h
 
   -- where no byte is left there is no entry
-  pub list_ended : (v : View) → length v.bytes ≡ 0 → list_at next v ≡ no_entries used_up
-  unfolding list_at
-  list_ended v none = within_ended (length v.bytes) v none
-
-  list_some : (v : View) → (length v.bytes ≡ 0 → ⊥)
-      → list_at next v ≡ then_list (next v) (list_within next (length v.bytes - 1))
-  unfolding list_at
-  list_some v some =
-      let one : length v.bytes ≡ suc (length v.bytes - 1) = omega (arith, some) in
-      ap (λ k. list_within next k v) one ∙ within_some (length v.bytes - 1) v some
+  pub list_ended : (v : View) → length v.bytes ≡ 0 → list_at next v ≡ no_item used_up
+  unfolding entry_or_end
+  list_ended v none =
+      let t : (length v.bytes == 0) ≡ true = rw none refl in list_over v used_up (rw t refl)
 
   -- the end of a list ends it
   pub list_end : (v w : View) → (length v.bytes ≡ 0 → ⊥) → Ok (None, w) ≡ next v
-      → list_at next v ≡ no_entries end_of_list
-  list_end v w some h =
-      list_some v some ∙ ap (λ r. then_list r (list_within next (length v.bytes - 1))) (sym h)
+      → list_at next v ≡ no_item end_of_list
+  list_end v w some h = list_over v end_of_list (by_read v (Ok (None, w)) some h)
 
   -- a refusal ends a list
   pub list_refused : (v : View) (e : Error) → (length v.bytes ≡ 0 → ⊥) → Err e ≡ next v
-      → list_at next v ≡ no_entries (refused e)
-  list_refused v e some h =
-      list_some v some ∙ ap (λ r. then_list r (list_within next (length v.bytes - 1))) (sym h)
+      → list_at next v ≡ no_item (refused e)
+  list_refused v e some h = list_over v (refused e) (by_read v (Err e) some h)
+
+  none_stands : (v : View) (e : ListEntry P) (w : View) → length v.bytes ≡ 0
+      → Ok (e, w) ≡ entry_or_end next v → ⊥
+  unfolding entry_or_end
+  none_stands v e w none h =
+      let t : (length v.bytes == 0) ≡ true = rw none refl in
+      let same : ◌≡◌ {A = Standing} (Ok (e, w)) (Err used_up) = rw t at h in cc
+
+  -- fewer bytes are left after an entry
+  smaller : (v : View) (e : ListEntry P) (w : View) → Ok (e, w) ≡ entry_or_end next v
+      → size w < size v
+  smaller v e w h = elim (eqb_tells (length v.bytes) 0) [
+    | inl none ↦ absurd (none_stands v e w none.1 h)
+    | inr some ↦ by (next v) refl (h ∙ sym (by_read v (next v) some.1 refl))
+  ]
+    where
+      by : (r : Reads (Option (ListEntry P))) → r ≡ next v → Ok (e, w) ≡ entry_of_read r
+          → size w < size v
+      by (Ok (Some x, y)) is same =
+          let pair : (e, w) ≡ (x, y) = cc in
+          let left : w ≡ y = ap (λ (z : ListEntry P × View). z.1) pair in
+          let less = shorter v (Some x) y is in
+          rw left less
+      by (Ok (None, y)) is same = absurd (cc)
+      by (Err x) is same = absurd (cc)
 
   -- an entry, and then those after it
   pub list_more : (v : View) (e : ListEntry P) (w : View) → (length v.bytes ≡ 0 → ⊥)
-      → Ok (Some e, w) ≡ next v → list_at next v ≡ then_entry e (list_at next w)
+      → Ok (Some e, w) ≡ next v → list_at next v ≡ then_item e (list_at next w)
   unfolding list_at
   list_more v e w some h =
-      let lt = shorter v (Some e) w h in
-      list_some v some ∙ ap (λ r. then_list r (list_within next (length v.bytes - 1))) (sym h)
-      ∙ ap (then_entry e)
-      (within_enough (length v.bytes - 1) (length w.bytes) w (omega (arith, lt)) (omega arith))
+      chain_more size (entry_or_end next) smaller used_up v e w
+      (by_read v (Ok (Some e, w)) some h)
 
 -- an address is read in a size that there is
 pub address_at-sized : (size : ℕ) (v : View) (p : ℕ × View) → Ok p ≡ address_at size v

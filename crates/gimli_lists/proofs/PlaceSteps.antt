@@ -10,9 +10,10 @@ use Rattle.gimli_base.specs.Offset.{answer_of}
 use Rattle.gimli_base.specs.View.{View, ended}
 use Rattle.gimli_base.specs.Reading.{Reads, skip_at}
 use Rattle.gimli_lists.specs.declared.lists.ListsFormat.{ListsFormat}
-use Rattle.gimli_lists.specs.RawList.{ListEntry, no_entries, then_entry, EntryReads, used_up}
+use Rattle.gimli_lists.specs.RawList.{ListEntry, EntryReads, used_up}
 use Rattle.gimli_lists.specs.RawList.{end_of_list, refused, RawList, list_at, left_by, next_entry}
 use Rattle.gimli_lists.specs.RawList.{IsFirstOf}
+use Rattle.gimli_base.specs.Chain.{no_item, then_item}
 use Rattle.gimli_lists.proofs.ListSteps.{list_ended, list_end, list_refused, list_more}
 use Rattle.gimli_lists.proofs.ListSteps.{entry_answers-first, resolved_list-first}
 use Rattle.gimli_lists.proofs.ListSteps.{resolved_list-none, then_answers, base_after}
@@ -408,17 +409,17 @@ module _ {P : Type 0} (grammar : Grammar P) (takes : TakesBytes grammar) (limit 
         subst Q (sym h) first_by
 
   -- a list that ends at once has no entries
-  no_entries_of : (l : RawList P) → (l ≡ no_entries end_of_list) ⊎ (l ≡ no_entries used_up)
-      → l.entries ≡ []
-  no_entries_of l (inl h) = ap (λ (x : RawList P). x.entries) h
-  no_entries_of l (inr h) = ap (λ (x : RawList P). x.entries) h
+  no_items_of : (l : RawList P) → (l ≡ no_item end_of_list) ⊎ (l ≡ no_item used_up)
+      → l.items ≡ []
+  no_items_of l (inl h) = ap (λ (x : RawList P). x.items) h
+  no_items_of l (inr h) = ap (λ (x : RawList P). x.items) h
 
   -- where nothing is left the place stays after no entry
   behind_none : (p q : ListPlace) → q ≡ record p { raw = q.raw } → entries_ahead grammar p ≡ []
       → length q.raw.rest.bytes ≡ 0 → IsAfterEntries grammar limit (read_from grammar limit p) p q
   behind_none p q same none left =
       let after : entries_ahead grammar q
-      ≡ [] = ap (λ l. l.entries) (list_ended (entries q) (shorter q) q.raw.rest left) in
+      ≡ [] = ap (λ l. l.items) (list_ended (entries q) (shorter q) q.raw.rest left) in
       let Q : List (ListEntry P) → Type 0 =
       λ es. let n = entries_read p.raw.encoding.address_size (look_up_of limit p) p.base es in
       (entries_ahead grammar q ≡ drop n es)
@@ -430,14 +431,14 @@ module _ {P : Type 0} (grammar : Grammar P) (takes : TakesBytes grammar) (limit 
       → IsAfterEntries grammar limit (read_from grammar limit p) p q
   behind_end p q same h =
       behind_none p q same
-      (no_entries_of (list_at (reads p.raw) p.raw.rest) (list_from p.raw q.raw (Ok None) h).0)
+      (no_items_of (list_at (reads p.raw) p.raw.rest) (list_from p.raw q.raw (Ok None) h).0)
       (next_raw-ended p.raw q.raw h)
 
   pub behind_refused : (p q : ListPlace) (e : Error) → q ≡ record p { raw = q.raw }
       → ◌≡◌ {A = Next P} (Err e, q.raw) (next_raw grammar p.raw)
       → IsAfterEntries grammar limit (read_from grammar limit p) p q
   behind_refused p q e same h =
-      behind_none p q same (ap (λ (l : RawList P). l.entries) (list_from p.raw q.raw (Err e) h).0)
+      behind_none p q same (ap (λ (l : RawList P). l.items) (list_from p.raw q.raw (Err e) h).0)
       (next_raw-refused p.raw q.raw e h)
 
   -- the place after an entry, when w is left
@@ -447,7 +448,7 @@ module _ {P : Type 0} (grammar : Grammar P) (takes : TakesBytes grammar) (limit 
 
   module _ (p : ListPlace) (e : (ListEntry P)) (w : View)
       (left : list_at (grammar p.raw.format p.raw.encoding) p.raw.rest
-      ≡ then_entry e (list_at (grammar p.raw.format p.raw.encoding) w)) where
+      ≡ then_item e (list_at (grammar p.raw.format p.raw.encoding) w)) where
     abbrev Stands : ListPlace → List (ListEntry P) → ℕ → Type 0
     Stands q es n = (entries_ahead grammar q ≡ drop n es)
         × (q.base ≡ base_before (look_up_of limit p) p.base es n)
@@ -461,7 +462,7 @@ module _ {P : Type 0} (grammar : Grammar P) (takes : TakesBytes grammar) (limit 
     as_cons : (q : ListPlace) → Stands q (e ∷ others) (count (e ∷ others))
         → IsAfterEntries grammar limit (read_from grammar limit p) p q
     as_cons q h = let Q : List (ListEntry P) → Type 0 = λ es. Stands q es (count es) in
-        subst Q (sym (ap (λ l. l.entries) left)) h
+        subst Q (sym (ap (λ l. l.items) left)) h
 
     past_one : is_nothing (resolve p.raw.encoding.address_size (look_up_of limit p) p.base e)
         ≡ false → IsAfterEntries grammar limit (read_from grammar limit p) p (past p e w)
@@ -527,7 +528,7 @@ module _ {P : Type 0} (grammar : Grammar P) (takes : TakesBytes grammar) (limit 
     entry_answers_step =
         ap
         (λ (l : RawList P). entry_answers p.raw.encoding.address_size (look_up_of limit p)
-        p.base l.entries) (list_from p.raw q.raw (Ok (Some e)) read)
+        p.base l.items) (list_from p.raw q.raw (Ok (Some e)) read)
         ∙ entry_answers-first p.raw.encoding.address_size (look_up_of limit p) p.base e
         (entries_ahead grammar (past p e q.raw.rest))
         ∙ ap (λ r. then_answers r (entry_answers_ahead grammar limit (past p e q.raw.rest)))

@@ -1,5 +1,5 @@
 -- The sets ahead of a place, as the reading of a header moves it.
-use Rattle.std.specs.Prelude.{◌≡◌, ℕ, zero, suc, ◌+◌, ◌-◌, ◌<◌, ◌≤◌, ◌==◌, true, false, [], ◌∷◌}
+use Rattle.std.specs.Prelude.{◌≡◌, ℕ, ◌+◌, ◌<◌, ◌==◌, true, false, [], ◌∷◌}
 use Rattle.std.specs.Prelude.{◌++◌, length, Option, Some, None, Result, Ok, Err}
 use Rattle.std.specs.Option.{option_to_list, option_transpose}
 use Rattle.std.proofs.Common.{refl, sym, ap, ◌∙◌, arith, inl, inr}
@@ -9,29 +9,32 @@ use Rattle.gimli_base.specs.declared.error.Error.{Error}
 use Rattle.gimli_base.specs.View.{View, ended}
 use Rattle.gimli_base.specs.Reading.{Reads}
 use Rattle.gimli_lists.specs.ArangeSets.{ArangeSet, SetsPlace, set_length, after_set, set_at}
-use Rattle.gimli_lists.specs.ArangeSets.{sets_within, sets_ahead, next_set}
+use Rattle.gimli_lists.specs.ArangeSets.{set_or_end, sets_ahead, next_set}
+use Rattle.gimli_base.specs.Chain.{each_answer}
+use Rattle.gimli_base.proofs.ChainSteps.{chain_ended, chain_more}
 use Rattle.gimli_lists.proofs.SetReads.{set_at-read, set_at-shorter}
 
 module _ (limit : ℕ) where
-  within_ended : (n : ℕ) (p : SetsPlace) → length p.rest.bytes ≡ 0 → sets_within limit n p ≡ []
-  unfolding sets_within
-  within_ended zero p h = refl
-  within_ended (suc n) p h = let t : (length p.rest.bytes == 0) ≡ true = rw h refl in rw t refl
+  abbrev size : SetsPlace → ℕ
+  size p = length p.rest.bytes
 
-  within_refused : (n : ℕ) (p : SetsPlace) (e : Error) → (length p.rest.bytes ≡ 0 → ⊥)
-      → Err e ≡ set_at limit p.offset p.rest → sets_within limit (suc n) p ≡ Err e ∷ []
-  unfolding sets_within
-  within_refused n p e some h =
-      let t : (length p.rest.bytes == 0) ≡ false = ne_eqb (length p.rest.bytes) 0 some in
-      rw (t, ← h) refl
+  abbrev Standing : Type 0
+  Standing = Result (ArangeSet × SetsPlace) (Option Error)
 
-  within_more : (n : ℕ) (p : SetsPlace) (s : ArangeSet) (w : View) → (length p.rest.bytes ≡ 0 → ⊥)
-      → Ok (s, w) ≡ set_at limit p.offset p.rest
-      → sets_within limit (suc n) p ≡ Ok s ∷ sets_within limit n (after_set s p)
-  unfolding sets_within
-  within_more n p s w some h =
+  -- where no byte is left there is no set
+  ahead_ended : (p : SetsPlace) → length p.rest.bytes ≡ 0 → sets_ahead limit p ≡ []
+  unfolding sets_ahead set_or_end
+  ahead_ended p none =
+      let t : (length p.rest.bytes == 0) ≡ true = rw none refl in
+      ap each_answer (chain_ended size (set_or_end limit) None p None (rw t refl))
+
+  -- a refusal is the last answer
+  ahead_refused : (p : SetsPlace) (e : Error) → (length p.rest.bytes ≡ 0 → ⊥)
+      → Err e ≡ set_at limit p.offset p.rest → sets_ahead limit p ≡ Err e ∷ []
+  unfolding sets_ahead set_or_end
+  ahead_refused p e some h =
       let t : (length p.rest.bytes == 0) ≡ false = ne_eqb (length p.rest.bytes) 0 some in
-      rw (t, ← h) refl
+      ap each_answer (chain_ended size (set_or_end limit) None p (Some e) (rw (t, ← h) refl))
 
   -- fewer bytes are left after a set
   shorter : (p : SetsPlace) (s : ArangeSet) (w : View) → Ok (s, w) ≡ set_at limit p.offset p.rest
@@ -41,57 +44,35 @@ module _ (limit : ℕ) where
       let rest = ap (λ (v : View). length v.bytes) (set_at-read limit p.offset p.rest s w h).rest in
       omega (arith, left, rest)
 
-  -- any number that is enough gives the same sets
-  within_enough : (m n : ℕ) (p : SetsPlace) → length p.rest.bytes ≤ m → length p.rest.bytes ≤ n
-      → sets_within limit m p ≡ sets_within limit n p
-  within_enough zero n p h k =
-      let none : length p.rest.bytes ≡ 0 = omega (arith, h) in
-      within_ended zero p none ∙ sym (within_ended n p none)
-  within_enough (suc m) zero p h k =
-      let none : length p.rest.bytes ≡ 0 = omega (arith, k) in
-      within_ended (suc m) p none ∙ sym (within_ended zero p none)
-  within_enough (suc m) (suc n) p h k = elim (eqb_tells (length p.rest.bytes) 0) [
-    | inl none ↦ within_ended (suc m) p none.1 ∙ sym (within_ended (suc n) p none.1)
-    | inr some ↦ read (set_at limit p.offset p.rest) refl some.1
-        (λ q lt. within_enough m n q (omega (arith, h, lt)) (omega (arith, k, lt)))
+  smaller : (p : SetsPlace) (s : ArangeSet) (q : SetsPlace) → Ok (s, q) ≡ set_or_end limit p
+      → size q < size p
+  unfolding set_or_end
+  smaller p s q h = elim (eqb_tells (length p.rest.bytes) 0) [
+    | inl none ↦
+        let is : ◌≡◌ {A = Standing} (Ok (s, q)) (Err None) = rw none.0 at h in absurd (cc)
+    | inr some ↦ by (set_at limit p.offset p.rest) refl (rw some.0 at h)
   ]
     where
-      read : (r : Reads ArangeSet) → r ≡ set_at limit p.offset p.rest
-          → (length p.rest.bytes ≡ 0 → ⊥)
-          → ((q : SetsPlace) → length q.rest.bytes < length p.rest.bytes
-          → sets_within limit m q ≡ sets_within limit n q)
-          → sets_within limit (suc m) p ≡ sets_within limit (suc n) p
-      read (Err e) is some rest = within_refused m p e some is ∙ sym (within_refused n p e some is)
-      read (Ok q) is some rest =
-          within_more m p q.0 q.1 some is
-          ∙ ap (λ ss. Ok q.0 ∷ ss) (rest (after_set q.0 p) (shorter p q.0 q.1 is))
-          ∙ sym (within_more n p q.0 q.1 some is)
-
-  -- where no byte is left there is no set
-  ahead_ended : (p : SetsPlace) → length p.rest.bytes ≡ 0 → sets_ahead limit p ≡ []
-  unfolding sets_ahead
-  ahead_ended p none = within_ended (length p.rest.bytes) p none
-
-  -- a refusal is the last answer
-  ahead_refused : (p : SetsPlace) (e : Error) → (length p.rest.bytes ≡ 0 → ⊥)
-      → Err e ≡ set_at limit p.offset p.rest → sets_ahead limit p ≡ Err e ∷ []
-  unfolding sets_ahead
-  ahead_refused p e some h =
-      let one : length p.rest.bytes ≡ suc (length p.rest.bytes - 1) = omega (arith, some) in
-      ap (λ k. sets_within limit k p) one ∙ within_refused (length p.rest.bytes - 1) p e some h
+      by : (r : Reads ArangeSet) → r ≡ set_at limit p.offset p.rest
+          → ◌≡◌ {A = Standing} (Ok (s, q))
+          (elim r [ Ok x ↦ Ok (x.0, after_set x.0 p) | Err e ↦ Err (Some e) ])
+          → size q < size p
+      by (Ok x) is same =
+          let pair : (s, q) ≡ (x.0, after_set x.0 p) = cc in
+          let left : q ≡ after_set x.0 p = ap (λ (y : ArangeSet × SetsPlace). y.1) pair in
+          let less = shorter p x.0 x.1 is in
+          rw left less
+      by (Err e) is same = absurd (cc)
 
   -- a set, and then those after its whole length
   ahead_more : (p : SetsPlace) (s : ArangeSet) (w : View) → (length p.rest.bytes ≡ 0 → ⊥)
       → Ok (s, w) ≡ set_at limit p.offset p.rest
       → sets_ahead limit p ≡ Ok s ∷ sets_ahead limit (after_set s p)
-  unfolding sets_ahead
+  unfolding sets_ahead set_or_end
   ahead_more p s w some h =
-      let one : length p.rest.bytes ≡ suc (length p.rest.bytes - 1) = omega (arith, some) in
-      let lt = shorter p s w h in
-      ap (λ k. sets_within limit k p) one ∙ within_more (length p.rest.bytes - 1) p s w some h
-      ∙ ap (λ ss. Ok s ∷ ss)
-      (within_enough (length p.rest.bytes - 1) (length (after_set s p).rest.bytes) (after_set s p)
-      (omega (arith, lt)) (omega arith))
+      let t : (length p.rest.bytes == 0) ≡ false = ne_eqb (length p.rest.bytes) 0 some in
+      ap each_answer
+      (chain_more size (set_or_end limit) smaller None p s (after_set s p) (rw (t, ← h) refl))
 
   abbrev Next : Type 0
   Next = Option (Result ArangeSet Error) × SetsPlace

@@ -1,5 +1,5 @@
 -- The sets of ranges of addresses in a section, and the header of each (DWARF 5, 6.1.2 and 7.21).
-use Rattle.std.specs.Prelude.{◌≡◌, ℕ, zero, suc, ◌+◌, ◌-◌, ◌*◌, ◌%◌, ◌==◌, ◌||◌, if◌then◌else◌}
+use Rattle.std.specs.Prelude.{◌≡◌, ℕ, ◌+◌, ◌-◌, ◌*◌, ◌%◌, ◌==◌, ◌||◌, if◌then◌else◌}
 use Rattle.std.specs.Prelude.{List, [], ◌∷◌, length, Option, Some, None, Result, Ok, Err}
 use Rattle.std.specs.Prelude.{MatchOption}
 use Rattle.gimli_base.specs.declared.common.Encoding.{Encoding}
@@ -8,6 +8,7 @@ use Rattle.gimli_base.specs.declared.error.Error.{Error}
 use Rattle.gimli_base.specs.declared.error.Error.TheVariants.{UnknownVersion}
 use Rattle.gimli_base.specs.declared.error.Error.TheVariants.{UnsupportedSegmentSize}
 use Rattle.gimli_base.specs.Address.{alone}
+use Rattle.gimli_base.specs.Chain.{chain, each_answer}
 use Rattle.gimli_base.specs.View.{View, cut, ended}
 use Rattle.gimli_base.specs.Reading.{Reads, ◌>>=◌, made, byte_at, uint_at, offset_at}
 use Rattle.gimli_base.specs.Reading.{address_size_at, initial_length_at, initial_length_size_of}
@@ -84,20 +85,22 @@ set_length s = initial_length_size_of s.encoding.format + s.length_field
 abbrev pub after_set : ArangeSet → SetsPlace → SetsPlace
 after_set s p = record { rest = cut (set_length s) p.rest; offset = p.offset + set_length s }
 
--- The sets from a place on, each as an answer: each begins where the whole length of the one before
--- ends, up to the end of the bytes, or to the first header that is refused, which is the last
--- answer. Each takes a byte at least, so that n, the number of bytes, is enough.
-unfoldable pub sets_within : ℕ → ℕ → SetsPlace → List (Result ArangeSet Error)
-sets_within limit zero p = []
-sets_within limit (suc n) p =
-    if length p.rest.bytes == 0 then []
+-- what stands at a place: a set, and the place after its whole length, or the end: the refusal of
+-- its header, or none where no byte is left
+unfoldable pub set_or_end : ℕ → SetsPlace → Result (ArangeSet × SetsPlace) (Option Error)
+set_or_end limit p =
+    if length p.rest.bytes == 0 then Err None
     else elim (set_at limit p.offset p.rest) [
-      | Ok q ↦ Ok q.0 ∷ sets_within limit n (after_set q.0 p)
-      | Err e ↦ Err e ∷ []
+      | Ok q ↦ Ok (q.0, after_set q.0 p)
+      | Err e ↦ Err (Some e)
     ]
 
+-- the sets from a place on, each as an answer, up to the end of the bytes, or to the first header
+-- that is refused, which is the last answer; each takes a byte at least, so that the end handed to
+-- `chain` never shows
 unfoldable pub sets_ahead : ℕ → SetsPlace → List (Result ArangeSet Error)
-sets_ahead limit p = sets_within limit (length p.rest.bytes) p
+sets_ahead limit p =
+    each_answer (chain (λ q. length q.rest.bytes) (set_or_end limit) None p)
 
 -- the sets of a section, the first at 0
 abbrev pub sets_of : ℕ → View → List (Result ArangeSet Error)

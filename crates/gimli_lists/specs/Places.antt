@@ -112,7 +112,7 @@ list_ahead grammar p = raw_list_ahead grammar p.raw
 
 -- the entries of the list that are left at a place
 abbrev pub entries_ahead : {P : Type 0} → Grammar P → ListPlace → List (ListEntry P)
-entries_ahead grammar p = (list_ahead grammar p).entries
+entries_ahead grammar p = (list_ahead grammar p).items
 
 -- the answers of the list that begins at a place, with the base address at hand
 unfoldable pub answers_ahead : {P : Type 0} → Grammar P → ℕ → ListPlace

@@ -1,10 +1,11 @@
 -- Range lists and location lists as they lie in the bytes: entries one after the other, and how
 -- they end (DWARF 5, 2.6.2, 2.17.3, 7.7.3 and 7.25; DWARF 4, 2.6.2 and 2.17.3).
-use Rattle.std.specs.Prelude.{◌≡◌, ◌⊎◌, ℕ, zero, suc, ◌==◌, ◌&&◌, if◌then◌else◌, List, [], ◌∷◌}
+use Rattle.std.specs.Prelude.{◌≡◌, ◌⊎◌, ℕ, ◌==◌, ◌&&◌, if◌then◌else◌}
 use Rattle.std.specs.Prelude.{length, Option, Some, None, Result, Ok, Err}
 use Rattle.gimli_base.specs.declared.error.Error.{Error}
 use Rattle.gimli_base.specs.View.{View, ended}
 use Rattle.gimli_base.specs.Address.{ones_sized}
+use Rattle.gimli_base.specs.Chain.{Chain, no_item, then_item, chain}
 use Rattle.gimli_base.specs.Reading.{Reads, ◌>>=◌, made, as_offset, uleb_at, address_at}
 
 -- an entry of a list, with what stands after its operands: nothing in a range list, and an
@@ -47,42 +48,32 @@ abbrev pub two_at : {P : Type 0} → (View → Reads P) → (View → Reads ℕ)
 two_at payload first second entry v =
     first v >>= λ a. second a.1 >>= λ b. made (λ p. Some (entry a.0 b.0 p)) (payload b.1)
 
--- entries, and how they end: with the entry that says so, where the bytes are used up, or with a
--- refusal
+-- how entries end: with the entry that says so, where the bytes are used up, or with a refusal
 pub data Ending : Type 0 where
   end_of_list : Ending
   used_up : Ending
   refused : Error → Ending
 
-pub record RawList (P : Type 0) : Type 0 where
-  pub entries : List (ListEntry P)
-  pub ending : Ending
+-- entries one after the other, and how they end
+abbrev pub RawList : Type 0 → Type 0
+RawList P = Chain (ListEntry P) Ending
 
--- no entry
-abbrev pub no_entries : {P : Type 0} → Ending → RawList P
-no_entries ending = record { entries = []; ending = ending }
+-- what a read tells of a place: an entry, and what is left after it, or the end
+abbrev pub entry_of_read : {P : Type 0} → Reads (Option (ListEntry P))
+    → Result (ListEntry P × View) Ending
+entry_of_read (Ok p) = elim p.0 [ Some e ↦ Ok (e, p.1) | None ↦ Err end_of_list ]
+entry_of_read (Err e) = Err (refused e)
 
--- an entry before others
-abbrev pub then_entry : {P : Type 0} → ListEntry P → RawList P → RawList P
-then_entry e l = record { entries = e ∷ l.entries; ending = l.ending }
+-- what stands at a place: the entry that `next` reads, and what is left after it, or the end, which
+-- is `used_up` where no byte is left
+unfoldable pub entry_or_end : {P : Type 0} → EntryReads P → View
+    → Result (ListEntry P × View) Ending
+entry_or_end next v = if length v.bytes == 0 then Err used_up else entry_of_read (next v)
 
--- what was read, and then the entries of what is left
-abbrev pub then_list : {P : Type 0} → Reads (Option (ListEntry P)) → (View → RawList P) → RawList P
-then_list (Ok p) rest =
-    elim p.0 [ Some e ↦ then_entry e (rest p.1) | None ↦ no_entries end_of_list ]
-then_list (Err e) rest = no_entries (refused e)
-
--- The entries of a view, of which `next` reads each: one after the other, up to the one that ends
--- the list, the end of the bytes or the first that is refused. Each takes a byte at least, so that
--- n, the number of bytes, is enough.
-unfoldable pub list_within : {P : Type 0} → EntryReads P → ℕ → View → RawList P
-list_within next zero v = no_entries used_up
-list_within next (suc n) v =
-    if length v.bytes == 0 then no_entries used_up else then_list (next v) (list_within next n)
-
--- the list that begins here
+-- the list that begins here: its entries up to the one that ends it, the end of the bytes or the
+-- first that is refused; each takes a byte at least, so that the end handed to `chain` never shows
 unfoldable pub list_at : {P : Type 0} → EntryReads P → View → RawList P
-list_at next v = list_within next (length v.bytes) v
+list_at next v = chain (λ w. length w.bytes) (entry_or_end next) used_up v
 
 -- an answer, and the view that it leaves: after an entry what follows it, after the end and
 -- after a refusal nothing
@@ -101,6 +92,6 @@ next_entry next v = if length v.bytes == 0 then (Ok None, v) else left_by v (nex
 abbrev pub IsFirstOf : {P : Type 0} → Result (Option (ListEntry P)) Error → RawList P → RawList P
     → Type 0
 IsFirstOf (Ok None) l rest =
-    ((l ≡ no_entries end_of_list) ⊎ (l ≡ no_entries used_up)) × (rest ≡ no_entries used_up)
-IsFirstOf (Ok (Some e)) l rest = l ≡ then_entry e rest
-IsFirstOf (Err e) l rest = (l ≡ no_entries (refused e)) × (rest ≡ no_entries used_up)
+    ((l ≡ no_item end_of_list) ⊎ (l ≡ no_item used_up)) × (rest ≡ no_item used_up)
+IsFirstOf (Ok (Some e)) l rest = l ≡ then_item e rest
+IsFirstOf (Err e) l rest = (l ≡ no_item (refused e)) × (rest ≡ no_item used_up)

@@ -107,7 +107,7 @@ entry_answers size look_up base entries =
 unfoldable pub resolved_list : {P : Type 0} → ℕ → LookUp → ℕ → RawList P
     → List (Result (Resolved P) Error)
 resolved_list size look_up base l =
-    entry_answers size look_up base l.entries ++ last_answer l.ending
+    entry_answers size look_up base l.items ++ last_answer l.ending
 
 -- whether an entry stands for nothing
 abbrev pub is_nothing : {A : Type 0} → Result (Option A) Error → Bool

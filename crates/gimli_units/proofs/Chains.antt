@@ -7,7 +7,7 @@ use Rattle.gimli_base.specs.declared.error.Error.{Error}
 use Rattle.gimli_base.specs.View.{View}
 use Rattle.gimli_base.specs.Reading.{Reads, eof, byte_at, uleb16_at, uleb_within}
 use Rattle.gimli_base.proofs.Later.{IsLater-length, uleb16_at-later}
-use Rattle.gimli_units.specs.Form.{chain, form_at, declared_number}
+use Rattle.gimli_units.specs.Form.{form_within, form_at, declared_number}
 
 uleb16_at-none : (v : View) → length v.bytes ≤ 0 → uleb16_at v ≡ Err (eof v)
 unfolding uleb16_at uleb_within byte_at
@@ -21,11 +21,11 @@ uleb16_at-shorter v f w h = omega (arith, IsLater-length 1 v w (uleb16_at-later 
 pub record EndsAs (total : Reads ℕ) (f : ℕ) (v : View) : Type 0 where
   pub fuel : ℕ
   pub enough : length v.bytes ≤ fuel
-  pub same : total ≡ chain fuel f v
+  pub same : total ≡ form_within fuel f v
 
-more : (k : ℕ) (total : Reads ℕ) (v w : View) (f : ℕ) → length v.bytes ≤ k → total ≡ chain k 0x16 v
+more : (k : ℕ) (total : Reads ℕ) (v w : View) (f : ℕ) → length v.bytes ≤ k → total ≡ form_within k 0x16 v
     → Ok (f, w) ≡ uleb16_at v → EndsAs total f w
-unfolding chain
+unfolding form_within
 more zero total v w f le same h = let lt = uleb16_at-shorter v f w h in
     absurd (omega (arith, lt, le))
 more (suc k) total v w f le same h =
@@ -35,21 +35,21 @@ more (suc k) total v w f le same h =
 pub chain_more : (total : Reads ℕ) (v w : View) (g f : ℕ) → g ≡ 0x16 → EndsAs total g v
     → Ok (f, w) ≡ uleb16_at v → EndsAs total f w
 chain_more total v w g f is s h =
-    more s.fuel total v w f s.enough (s.same ∙ ap (λ x. chain s.fuel x v) is) h
+    more s.fuel total v w f s.enough (s.same ∙ ap (λ x. form_within s.fuel x v) is) h
 
 refused : (k : ℕ) (total : Reads ℕ) (v : View) (e : Error) → length v.bytes ≤ k
-    → total ≡ chain k 0x16 v → Err e ≡ uleb16_at v → Err e ≡ total
-unfolding chain
+    → total ≡ form_within k 0x16 v → Err e ≡ uleb16_at v → Err e ≡ total
+unfolding form_within
 refused zero total v e le same h = h ∙ uleb16_at-none v le ∙ sym same
 refused (suc k) total v e le same h = sym (same ∙ rw (← h) refl)
 
 pub chain_refused : (total : Reads ℕ) (v : View) (g : ℕ) (e : Error) → g ≡ 0x16 → EndsAs total g v
     → Err e ≡ uleb16_at v → Err e ≡ total
 chain_refused total v g e is s h =
-    refused s.fuel total v e s.enough (s.same ∙ ap (λ x. chain s.fuel x v) is) h
+    refused s.fuel total v e s.enough (s.same ∙ ap (λ x. form_within s.fuel x v) is) h
 
-ended : (k form : ℕ) (v : View) → (form ≡ 0x16 → ⊥) → chain k form v ≡ Ok (form, v)
-unfolding chain
+ended : (k form : ℕ) (v : View) → (form ≡ 0x16 → ⊥) → form_within k form v ≡ Ok (form, v)
+unfolding form_within
 ended zero form v ne = let t : (form == 0x16) ≡ false = ne_eqb form 0x16 ne in rw t refl
 ended (suc k) form v ne = let t : (form == 0x16) ≡ false = ne_eqb form 0x16 ne in rw t refl
 

@@ -22,7 +22,7 @@ use Rattle.gimli_units.specs.declared.value.AttributeValue.TheVariants.{SecOffse
 use Rattle.gimli_units.specs.Layout.{Layout, byte, number, section_or, address, uleb, sleb, offset}
 use Rattle.gimli_units.specs.Layout.{word_offset, reference, offset_leb, offset_leb_and, block}
 use Rattle.gimli_units.specs.Layout.{block_leb, text, nothing, constant, layout_of}
-use Rattle.gimli_units.specs.Form.{is_section_name, uleb_offset_at, value_in, direct_at, chain}
+use Rattle.gimli_units.specs.Form.{is_section_name, uleb_offset_at, value_in, direct_at, form_within}
 use Rattle.gimli_units.specs.Form.{form_at, declared_number, value_at}
 use Rattle.gimli_units.specs.Entry.{Entry, attribute_at, attributes_at, abbreviation_at, content_at}
 use Rattle.gimli_units.specs.Entry.{entry_at}
@@ -108,8 +108,8 @@ direct_at-later limit e name c form v = cases (layout_of form)
     cases (Some l) = value_in-later limit e name c l v
     cases None = err_leaves_later {A = Value} 0 v _
 
-chain-later : (n form : ℕ) (v : View) → LeavesLater 0 v (chain n form v)
-unfolding chain
+chain-later : (n form : ℕ) (v : View) → LeavesLater 0 v (form_within n form v)
+unfolding form_within
 chain-later zero form v =
     if_leaves_later 0 v (form == 0x16) _ _ (err_leaves_later {A = ℕ} 0 v _)
     (ok_leaves_later 0 v (form, v) (IsLater-none v))

@@ -31,7 +31,7 @@ behind_by start k before (s ∷ rest) =
 pub rows_by : (next : View → Reads Entry) (end : ℕ) (depth k : ℤ) (v : View)
     → (ahead_at next end (depth +ℤ k) v).rows ≡ map (deeper_by k) (ahead_at next end depth v).rows
 unfolding ahead_at
-rows_by next end depth k v = behind_by depth k [] (entries_at next end v).sited
+rows_by next end depth k v = behind_by depth k [] (entries_at next end v).items
 
 bool_by : (a b : Bool) → (a ≡ true → b ≡ true) → (b ≡ true → a ≡ true) → a ≡ b
 bool_by true b f g = sym (f refl)

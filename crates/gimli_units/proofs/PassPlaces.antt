@@ -21,7 +21,7 @@ use Rattle.gimli_units.proofs.EntryReads.{form_at-later}
 use Rattle.gimli_units.specs.Layout.{Layout, byte, number, section_or, address, uleb, sleb, offset}
 use Rattle.gimli_units.specs.Layout.{word_offset, reference, offset_leb, offset_leb_and, block}
 use Rattle.gimli_units.specs.Layout.{block_leb, text, nothing, constant, layout_of}
-use Rattle.gimli_units.specs.Form.{uleb_offset_at, chain, form_at}
+use Rattle.gimli_units.specs.Form.{uleb_offset_at, form_within, form_at}
 use Rattle.gimli_units.proofs.PassReads.{leb-later}
 use Rattle.gimli_units.specs.Passing.{pass, pass_direct, pass_at, NamesPlaceOf}
 
@@ -223,8 +223,8 @@ direct_refuses limit e form v = by (layout_of form)
     by (Some l) = pass_refuses limit e l v
     by None = err_refuses v _ (λ n is. absurd (cc))
 
-chain_refuses : (n form : ℕ) (v : View) → RefusesIn v (chain n form v)
-unfolding chain
+chain_refuses : (n form : ℕ) (v : View) → RefusesIn v (form_within n form v)
+unfolding form_within
 chain_refuses zero form v =
     if_refuses v (form == 0x16) _ _ (err_refuses v (eof v) (place_here v)) (ok_refuses v (form, v))
 chain_refuses (suc n) form v = if_refuses v (form == 0x16) _ _

@@ -1,7 +1,7 @@
 -- The rows ahead of a place, as the reading of an entry moves it (DWARF 5, 2.3).
-use Rattle.std.specs.Prelude.{◌≡◌, ℕ, zero, suc, ◌+◌, ◌-◌, ◌<◌, ◌≤◌, ◌==◌, ℤ, pos, ◌+ℤ◌, ◌-ℤ◌, Bool}
+use Rattle.std.specs.Prelude.{◌≡◌, ℕ, ◌+◌, ◌<◌, ◌==◌, ℤ, pos, ◌+ℤ◌, ◌-ℤ◌, Bool}
 use Rattle.std.specs.Prelude.{true, false, cond, if◌then◌else◌, List, [], ◌∷◌, ◌++◌, length}
-use Rattle.std.specs.Prelude.{count_by, Some, None, Ok, Err}
+use Rattle.std.specs.Prelude.{count_by, Option, Some, None, Result, Ok, Err}
 use Rattle.std.specs.List.{fold}
 use Rattle.std.proofs.Common.{refl, sym, ap, ◌∙◌, arith, append_assoc, inl, inr}
 use Rattle.std.proofs.lemmas.Int.{ints}
@@ -13,8 +13,10 @@ use Rattle.gimli_base.specs.View.{View}
 use Rattle.gimli_base.specs.Reading.{Reads}
 use Rattle.gimli_units.specs.Entry.{Entry, is_null}
 use Rattle.gimli_units.specs.RawPlace.{below_flag, depth_after}
-use Rattle.gimli_units.specs.Rows.{Sited, Entries, Row, Ahead, offset_of_view, then_sited, no_row}
-use Rattle.gimli_units.specs.Rows.{entries_within, entries_at, depth_behind, rows_behind, ahead_at}
+use Rattle.gimli_units.specs.Rows.{Sited, EntriesEnd, Row, Ahead, offset_of_view, no_row}
+use Rattle.gimli_units.specs.Rows.{sited_or_end, entries_at, depth_behind, rows_behind, ahead_at}
+use Rattle.gimli_base.specs.Chain.{no_item, then_item}
+use Rattle.gimli_base.proofs.ChainSteps.{chain_ended, chain_more}
 
 -- a row before others
 abbrev pub then_row : Row → Ahead → Ahead
@@ -92,102 +94,87 @@ rows-first depth s rest =
     ) refl
 
 module _ (next : View → Reads Entry) (end : ℕ) where
-  within_ended : (n : ℕ) (v : View) → length v.bytes ≡ 0
-      → entries_within next end n v
-      ≡ record { sited = []; refusal = None; stop = offset_of_view end v }
-  unfolding entries_within
-  within_ended zero v h = refl
-  within_ended (suc n) v h = let t : (length v.bytes == 0) ≡ true = rw h refl in rw t refl
+  abbrev size : View → ℕ
+  size v = length v.bytes
 
-  within_refused : (n : ℕ) (v : View) (e : Error) → (length v.bytes ≡ 0 → ⊥) → Err e ≡ next v
-      → entries_within next end (suc n) v
-      ≡ record { sited = []; refusal = Some e; stop = offset_of_view end v }
-  unfolding entries_within
-  within_refused n v e some h =
-      let t : (length v.bytes == 0) ≡ false = ne_eqb (length v.bytes) 0 some in rw (t, ← h) refl
+  abbrev cut_short : EntriesEnd
+  cut_short = record { refusal = None; stop = end }
 
-  within_more : (n : ℕ) (v : View) (e : Entry) (w : View) → (length v.bytes ≡ 0 → ⊥)
-      → Ok (e, w) ≡ next v
-      → entries_within next end (suc n) v
-      ≡ then_sited
-      (record { offset = offset_of_view end v; next = offset_of_view end w; entry = e })
-      (entries_within next end n w)
-  unfolding entries_within
-  within_more n v e w some h =
-      let t : (length v.bytes == 0) ≡ false = ne_eqb (length v.bytes) 0 some in rw (t, ← h) refl
+  abbrev ending : View → Option Error → EntriesEnd
+  ending v refusal = record { refusal = refusal; stop = offset_of_view end v }
 
-  -- any number that is enough gives the same entries
-  within_enough : ((v w : View) (e : Entry) → Ok (e, w) ≡ next v → length w.bytes < length v.bytes)
-      → (m n : ℕ) (v : View) → length v.bytes ≤ m → length v.bytes ≤ n
-      → entries_within next end m v ≡ entries_within next end n v
-  within_enough shorter zero n v h k =
-      let none : length v.bytes ≡ 0 = omega (arith, h) in
-      within_ended zero v none ∙ sym (within_ended n v none)
-  within_enough shorter (suc m) zero v h k =
-      let none : length v.bytes ≡ 0 = omega (arith, k) in
-      within_ended (suc m) v none ∙ sym (within_ended zero v none)
-  within_enough shorter (suc m) (suc n) v h k = elim (eqb_tells (length v.bytes) 0) [
-    | inl none ↦ within_ended (suc m) v none.1 ∙ sym (within_ended (suc n) v none.1)
-    | inr some ↦ read (next v) refl some.1
-        (λ w lt. within_enough shorter m n w (omega (arith, h, lt)) (omega (arith, k, lt)))
-  ]
-    where
-      read : (r : Reads Entry) → r ≡ next v → (length v.bytes ≡ 0 → ⊥)
-          → ((w : View) → length w.bytes < length v.bytes
-          → entries_within next end m w ≡ entries_within next end n w)
-          → entries_within next end (suc m) v ≡ entries_within next end (suc n) v
-      read (Err e) is some rest = within_refused m v e some is ∙ sym (within_refused n v e some is)
-      read (Ok p) is some rest =
-          within_more m v p.0 p.1 some is
-          ∙ ap
-          (then_sited
-          (record {
-            offset = offset_of_view end v;
-            next = offset_of_view end p.1;
-            entry = p.0;
-          })) (rest p.1 (shorter v p.1 p.0 is))
-          ∙ sym (within_more n v p.0 p.1 some is)
+  abbrev site : View → Entry → View → Sited
+  site v e w = record { offset = offset_of_view end v; next = offset_of_view end w; entry = e }
+
+  -- what ends the entries
+  entries_ended : (v : View) (e : EntriesEnd) → Err e ≡ sited_or_end next end v
+      → entries_at next end v ≡ no_item e
+  unfolding entries_at
+  entries_ended v e h = chain_ended size (sited_or_end next end) cut_short v e h
 
   -- where no byte is left there is no row
   pub ahead_ended : (depth : ℤ) (v : View) → length v.bytes ≡ 0
       → ahead_at next end depth v ≡ no_row None (offset_of_view end v) depth
-  unfolding ahead_at entries_at rows_behind
-  ahead_ended depth v none = rw (within_ended (length v.bytes) v none, depth_behind-none depth) refl
+  unfolding ahead_at sited_or_end rows_behind
+  ahead_ended depth v none =
+      let t : (length v.bytes == 0) ≡ true = rw none refl in
+      let is : Err (ending v None) ≡ sited_or_end next end v = rw t refl in
+      rw (entries_ended v (ending v None) is, depth_behind-none depth) refl
 
   -- a refusal ends the rows
   pub ahead_refused : (depth : ℤ) (v : View) (e : Error) → (length v.bytes ≡ 0 → ⊥) → Err e ≡ next v
       → ahead_at next end depth v ≡ no_row (Some e) (offset_of_view end v) depth
-  unfolding ahead_at entries_at rows_behind
+  unfolding ahead_at sited_or_end rows_behind
   ahead_refused depth v e some h =
-      let one : length v.bytes ≡ suc (length v.bytes - 1) = omega (arith, some) in
-      let all = ap (λ k. entries_within next end k v) one
-      ∙ within_refused (length v.bytes - 1) v e some h in
-      rw (all, depth_behind-none depth) refl
+      let t : (length v.bytes == 0) ≡ false = ne_eqb (length v.bytes) 0 some in
+      let is : Err (ending v (Some e)) ≡ sited_or_end next end v = rw (t, ← h) refl in
+      rw (entries_ended v (ending v (Some e)) is, depth_behind-none depth) refl
 
-  -- an entry is a row, and the others are ahead of what is left
-  pub ahead_more : ((v w : View) (e : Entry) → Ok (e, w) ≡ next v → length w.bytes < length v.bytes)
-      → (depth : ℤ) (v : View) (e : Entry) (w : View) → (length v.bytes ≡ 0 → ⊥)
-      → Ok (e, w) ≡ next v
-      → ahead_at next end depth v
-      ≡ then_row
-      (record {
-        offset = offset_of_view end v;
-        next = offset_of_view end w;
-        depth = depth;
-        entry = e;
-      }) (ahead_at next end (depth_after e depth) w)
-  unfolding ahead_at entries_at
-  ahead_more shorter depth v e w some h =
-      let s : Sited =
-      record { offset = offset_of_view end v; next = offset_of_view end w; entry = e } in
-      let rest : Entries = entries_at next end w in
-      let one : length v.bytes ≡ suc (length v.bytes - 1) = omega (arith, some) in
-      let lt = shorter v w e h in
-      let others = within_enough shorter (length v.bytes - 1) (length w.bytes) w (omega (arith, lt))
-      (omega arith) in
-      let all : entries_at next end v ≡ then_sited s rest =
-      ap (λ k. entries_within next end k v) one ∙ within_more (length v.bytes - 1) v e w some h
-      ∙ ap (then_sited s) others in
-      let stop = same_stop depth (depth_after e depth) (s ∷ []) [] rest.sited
-      (first_behind depth s) in
-      rw (all, rows-first depth s rest.sited, stop) refl
+  module _ (shorter : (v w : View) (e : Entry) → Ok (e, w) ≡ next v
+      → length w.bytes < length v.bytes) where
+    abbrev Standing : Type 0
+    Standing = Result (Sited × View) EntriesEnd
+
+    -- fewer bytes are left after an entry
+    smaller : (v : View) (s : Sited) (w : View) → Ok (s, w) ≡ sited_or_end next end v
+        → size w < size v
+    unfolding sited_or_end
+    smaller v s w h = elim (eqb_tells (length v.bytes) 0) [
+      | inl none ↦
+          let is : ◌≡◌ {A = Standing} (Ok (s, w)) (Err (ending v None)) = rw none.0 at h in
+          absurd (cc)
+      | inr some ↦ by (next v) refl (rw some.0 at h)
+    ]
+      where
+        by : (r : Reads Entry) → r ≡ next v
+            → ◌≡◌ {A = Standing} (Ok (s, w))
+            (elim r [ Ok p ↦ Ok (site v p.0 p.1, p.1) | Err e ↦ Err (ending v (Some e)) ])
+            → size w < size v
+        by (Ok p) is same =
+            let pair : (s, w) ≡ (site v p.0 p.1, p.1) = cc in
+            let left : w ≡ p.1 = ap (λ (x : Sited × View). x.1) pair in
+            let less = shorter v p.1 p.0 is in
+            rw left less
+        by (Err e) is same = absurd (cc)
+
+    -- an entry is a row, and the others are ahead of what is left
+    pub ahead_more : (depth : ℤ) (v : View) (e : Entry) (w : View) → (length v.bytes ≡ 0 → ⊥)
+        → Ok (e, w) ≡ next v
+        → ahead_at next end depth v
+        ≡ then_row
+        (record {
+          offset = offset_of_view end v;
+          next = offset_of_view end w;
+          depth = depth;
+          entry = e;
+        }) (ahead_at next end (depth_after e depth) w)
+    unfolding ahead_at entries_at sited_or_end
+    ahead_more depth v e w some h =
+        let t : (length v.bytes == 0) ≡ false = ne_eqb (length v.bytes) 0 some in
+        let is : Ok (site v e w, w) ≡ sited_or_end next end v = rw (t, ← h) refl in
+        let rest : List Sited = (entries_at next end w).items in
+        let all : entries_at next end v ≡ then_item (site v e w) (entries_at next end w) =
+        chain_more size (sited_or_end next end) smaller cut_short v (site v e w) w is in
+        let stop = same_stop depth (depth_after e depth) (site v e w ∷ []) [] rest
+        (first_behind depth (site v e w)) in
+        rw (all, rows-first depth (site v e w) rest, stop) refl

@@ -19,7 +19,7 @@ use Rattle.std.specs.Prelude.{nat_lt, IfErr}
 use Rattle.gimli_units.specs.Layout.{Layout, byte, number, section_or, address, uleb, sleb, offset}
 use Rattle.gimli_units.specs.Layout.{word_offset, reference, offset_leb, offset_leb_and, block}
 use Rattle.gimli_units.specs.Layout.{block_leb, text, nothing, constant, layout_of}
-use Rattle.gimli_units.specs.Form.{form_at, chain}
+use Rattle.gimli_units.specs.Form.{form_at, form_within}
 use Rattle.gimli_units.proofs.WidthLaw.{form_size-known}
 use Rattle.gimli_units.specs.Passing.{pass, pass_at, pass_direct, known_size, size_of, pass_all}
 use Rattle.gimli_units.specs.Passing.{somewhere, without_place, NamesPlaceOf}
@@ -69,8 +69,8 @@ unfolding known_size layout_of
 not_indirect n form e h is =
     let k : ◌≡◌ {A = Option ℕ} (Some n) (known_size e 0x16) = h ∙ ap (λ f. known_size e f) is in cc
 
-chain_stays : (k form : ℕ) (v : View) → (form == 0x16) ≡ false → chain k form v ≡ Ok (form, v)
-unfolding chain
+chain_stays : (k form : ℕ) (v : View) → (form == 0x16) ≡ false → form_within k form v ≡ Ok (form, v)
+unfolding form_within
 chain_stays zero form v t = rw t refl
 chain_stays (suc k) form v t = rw t refl
 

@@ -81,12 +81,12 @@ direct_at limit e name c form v = elim (layout_of form) [
 
 -- The form that a chain of indirect forms leads to. Each of them takes a byte at least, so that n,
 -- the number of bytes, is enough.
-unfoldable pub chain : ℕ → ℕ → View → Reads ℕ
-chain zero form v = if form == 0x16 then Err (eof v) else Ok (form, v)
-chain (suc n) form v = if form == 0x16 then (uleb16_at v >>= λ p. chain n p.0 p.1) else Ok (form, v)
+unfoldable pub form_within : ℕ → ℕ → View → Reads ℕ
+form_within zero form v = if form == 0x16 then Err (eof v) else Ok (form, v)
+form_within (suc n) form v = if form == 0x16 then (uleb16_at v >>= λ p. form_within n p.0 p.1) else Ok (form, v)
 
 unfoldable pub form_at : ℕ → View → Reads ℕ
-form_at form v = chain (length v.bytes) form v
+form_at form v = form_within (length v.bytes) form v
 
 -- the number that stands in a declaration, which an indirect one has none of
 abbrev pub declared_number : ℕ → Option ℤ → Option ℤ

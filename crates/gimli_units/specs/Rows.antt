@@ -1,10 +1,11 @@
 -- The rows of a unit: its entries one after the other, with how they end, and the depth of each
 -- (DWARF 5, 2.3 and 7.5.2).
-use Rattle.std.specs.Prelude.{ℕ, zero, suc, ◌-◌, ◌==◌, ℤ, pos, ◌+ℤ◌, ◌-ℤ◌, if◌then◌else◌, List, []}
-use Rattle.std.specs.Prelude.{◌∷◌, ◌++◌, length, count_by, Option, Some, None, Ok, Err}
+use Rattle.std.specs.Prelude.{ℕ, ◌-◌, ◌==◌, ℤ, pos, ◌+ℤ◌, ◌-ℤ◌, if◌then◌else◌, List, [], ◌∷◌}
+use Rattle.std.specs.Prelude.{◌++◌, length, count_by, Option, Some, None, Result, Ok, Err}
 use Rattle.gimli_base.specs.declared.error.Error.{Error}
 use Rattle.gimli_base.specs.View.{View}
 use Rattle.gimli_base.specs.Reading.{Reads}
+use Rattle.gimli_base.specs.Chain.{Chain, chain}
 use Rattle.gimli_units.specs.Entry.{Entry, is_null}
 
 -- an entry where it stands, with the offset of what is after it
@@ -13,10 +14,9 @@ pub record Sited : Type 0 where
   pub next : ℕ
   pub entry : Entry
 
--- Entries one after the other, with the refusal that ends them, if it isn't the end of the bytes,
--- and the offset of the place after the last.
-pub record Entries : Type 0 where
-  pub sited : List Sited
+-- how entries end: the refusal that ends them, if it isn't the end of the bytes, and the offset of
+-- the place after the last
+pub record EntriesEnd : Type 0 where
   pub refusal : Option Error
   pub stop : ℕ
 
@@ -24,27 +24,22 @@ pub record Entries : Type 0 where
 abbrev pub offset_of_view : ℕ → View → ℕ
 offset_of_view end v = end - length v.bytes
 
--- an entry before others
-abbrev pub then_sited : Sited → Entries → Entries
-then_sited s es = record { sited = s ∷ es.sited; refusal = es.refusal; stop = es.stop }
-
--- The entries that `next` reads up to the end of the bytes, or to a refusal. Each takes a byte at
--- least, so that n, the number of bytes, is enough.
-unfoldable pub entries_within : (View → Reads Entry) → ℕ → ℕ → View → Entries
-entries_within next end zero v = record { sited = []; refusal = None; stop = offset_of_view end v }
-entries_within next end (suc n) v =
-    if length v.bytes == 0 then record { sited = []; refusal = None; stop = offset_of_view end v }
+-- what stands at a view: an entry, and the view after it, or the end
+unfoldable pub sited_or_end : (View → Reads Entry) → ℕ → View → Result (Sited × View) EntriesEnd
+sited_or_end next end v =
+    let here : ℕ = offset_of_view end v in
+    if length v.bytes == 0 then Err (record { refusal = None; stop = here })
     else elim (next v) [
       | Ok p ↦
-          then_sited
-          (record { offset = offset_of_view end v; next = offset_of_view end p.1; entry = p.0 })
-          (entries_within next end n p.1)
-      | Err e ↦ record { sited = []; refusal = Some e; stop = offset_of_view end v }
+          Ok (record { offset = here; next = offset_of_view end p.1; entry = p.0 }, p.1)
+      | Err e ↦ Err (record { refusal = Some e; stop = here })
     ]
 
--- the entries from a view on
-unfoldable pub entries_at : (View → Reads Entry) → ℕ → View → Entries
-entries_at next end v = entries_within next end (length v.bytes) v
+-- the entries from a view on, up to the end of the bytes, or to a refusal; each takes a byte at
+-- least, so that the end handed to `chain` never shows
+unfoldable pub entries_at : (View → Reads Entry) → ℕ → View → Chain Sited EntriesEnd
+entries_at next end v =
+    chain (λ w. length w.bytes) (sited_or_end next end) (record { refusal = None; stop = end }) v
 
 -- the depth of the place after these entries: the children flags among them, less the nulls
 unfoldable pub depth_behind : ℤ → List Sited → ℤ
@@ -78,12 +73,12 @@ pub record Ahead : Type 0 where
 -- the rows from a view on, whose place has this depth
 unfoldable pub ahead_at : (View → Reads Entry) → ℕ → ℤ → View → Ahead
 ahead_at next end depth v =
-    let es : Entries = entries_at next end v in
+    let es : Chain Sited EntriesEnd = entries_at next end v in
     record {
-      rows = rows_behind depth [] es.sited;
-      refusal = es.refusal;
-      stop = es.stop;
-      stop_depth = depth_behind depth es.sited;
+      rows = rows_behind depth [] es.items;
+      refusal = es.ending.refusal;
+      stop = es.ending.stop;
+      stop_depth = depth_behind depth es.items;
     }
 
 -- no row

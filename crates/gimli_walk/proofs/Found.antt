@@ -1,18 +1,15 @@
 -- The search for an address, set by set and tuple by tuple.
-use Rattle.std.proofs.Common.{◌≡◌, ℕ, suc, ◌+◌, ◌++◌, Bool, true, false, List, [], ◌∷◌, length}
-use Rattle.std.proofs.Common.{Option, None, Some, Result, Ok, Err, inl, inr, refl, sym, ap, ◌∙◌}
+use Rattle.std.proofs.Common.{◌≡◌, ℕ, suc, ◌+◌, ◌++◌, Bool, true, false, List, [], ◌∷◌}
+use Rattle.std.proofs.Common.{Option, None, Some, Result, Ok, Err, refl, ap, ◌∙◌}
 use Rattle.std.proofs.Common.{arith}
-use Rattle.std.specs.Prelude.{◌||◌, ◌==◌, if◌then◌else◌, is_some, slice_get, option_and_then}
+use Rattle.std.specs.Prelude.{◌||◌, is_some, slice_get, option_and_then}
 use Rattle.std.specs.List.{list_any, filter_map, position_or_len}
 use Rattle.std.specs.Option.{option_to_list, option_transpose}
-use Rattle.std.proofs.lemmas.Bool.Decides.{eqb_tells}
 use Rattle.gimli_base.specs.declared.error.Error.{Error}
-use Rattle.gimli_base.specs.Reading.{Reads}
-use Rattle.gimli_base.specs.View.{ended}
 use Rattle.gimli_lists.specs.declared.aranges.entries.ArangeEntry.{ArangeEntry}
 use Rattle.gimli_lists.specs.Aranges.{ArangesPlace, answer_to, tuples_of, first_of_tuples}
 use Rattle.gimli_lists.specs.Aranges.{next_arange, aranges_of}
-use Rattle.gimli_lists.specs.ArangeSets.{ArangeSet, SetsPlace, set_length, set_at, sets_within}
+use Rattle.gimli_lists.specs.ArangeSets.{ArangeSet, SetsPlace}
 use Rattle.gimli_lists.specs.ArangeSets.{sets_ahead, next_set}
 use Rattle.gimli_walk.specs.UnitOfAddress.{holds, unit_among}
 
@@ -82,35 +79,7 @@ module _ (address : ℕ) where
       cases true e = rw e refl
       cases false e = rw e refl
 
--- what the reading of a set gives of it, and the place after it
-abbrev next_by : SetsPlace → Reads ArangeSet → Option (Result ArangeSet Error) × SetsPlace
-next_by p (Ok q) = (Some (Ok q.0), record { rest = q.1; offset = p.offset + set_length q.0 })
-next_by p (Err e) = (Some (Err e), record { rest = ended p.rest; offset = p.offset })
-
-some_next : (p : SetsPlace) (r : Reads ArangeSet) → (next_by p r).0 ≡ None → ⊥
-some_next p (Ok q) h = cc
-some_next p (Err e) h = cc
-
 module _ (limit : ℕ) where
-  next_is : (p : SetsPlace) (b : Bool) → (length p.rest.bytes == 0) ≡ b
-      → next_set limit p ≡ (if b then (None, p) else next_by p (set_at limit p.offset p.rest))
-  unfolding next_set
-  next_is p b is = rw is refl
-
-  -- where no set is next there is none ahead
-  pub sets_none : (p : SetsPlace) → Ok None ≡ option_transpose (next_set limit p).0
-      → sets_ahead limit p ≡ []
-  unfolding sets_ahead sets_within
-  sets_none p h = elim (eqb_tells (length p.rest.bytes) 0) [
-    | inl none ↦ rw none.1 refl
-    | inr some ↦
-        absurd
-        (some_next p (set_at limit p.offset p.rest)
-        (sym
-        (ap (λ (q : Option (Result ArangeSet Error) × SetsPlace). q.0) (next_is p false some.0))
-        ∙ transposed_none (next_set limit p).0 h))
-  ]
-
   module _ (address : ℕ) where
     pub sets_first : (p next : SetsPlace) (x : Result ArangeSet Error)
         → (next_set limit p).0 ≡ Some x

@@ -37,9 +37,9 @@ unit_dump limit abbreviations u =
     (declared_text (unit_text limit) u (map_at u.abbreviations abbreviations))
 
 -- the refusal that ends the units, if there is one
-abbrev pub ending : Option Error → Text
-ending None = record { lines = []; status = 0 }
-ending (Some e) = only (error_line (number_of e)) 1
+abbrev pub ending_text : Option Error → Text
+ending_text None = record { lines = []; status = 0 }
+ending_text (Some e) = only (error_line (number_of e)) 1
 
 -- two texts as one, whose status is the greater of theirs
 abbrev pub joined : Text → Text → Text
@@ -47,12 +47,12 @@ joined t u = record { lines = t.lines ++ u.lines; status = max t.status u.status
 
 -- the text of units, and then of how they end
 abbrev pub all_dumps : ℕ → View → List UnitView → Option Error → Text
-all_dumps limit abbreviations [] refusal = ending refusal
+all_dumps limit abbreviations [] refusal = ending_text refusal
 all_dumps limit abbreviations (u ∷ us) refusal =
     joined (unit_dump limit abbreviations u) (all_dumps limit abbreviations us refusal)
 
 abbrev pub units_dump : ℕ → View → Units → Text
-units_dump limit abbreviations us = all_dumps limit abbreviations us.units us.refusal
+units_dump limit abbreviations us = all_dumps limit abbreviations us.items us.ending
 
 -- the text of the units in the bytes of `.debug_info`, in little endian and with offsets of 64 bits
 abbrev pub dump_of : List ℕ → List ℕ → Text

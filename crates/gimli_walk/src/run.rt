@@ -5,7 +5,8 @@ ghost use Rattle.std.specs.Iterator.{IsFinite, Yields, Drains};
 ghost use Rattle.gimli_base.specs.declared.common.SectionId.TheVariants.{DebugInfo as InfoSection};
 ghost use Rattle.gimli_base.specs.declared.common.SectionId.TheVariants.{DebugTypes as TypesSection};
 ghost use Rattle.gimli_base.specs.Offset.{answer_of};
-ghost use Rattle.gimli_headers.specs.Units.{units_of, unit_answers};
+ghost use Rattle.gimli_base.specs.Chain.{each_answer};
+ghost use Rattle.gimli_headers.specs.Units.{units_of};
 ghost use Rattle.gimli_walk.specs.Runs.{IsRunOf, told_run};
 ghost use Rattle.gimli_units.specs.UnitHeld.{unit_view};
 
@@ -55,7 +56,7 @@ pub fn run_units<R: Reader, A: Allocator + Copy>(
 ) -> Run<Result<UnitHeader<R>>, A>
     ensures { let section = ⟦<DebugInfo<R> as Section<R>>⟧.content debug_info.now in
         IsRunOf (told_run (answer_of unit_view) result)
-        (unit_answers (units_of R.Offset.limit InfoSection section)) }
+        (each_answer (units_of R.Offset.limit InfoSection section)) }
 {
     run_all(alloc, debug_info.units())
 }
@@ -68,7 +69,7 @@ pub fn run_type_units<R: Reader, A: Allocator + Copy>(
 ) -> Run<Result<UnitHeader<R>>, A>
     ensures { let section = ⟦<DebugTypes<R> as Section<R>>⟧.content debug_types.now in
         IsRunOf (told_run (answer_of unit_view) result)
-        (unit_answers (units_of R.Offset.limit TypesSection section)) }
+        (each_answer (units_of R.Offset.limit TypesSection section)) }
 {
     run_all(alloc, debug_types.units())
 }
