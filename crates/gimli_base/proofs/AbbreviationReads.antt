@@ -1,9 +1,11 @@
 -- What the reads of a table of abbreviations leave.
-use Rattle.std.specs.Prelude.{◌≡◌, ℕ, ◌<◌, ◌==◌, length, Bool, Option, Ok}
-use Rattle.std.proofs.Common.{arith}
+use Rattle.std.specs.Prelude.{◌≡◌, ◌≢◌, ℕ, ◌<◌, ◌==◌, length, Bool, false, Option, Some, None, Ok}
+use Rattle.std.specs.Prelude.{Err}
+use Rattle.std.proofs.Common.{arith, refl}
+use Rattle.gimli_base.specs.declared.error.Error.{Error}
 use Rattle.gimli_base.specs.declared.constants.DwTag.{DwTag}
 use Rattle.gimli_base.specs.View.{View}
-use Rattle.gimli_base.specs.Reading.{byte_at, uleb_at, uleb16_at, sleb_at}
+use Rattle.gimli_base.specs.Reading.{Reads, byte_at, uleb_at, uleb16_at, sleb_at}
 use Rattle.gimli_base.proofs.Later.{LeavesLater, IsLater-none, IsLater-length, then_leaves_later}
 use Rattle.gimli_base.proofs.Later.{made_leaves_later, if_leaves_later, ok_leaves_later}
 use Rattle.gimli_base.proofs.Later.{err_leaves_later, weaker_leaves_later, byte_at-later}
@@ -58,3 +60,31 @@ declaration_at-shorter v w a h = omega (
       (λ p. if_leaves_later 0 p.1 (p.0 == 0) _ _ (ok_leaves_later 0 p.1 _ (IsLater-none p.1))
       (made_leaves_later 0 p.1 _ (declared_at p.0 p.1) (declared_at-later p.0 p.1))) a w h),
 )
+
+-- the code 0 ends the table
+pub declaration_at-none : (v w : View) (code : ℕ) → Ok (code, w) ≡ uleb_at v → code ≡ 0
+    → ◌≡◌ {A = Reads (Option Declaration)} (Ok (None, w)) (declaration_at v)
+unfolding declaration_at
+declaration_at-none v w code read zero = rw (← read, zero) refl
+
+-- after any other code a declaration follows
+pub declaration_at-some : (v w u : View) (code : ℕ) (d : Declaration)
+    → Ok (code, w) ≡ uleb_at v → code ≢ 0 → Ok (d, u) ≡ declared_at code w
+    → Ok (Some d, u) ≡ declaration_at v
+unfolding declaration_at
+declaration_at-some v w u code d read some declared =
+    let other : (code == 0) ≡ false = grind (arith, some) in rw (← read, other, ← declared) refl
+
+-- a refusal of the code is one of the declaration
+pub declaration_at-no_code : (v : View) (e : Error) → Err e ≡ uleb_at v
+    → ◌≡◌ {A = Reads (Option Declaration)} (Err e) (declaration_at v)
+unfolding declaration_at
+declaration_at-no_code v e read = rw (← read) refl
+
+-- a refusal after the code is one of the declaration
+pub declaration_at-refused : (v w : View) (code : ℕ) (e : Error)
+    → Ok (code, w) ≡ uleb_at v → code ≢ 0 → Err e ≡ declared_at code w
+    → ◌≡◌ {A = Reads (Option Declaration)} (Err e) (declaration_at v)
+unfolding declaration_at
+declaration_at-refused v w code e read some declared =
+    let other : (code == 0) ≡ false = grind (arith, some) in rw (← read, other, ← declared) refl

@@ -21,6 +21,10 @@ pub record Specification : Type 0 where
   pub form : DwForm
   pub constant : Option ℤ
 
+-- the number that stands with a form: 0x21 is implicit_const
+abbrev pub constant_of : ℕ → ℤ → Option ℤ
+constant_of form n = if form == 0x21 then Some n else None
+
 -- a number stands exactly with the form implicit_const
 abbrev pub IsWellFormed : Specification → Type 0
 IsWellFormed s = is_some s.constant ≡ (s.form.0 == 0x21)

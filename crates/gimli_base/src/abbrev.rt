@@ -1,17 +1,18 @@
 //! Abbreviations: the declared shapes of entries (DWARF 5, 7.5.3).
 
 ghost use Rattle.std.specs.Prelude.{ℕ, ◌≡◌, ◌≢◌, ◌==◌, [], is_some, if◌then◌else◌, Some, None};
-ghost use Rattle.std.specs.Prelude.{Option, OnOk, IfErr, IsSome};
+ghost use Rattle.std.specs.Prelude.{Option, OnOk, IfErr, IsSome, unwrap_or, pos, List, ◌++◌, ◌∷◌};
+ghost use Rattle.std.specs.Prelude.{take, nat_le, IfOk};
 ghost use Rattle.std.specs.Option.{option_copied};
 ghost use Rattle.gimli_base.specs.declared.common.SectionId.TheVariants.{DebugAbbrev as AbbrevSection};
 ghost use Rattle.gimli_base.specs.Abbreviations.{
   Specification,
   Declaration,
   IsWellFormed,
+  constant_of,
   specification_at,
   specifications_at,
   declared_at,
-  declaration_at,
   map_of,
   map_at,
   declarations_at,
@@ -19,7 +20,7 @@ ghost use Rattle.gimli_base.specs.Abbreviations.{
 ghost use Rattle.gimli_base.specs.Width.{width_of, form_size};
 ghost use Rattle.gimli_base.specs.Table.{Table, found};
 ghost use Rattle.gimli_base.specs.Offset.{answer_of};
-ghost use Rattle.gimli_base.specs.Reading.{read, filled, UnlessMemory};
+ghost use Rattle.gimli_base.specs.Reading.{read, filled, made, UnlessMemory};
 
 use crate::width::Width;
 use crate::{
@@ -27,41 +28,54 @@ use crate::{
     DebugAbbrevOffset, DwAt, DwForm, DwTag, Encoding, EndianSlice, Endianity, Error, Reader,
     Result, Section, SectionId,
 };
-use std::alloc::Allocator;
+use std::alloc::{AllocError, Allocator};
 use std::collections::BTreeMap;
-use std::fmt::Debug;
+use std::fmt::{self, Debug};
 use std::marker::Model;
 
 /// A declared attribute: its name, its form, and for the form implicit_const its number.
-#[derive(Clone, Copy, Debug, PartialEq, Eq)]
+#[derive(Clone, Copy, PartialEq, Eq)]
 pub struct AttributeSpecification {
     name: DwAt,
     form: DwForm,
     // the form's, so that it is looked up once for all entries of the declaration
     width: Width,
-    implicit_const_value: Option<i64>,
+    // the number of the form implicit_const, and 0 with any other
+    constant: i64,
 }
 
 impl Model for AttributeSpecification {
     ghost Value = { Specification };
 
     ghost view = { λ s.
-        record { name = s.name; form = s.form; constant = s.implicit_const_value } };
+        record { name = s.name; form = s.form; constant = constant_of s.form.0 s.constant } };
 
     ghost inverse = { λ s.
         record {
           name = s.name;
           form = s.form;
           width = width_of s.form.0;
-          implicit_const_value = s.constant;
+          constant = unwrap_or s.constant (pos 0);
         } };
 
-    ghost invariant = { λ s. (is_some s.implicit_const_value ≡ (s.form.0 == 0x21))
-        × (s.width ≡ width_of s.form.0) };
+    ghost invariant = { λ s. (s.width ≡ width_of s.form.0)
+        × (unwrap_or (constant_of s.form.0 s.constant) (pos 0) ≡ s.constant) };
+}
+
+impl Debug for AttributeSpecification {
+    fn fmt<W: fmt::Write>(&self, f: &mut fmt::Formatter<W>) -> fmt::Result {
+        f.debug_struct("AttributeSpecification")
+            .field("name", &self.name)
+            .field("form", &self.form)
+            .field("width", &self.width)
+            .field("implicit_const_value", &self.implicit_const_value())
+            .finish()
+    }
 }
 
 impl AttributeSpecification {
     /// A declared attribute; a number stands exactly with the form implicit_const.
+    #[inline]
     pub fn new(name: DwAt, form: DwForm, implicit_const_value: Option<i64>) -> Self
         requires { IsWellFormed
             (record { name = name; form = form; constant = implicit_const_value }) }
@@ -71,7 +85,7 @@ impl AttributeSpecification {
             name,
             form,
             width: Width::of(form),
-            implicit_const_value,
+            constant: implicit_const_value.unwrap_or(0),
         }
     }
 
@@ -97,7 +111,10 @@ impl AttributeSpecification {
         ensures value { result ≡ self.now.constant }
         ensures stands { is_some result ≡ (self.now.form.0 == 0x21) }
     {
-        self.implicit_const_value
+        match self.form {
+            DW_FORM_implicit_const => Some(self.constant),
+            _ => None,
+        }
     }
 
     /// The number of bytes of the form's value under an encoding, where it does not depend on the
@@ -111,6 +128,7 @@ impl AttributeSpecification {
 
     // The next declared attribute, or none where two zeros end the list; where it is refused, the
     // input is left anywhere.
+    #[inline(always)]
     #[tactic(auto, unfolding(crate::specs::Abbreviations::specification_at))]
     fn parse<R: Reader>(input: &mut R) -> Result<Option<AttributeSpecification>>
         ensures { read result (R.view input.new) ≡ specification_at (R.view input.old) }
@@ -130,6 +148,112 @@ impl AttributeSpecification {
     }
 }
 
+// How many attributes stand in a declaration itself: the 12 in the view of `Attributes`.
+const FEW: usize = 12;
+
+// The attributes of a declaration: up to `FEW` in place, since to ask for memory takes longer than
+// to read a declaration, and more in a list of their own.
+#[derive(Drop)]
+struct Attributes<A: Allocator> {
+    // above `FEW` where they are in the list
+    count: usize,
+    few: [AttributeSpecification; FEW],
+    more: Vec<AttributeSpecification, A>,
+}
+
+impl<A: Allocator> Model for Attributes<A> {
+    ghost Value = { List Specification };
+
+    ghost view = { λ a. if nat_le a.count 12 then take a.count a.few else a.more.items };
+}
+
+impl<A: Allocator> Debug for Attributes<A> {
+    fn fmt<W: fmt::Write>(&self, f: &mut fmt::Formatter<W>) -> fmt::Result {
+        self.as_slice().fmt(f)
+    }
+}
+
+impl<A: Allocator> Attributes<A> {
+    // No attributes.
+    #[inline(always)]
+    fn new(alloc: A) -> Self
+        ensures { result ≡ [] }
+    {
+        let none = AttributeSpecification::new(DW_AT_null, DW_FORM_null, None);
+        Attributes {
+            count: 0,
+            few: [none; FEW],
+            more: Vec::new(alloc),
+        }
+    }
+
+    // The attributes, in their order.
+    #[inline]
+    fn as_slice(&self) -> &[AttributeSpecification]
+        ensures { result.now ≡ self.now }
+    {
+        if self.count <= FEW {
+            &self.few[..self.count]
+        } else {
+            &self.more
+        }
+    }
+
+    // One more attribute; where memory is refused, they are left anywhere.
+    #[inline(always)]
+    fn push(&mut self, specification: AttributeSpecification) -> std::result::Result<(), AllocError>
+        ensures { OnOk result (self.new ≡ self.old ++ specification ∷ []) }
+    {
+        if self.count < FEW {
+            self.few[self.count] = specification;
+            self.count += 1;
+            return Ok(());
+        }
+        let (name, form) = (specification.name(), specification.form());
+        self.push_apart(name, form, specification.implicit_const_value())
+    }
+
+    // The same, into the list. It takes the parts, since a specification that is passed as a whole
+    // lies in memory wherever it may be passed.
+    #[inline(never)]
+    fn push_apart(
+        &mut self,
+        name: DwAt,
+        form: DwForm,
+        implicit_const_value: Option<i64>,
+    ) -> std::result::Result<(), AllocError>
+        requires { IsWellFormed
+            (record { name = name; form = form; constant = implicit_const_value }) }
+        ensures { OnOk result
+            (self.new
+            ≡ self.old
+            ++ record { name = name; form = form; constant = implicit_const_value } ∷ []) }
+    {
+        if self.count <= FEW {
+            self.more.clear();
+            self.more.extend_from_slice(&self.few[..self.count])?;
+            self.count = FEW + 1;
+        }
+        self.more.push(AttributeSpecification::new(name, form, implicit_const_value))?;
+        Ok(())
+    }
+
+    // Adds the declared attributes up to two zeros to none; where they are refused, the input and
+    // the attributes are left anywhere.
+    #[inline(always)]
+    fn parse<R: Reader>(&mut self, input: &mut R) -> Result<()>
+        requires { self.old ≡ [] }
+        ensures { UnlessMemory result
+            (read (filled self.new result) (R.view input.new)
+            ≡ specifications_at (R.view input.old)) }
+    {
+        while let Some(specification) = AttributeSpecification::parse(input)? {
+            self.push(specification)?;
+        }
+        Ok(())
+    }
+}
+
 /// The declaration of an abbreviation: a code, and the tag, the children flag and the attributes of
 /// its entries.
 #[derive(Drop)]
@@ -138,7 +262,7 @@ pub struct Abbreviation<A: Allocator> {
     code: u64,
     tag: DwTag,
     has_children: bool,
-    attributes: Vec<AttributeSpecification, A>,
+    attributes: Attributes<A>,
 }
 
 impl<A: Allocator> Model for Abbreviation<A> {
@@ -149,7 +273,7 @@ impl<A: Allocator> Model for Abbreviation<A> {
           code = a.code;
           tag = a.tag;
           has_children = a.has_children;
-          attributes = a.attributes.items;
+          attributes = a.attributes;
         } };
 
     ghost invariant = { λ a. a.tag.0 ≢ 0 };
@@ -186,80 +310,38 @@ impl<A: Allocator> Abbreviation<A> {
     pub fn attributes(&self) -> &[AttributeSpecification]
         ensures { result.now ≡ self.now.attributes }
     {
-        &self.attributes
+        self.attributes.as_slice()
     }
 }
 
-impl<A: Allocator + Copy> Abbreviation<A> {
-    // The declaration of a code, which is read already; where it is refused, the input is left
-    // anywhere.
-    //
-    // The attributes go through `scratch`, a list that is used again for each declaration, so that
-    // each gets one list of just its size.
-    #[tactic(auto, unfolding(crate::specs::Abbreviations::declared_at, crate::specs::Abbreviations::tag_at, crate::specs::Abbreviations::children_at))]
-    fn parse_declared<R: Reader>(
-        alloc: A,
-        input: &mut R,
-        scratch: &mut Vec<AttributeSpecification, A>,
-        code: u64,
-    ) -> Result<Abbreviation<A>>
-        ensures { UnlessMemory result
-            (read result (R.view input.new) ≡ declared_at code (R.view input.old)) }
-    {
-        let tag = DwTag(input.read_uleb128_u16()?);
-        if tag == DW_TAG_null {
-            return Err(Error::AbbreviationTagZero);
-        }
-        let has_children = match input.read_u8()? {
-            DW_CHILDREN_no => false,
-            DW_CHILDREN_yes => true,
-            _ => return Err(Error::InvalidAbbreviationChildren),
-        };
-        parse_specifications(input, scratch)?;
-        let attributes = Vec::from_slice(alloc, scratch)?;
-        Ok(Abbreviation {
-            code,
-            tag,
-            has_children,
-            attributes,
-        })
-    }
-
-    // The next declaration, or none where the code 0 ends the table; where it is refused, the input
-    // is left anywhere.
-    #[tactic(auto, unfolding(crate::specs::Abbreviations::declaration_at))]
-    fn parse<R: Reader>(
-        alloc: A,
-        input: &mut R,
-        scratch: &mut Vec<AttributeSpecification, A>,
-    ) -> Result<Option<Abbreviation<A>>>
-        ensures { UnlessMemory result
-            (read result (R.view input.new) ≡ declaration_at (R.view input.old)) }
-    {
-        let code = input.read_uleb128()?;
-        if code == 0 {
-            return Ok(None);
-        }
-        let declared = Abbreviation::parse_declared(alloc, input, scratch, code)?;
-        Ok(Some(declared))
-    }
-}
-
-// The declared attributes up to two zeros, in place of those in `attributes`; where they are
-// refused, the input and the list are left anywhere.
-fn parse_specifications<R: Reader, A: Allocator>(
+// The tag and the children flag of a declaration, whose code is read already, and its attributes
+// after none; where they are refused, the input and the attributes are left anywhere.
+#[inline(always)]
+#[tactic(auto, unfolding(crate::specs::Abbreviations::declared_at, crate::specs::Abbreviations::tag_at, crate::specs::Abbreviations::children_at))]
+fn parse_declared<R: Reader, A: Allocator>(
     input: &mut R,
-    attributes: &mut Vec<AttributeSpecification, A>,
-) -> Result<()>
-    ensures { UnlessMemory result
-        (read (filled attributes.new.items result) (R.view input.new)
-        ≡ specifications_at (R.view input.old)) }
+    attributes: &mut Attributes<A>,
+) -> Result<(DwTag, bool)>
+    requires { attributes.old ≡ [] }
+    ensures declared { UnlessMemory result
+        ((code : ℕ) → made
+        (λ r.
+        record { code = code; tag = r.0; has_children = r.1; attributes = attributes.new })
+        (read result (R.view input.new))
+        ≡ declared_at code (R.view input.old)) }
+    ensures tag { IfOk result (λ r. r.0.0 ≢ 0) }
 {
-    attributes.clear();
-    while let Some(specification) = AttributeSpecification::parse(input)? {
-        attributes.push(specification)?;
+    let tag = DwTag(input.read_uleb128_u16()?);
+    if tag == DW_TAG_null {
+        return Err(Error::AbbreviationTagZero);
     }
-    Ok(())
+    let has_children = match input.read_u8()? {
+        DW_CHILDREN_no => false,
+        DW_CHILDREN_yes => true,
+        _ => return Err(Error::InvalidAbbreviationChildren),
+    };
+    attributes.parse(input)?;
+    Ok((tag, has_children))
 }
 
 /// A table of abbreviations: a finite map of codes to declarations.
@@ -307,6 +389,7 @@ impl<A: Allocator + Copy> Abbreviations<A> {
     }
 
     // Adds a declaration. A code that is declared already is refused.
+    #[inline(always)]
     fn insert(&mut self, declared: Abbreviation<A>) -> Result<()>
         ensures ok { OnOk result
             ((code : ℕ) → found self.new code
@@ -321,7 +404,9 @@ impl<A: Allocator + Copy> Abbreviations<A> {
             return Err(Error::DuplicateAbbreviationCode);
         }
         if 0 < code && code - 1 == self.dense.len() as u64 {
-            self.dense.push(declared)?;
+            // (`push` hands back what it refuses, in a result as large as the declaration)
+            self.dense.reserve(1)?;
+            self.dense.push_reserved(declared);
             return Ok(());
         }
         self.others.insert(code, declared)?;
@@ -334,12 +419,21 @@ impl<A: Allocator + Copy> Abbreviations<A> {
         ensures { UnlessMemory result
             (answer_of found result ≡ map_of (declarations_at (R.view input.old))) }
     {
-        let mut scratch = Vec::new(alloc);
         let mut table = Abbreviations::new(alloc);
-        while let Some(declared) = Abbreviation::parse(alloc, input, &mut scratch)? {
-            table.insert(declared)?;
+        loop {
+            let code = input.read_uleb128()?;
+            if code == 0 {
+                return Ok(table);
+            }
+            let mut attributes = Attributes::new(alloc);
+            let (tag, has_children) = parse_declared(input, &mut attributes)?;
+            table.insert(Abbreviation {
+                code,
+                tag,
+                has_children,
+                attributes,
+            })?;
         }
-        Ok(table)
     }
 }
 

@@ -17,6 +17,9 @@ use crate::{DwForm, Encoding};
 /// 7.5.6).
 #[derive(Clone, Copy, Debug, PartialEq, Eq)]
 pub(crate) enum Width {
+    /// Only the bytes of the value tell.
+    // (it is the first, so that a place without an attribute is all zeros)
+    Unknown,
     /// So many bytes.
     Fixed(u8),
     /// As many as the unit's addresses have.
@@ -26,14 +29,35 @@ pub(crate) enum Width {
     /// In version 2 as many as the unit's addresses have, else as many as the format's offsets
     /// have.
     Reference,
-    /// Only the bytes of the value tell.
-    Unknown,
 }
 
 impl Width {
     /// The width of a form.
-    #[tactic(auto, unfolding(crate::specs::Width::width_of))]
+    //
+    // It is laid into its caller, where a table tells the forms of low codes.
+    #[inline(always)]
     pub(crate) fn of(form: DwForm) -> Width
+        ensures { result ≡ width_of form.0 }
+    {
+        if form.0 < 128 {
+            Width::listed(form)
+        } else {
+            Width::listed_apart(form)
+        }
+    }
+
+    // The same, by a call.
+    #[inline(never)]
+    fn listed_apart(form: DwForm) -> Width
+        ensures { result ≡ width_of form.0 }
+    {
+        Width::listed(form)
+    }
+
+    // The same, in one list of all forms.
+    #[inline(always)]
+    #[tactic(auto, unfolding(crate::specs::Width::width_of))]
+    fn listed(form: DwForm) -> Width
         ensures { result ≡ width_of form.0 }
     {
         match form {

@@ -15,7 +15,8 @@ returns-then-code-len-clause-ok g c =
       c.self.inside.dense.ok.0,
       code_is,
     ) in
-    rw (c.in_ok-push.ensures.items, ← c.self.view_is) (found-push _ _ c.args.declared place)
+    rw (c.push_reserved.ensures.items, c.in_ok-reserve.ensures.items, ← c.self.view_is)
+    (found-push _ _ c.args.declared place)
 
 pub returns-clause-ok : goal.returns-clause-ok
 returns-clause-ok g c =

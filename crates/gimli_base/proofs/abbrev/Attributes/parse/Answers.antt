@@ -3,10 +3,10 @@ use Rattle.gimli_base.specs.Items.{whole}
 use Rattle.gimli_base.proofs.ItemTurns.{items_begin, items_more, items_refused, items_end}
 use Rattle.gimli_base.specs.Abbreviations.{specifications_at}
 use Rattle.gimli_base.proofs.AbbreviationReads.{specification_at-shorter}
-use Rattle.gimli_base.proofs.abbrev.parse_specifications.Goals as goal
+use Rattle.gimli_base.proofs.abbrev.Attributes.parse.Goals as goal
 
 pub loop-specification-init : goal.loop-specification-init
-loop-specification-init g c = rw c.clear.ensures.items (items_begin _ _)
+loop-specification-init g c = rw c.requires (items_begin _ _)
 
 pub returns-in_err-specification : goal.returns-in_err-specification
 unfolding specifications_at
@@ -21,7 +21,7 @@ loop-specification-smaller g c = specification_at-shorter _ _ _ c.in_ok-specific
 
 pub loop-specification-preserved : goal.loop-specification-preserved
 loop-specification-preserved g c =
-    rw c.in_ok-push.ensures.items
+    rw c.in_ok-push.ensures
     (items_more _ _ _ _ _ _ c.loop-specification.invariant
     (rw c.in-Some.is at c.in_ok-specification.ensures)
     (specification_at-shorter _ _ _ c.in_ok-specification.ensures))
