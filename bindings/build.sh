@@ -19,12 +19,16 @@ calls=$(grep -o '^uint32_t gimli_[a-z_]*' "$here/include/gimli.h" | cut -d' ' -f
 printf '{ global: %s local: *; };\n' "$(printf '%s; ' $calls)" > "$target/exports"
 cc -shared -o "$target/libgimli.so" -Wl,--whole-archive "$target/libgimli.a" -Wl,--no-whole-archive \
     -Wl,--version-script="$target/exports" -Wl,-z,defs
-cat > "$target/gimli.pc" <<PC
+# names its own folder, so that it stays right where the tree moves; the archive is linked, as the shared library would have to be found
+cat > "$target/gimli.pc" <<'PC'
+libdir=${pcfiledir}
+includedir=${pcfiledir}/../include
+
 Name: gimli
 Description: The proved DWARF reader
 Version: 0.1
-Cflags: -I$here/include
-Libs: -L$target -lgimli
+Cflags: -I${includedir}
+Libs: -L${libdir} -l:libgimli.a
 PC
 for program in rows attrs lists; do
     cc -std=c11 -O2 -Wall -Wextra -I"$here/include" -o "$target/$program" "$here/c/$program.c" "$target/libgimli.a"

@@ -139,10 +139,14 @@ class Dwarf:
             return None
         raise Refused(status)
 
+    def unit(self, offset):
+        """The unit at an offset, or None at the section's end."""
+        return self.found("unit", Unit(), offset)
+
     def units(self):
         """The units, one after the other."""
         offset = 0
-        while (unit := self.found("unit", Unit(), offset)) is not None:
+        while (unit := self.unit(offset)) is not None:
             yield unit
             offset = unit.offset + unit.length
 
@@ -180,9 +184,10 @@ class Dwarf:
             return kind, (attr.number, attr.high)
         return kind, bool(attr.number) if kind == "Flag" else attr.number
 
-    def raw_entries(self, unit, room=1024, space=8192):
-        """Pairs of a row and its attributes as the library writes them."""
-        place, rows, attrs, filled, status = Place(unit.header_size, 0), (Entry * room)(), (Attr * space)(), Filled(), MORE
+    def raw_entries(self, unit, room=1024, space=8192, place=None):
+        """Pairs of a row and its attributes as the library writes them, from a place on."""
+        place = place or Place(unit.header_size, 0)
+        rows, attrs, filled, status = (Entry * room)(), (Attr * space)(), Filled(), MORE
         while status == MORE:
             status = self.call("entries", unit.offset, byref(place), rows, room, attrs, space, byref(filled))
             for i in range(filled.rows):

@@ -1,0 +1,268 @@
+/* function_at ELF ADDRESS: prints the unit, the name and the ranges of the function at an address of a linked program. The
+   sections are read by libelf: cc function_at.c $(pkg-config --cflags --libs ../../target/gimli.pc libelf). */
+#include "gimli.h"
+#include <errno.h>
+#include <fcntl.h>
+#include <gelf.h>
+#include <inttypes.h>
+#include <stdbool.h>
+#include <stdio.h>
+#include <stdlib.h>
+#include <string.h>
+#include <unistd.h>
+
+enum { TAG_SUBPROGRAM = 0x2e, NAME = 0x03, LOW_PC = 0x11, HIGH_PC = 0x12, ORIGIN = 0x31, SPECIFICATION = 0x47, RANGES = 0x55,
+       LINKAGE_NAME = 0x6e, STR_OFFSETS_BASE = 0x72, ADDR_BASE = 0x73, RNGLISTS_BASE = 0x74 };
+enum { ROOM = 4096, MOST_RANGES = 65536, MOST_STEPS = 16 };
+
+static gimli_sections_t sections;
+static gimli_bytes_t texts, line_texts, text_offsets; /* .debug_str, .debug_line_str, .debug_str_offsets */
+
+/* A unit, and the attributes of its root that others are read by. */
+struct unit {
+    gimli_unit_t header;
+    gimli_bases_t bases;
+    uint64_t text_offsets;
+};
+
+/* An entry's attributes; `attrs` are of this list or of a buffer. */
+struct entry {
+    const gimli_attr_t *attrs;
+    size_t count;
+};
+
+static struct unit unit;
+static gimli_entry_t rows[ROOM];
+static gimli_attr_t *attrs;
+static size_t space = 4 * ROOM;
+static gimli_range_t ranges[MOST_RANGES];
+
+/* Ends the program where the library refuses what it reads. */
+static void refused(const char *what, uint64_t offset, uint32_t status) {
+    printf("error %u: %s 0x%" PRIx64 "\n", status % 256, what, offset);
+    exit(1);
+}
+
+/* The section of a name in an ELF file, decompressed; none where there is no such section. */
+static gimli_bytes_t section(Elf *elf, const char *wanted) {
+    size_t names;
+    Elf_Scn *at = NULL;
+    GElf_Shdr header;
+    if (elf_getshdrstrndx(elf, &names)) return gimli_bytes(NULL, 0);
+    while ((at = elf_nextscn(elf, at))) {
+        const char *name;
+        if (!gelf_getshdr(at, &header) || !(name = elf_strptr(elf, names, header.sh_name)) || strcmp(name, wanted)) continue;
+        if (header.sh_type == SHT_NOBITS) break;
+        if ((header.sh_flags & SHF_COMPRESSED) && elf_compress(at, 0, 0) < 0) break;
+        Elf_Data *data = elf_rawdata(at, NULL);
+        return data ? gimli_bytes(data->d_buf, data->d_size) : gimli_bytes(NULL, 0);
+    }
+    return gimli_bytes(NULL, 0);
+}
+
+/* Reads the sections of a file, which stays open; false where it is no linked ELF file. */
+static bool read_sections(const char *file) {
+    GElf_Ehdr header;
+    int in = open(file, O_RDONLY);
+    if (in < 0 || elf_version(EV_CURRENT) == EV_NONE) return false;
+    Elf *elf = elf_begin(in, ELF_C_READ, NULL);
+    if (!elf || elf_kind(elf) != ELF_K_ELF || !gelf_getehdr(elf, &header)) return false;
+    if (header.e_type != ET_EXEC && header.e_type != ET_DYN) return false;
+    sections = gimli_no_sections();
+    sections.units = section(elf, ".debug_info");
+    sections.abbrev = section(elf, ".debug_abbrev");
+    sections.addresses = section(elf, ".debug_addr");
+    sections.aranges = section(elf, ".debug_aranges");
+    sections.ranges = section(elf, ".debug_ranges");
+    sections.rnglists = section(elf, ".debug_rnglists");
+    sections.big = header.e_ident[EI_DATA] == ELFDATA2MSB;
+    texts = section(elf, ".debug_str");
+    line_texts = section(elf, ".debug_line_str");
+    text_offsets = section(elf, ".debug_str_offsets");
+    return true;
+}
+
+/* The number of so many bytes at an index of a table in a section. */
+static bool number_at(gimli_bytes_t in, uint64_t table, uint64_t index, unsigned size, uint64_t *number) {
+    if (size == 0 || size > 8 || table > in.length || index >= (in.length - table) / size) return false;
+    const uint8_t *at = in.bytes + table + index * size;
+    *number = 0;
+    for (unsigned i = 0; i < size; i++) *number = *number << 8 | at[sections.big ? i : size - 1 - i];
+    return true;
+}
+
+static const gimli_attr_t *find(struct entry entry, unsigned name) {
+    for (size_t i = 0; i < entry.count; i++)
+        if (entry.attrs[i].name == name) return &entry.attrs[i];
+    return NULL;
+}
+
+/* The number of an attribute that is an offset; 0 where it is not there. */
+static uint64_t number_of(struct entry entry, unsigned name) {
+    const gimli_attr_t *attr = find(entry, name);
+    return attr ? attr->number : 0;
+}
+
+/* The text of an attribute; a text of no bytes where it is none. */
+static gimli_bytes_t text_of(const gimli_attr_t *attr) {
+    gimli_bytes_t in = texts;
+    uint64_t offset = attr->number;
+    if (attr->kind == GIMLI_STRING) return gimli_bytes(sections.units.bytes + attr->place, attr->length);
+    if (attr->kind == GIMLI_LINE_STR_REF) in = line_texts;
+    else if (attr->kind == GIMLI_STR_OFFSETS_INDEX) {
+        if (!number_at(text_offsets, unit.text_offsets, attr->number, unit.header.offset_size, &offset)) return gimli_bytes(NULL, 0);
+    } else if (attr->kind != GIMLI_STR_REF) return gimli_bytes(NULL, 0);
+    if (offset > in.length || !memchr(in.bytes + offset, 0, in.length - offset)) return gimli_bytes(NULL, 0);
+    return gimli_bytes(in.bytes + offset, strlen((const char *)in.bytes + offset));
+}
+
+/* The address that an attribute says. */
+static bool address_of(const gimli_attr_t *attr, uint64_t *address) {
+    if (attr->kind == GIMLI_ADDR_INDEX)
+        return number_at(sections.addresses, unit.bases.addresses, attr->number, unit.header.address_size, address);
+    *address = attr->number;
+    return attr->kind == GIMLI_ADDR;
+}
+
+/* The end of a range from its beginning on: an address, or the number of its bytes. */
+static uint64_t end_of(const gimli_attr_t *high, uint64_t begin) {
+    uint64_t end;
+    if (address_of(high, &end)) return end;
+    if (high->kind == GIMLI_SDATA) return begin + (uint64_t)high->sign;
+    return (high->kind >= GIMLI_DATA1 && high->kind <= GIMLI_DATA8) || high->kind == GIMLI_UDATA ? begin + high->number : begin;
+}
+
+/* The ranges of an entry: how many there are in `ranges`. */
+static size_t ranges_of(struct entry entry) {
+    const gimli_attr_t *low = find(entry, LOW_PC), *high = find(entry, HIGH_PC), *list = find(entry, RANGES);
+    size_t count = 0;
+    if (low && high && address_of(low, &ranges[0].begin)) {
+        ranges[0].end = end_of(high, ranges[0].begin);
+        return ranges[0].begin < ranges[0].end;
+    }
+    if (!list) return 0;
+    uint32_t status = gimli_ranges(&sections, &unit.header, list, &unit.bases, ranges, MOST_RANGES, &count);
+    if (status >= GIMLI_REFUSED) refused("the ranges of the unit at", unit.header.offset, status);
+    return count < MOST_RANGES ? count : MOST_RANGES;
+}
+
+/* The attributes of the entry at an offset of the unit, in a list of their own. */
+static struct entry entry_at(uint64_t offset) {
+    struct entry entry = {NULL, 0};
+    gimli_entry_t row;
+    gimli_filled_t filled = {0, 0, 1};
+    gimli_attr_t *list = NULL;
+    uint32_t status = GIMLI_MORE;
+    while (filled.wanted > 0) {
+        gimli_place_t place = {offset, 0};
+        size_t room = filled.wanted;
+        if (!(list = realloc(list, room * sizeof *list))) exit(3);
+        status = gimli_entries(&sections, unit.header.offset, &place, &row, 1, list, room, &filled);
+    }
+    if (filled.rows == 0) refused("the entry at", unit.header.offset + offset, status);
+    entry.attrs = list;
+    entry.count = filled.attributes;
+    return entry;
+}
+
+/* Makes `unit` the unit at an offset; false at the end. */
+static bool begin_unit(uint64_t offset) {
+    uint32_t status = gimli_unit(&sections, offset, &unit.header);
+    if (status == GIMLI_END) return false;
+    if (status != GIMLI_MORE) refused("the unit at", offset, status);
+    memset(&unit.bases, 0, sizeof unit.bases);
+    struct entry root = entry_at(unit.header.header_size);
+    unit.text_offsets = number_of(root, STR_OFFSETS_BASE);
+    unit.bases.addresses = number_of(root, ADDR_BASE);
+    unit.bases.rnglists = number_of(root, RNGLISTS_BASE);
+    const gimli_attr_t *low = find(root, LOW_PC);
+    if (!low || !address_of(low, &unit.bases.address)) unit.bases.address = 0;
+    free((void *)root.attrs);
+    return true;
+}
+
+/* The entry that an attribute names, and its unit. */
+static struct entry followed(const gimli_attr_t *attr) {
+    if (attr->kind == GIMLI_UNIT_REF) return entry_at(attr->number);
+    uint64_t offset = 0;
+    struct entry none = {NULL, 0};
+    if (attr->kind != GIMLI_INFO_REF) return none;
+    while (begin_unit(offset)) {
+        if (attr->number < offset + unit.header.length) return entry_at(attr->number - offset);
+        offset += unit.header.length;
+    }
+    return none;
+}
+
+/* The text of the first attribute of a name, of an entry or of the entries that it stands for. */
+static void print_text(const char *word, struct entry entry, unsigned name) {
+    struct unit of = unit;
+    for (int step = 0; step < MOST_STEPS; step++) {
+        const gimli_attr_t *attr = find(entry, name), *next = find(entry, ORIGIN);
+        if (attr) {
+            gimli_bytes_t text = text_of(attr);
+            printf("%s ", word);
+            fwrite(text.bytes, 1, text.length, stdout);
+            putchar('\n');
+            break;
+        }
+        if (!next && !(next = find(entry, SPECIFICATION))) break;
+        entry = followed(next);
+    }
+    unit = of;
+}
+
+/* Whether an entry is the function of an address; then it is printed. */
+static bool is_function(struct entry entry, uint64_t address) {
+    size_t count = ranges_of(entry);
+    bool holds = false;
+    for (size_t i = 0; i < count; i++) holds |= ranges[i].begin <= address && address < ranges[i].end;
+    if (!holds) return false;
+    printf("unit 0x%" PRIx64 "\n", unit.header.offset);
+    print_text("file", entry_at(unit.header.header_size), NAME);
+    print_text("function", entry, NAME);
+    print_text("linkage name", entry, LINKAGE_NAME);
+    for (size_t i = 0; i < count; i++) printf("range 0x%" PRIx64 " 0x%" PRIx64 "\n", ranges[i].begin, ranges[i].end);
+    return true;
+}
+
+/* Looks for the function of an address in `unit`. */
+static bool function_in_unit(uint64_t address) {
+    gimli_place_t place = {unit.header.header_size, 0};
+    gimli_filled_t filled;
+    uint32_t status = GIMLI_MORE;
+    while (status == GIMLI_MORE) {
+        status = gimli_entries(&sections, unit.header.offset, &place, rows, ROOM, attrs, space, &filled);
+        for (size_t i = 0; i < filled.rows; i++) {
+            struct entry entry = {attrs + rows[i].first, rows[i].attributes};
+            if (rows[i].tag == TAG_SUBPROGRAM && is_function(entry, address)) return true;
+        }
+        if (filled.wanted > space && !(attrs = realloc(attrs, (space = filled.wanted) * sizeof *attrs))) exit(3);
+    }
+    if (status != GIMLI_END) refused("the entry at", unit.header.offset + place.offset, status);
+    return false;
+}
+
+/* A hexadecimal number, with 0x before it or not. */
+static bool read_address(const char *text, uint64_t *address) {
+    char *end;
+    if (text[strspn(text, "0123456789abcdefABCDEFx")]) return false;
+    errno = 0;
+    *address = strtoull(text, &end, 16);
+    return *text && !*end && !errno;
+}
+
+int main(int argc, char **argv) {
+    uint64_t offset = 0, address;
+    if (argc != 3 || !read_address(argv[2], &address)) return fprintf(stderr, "usage: function_at ELF ADDRESS\n"), 2;
+    if (!read_sections(argv[1])) return fprintf(stderr, "function_at: %s is no linked ELF file\n", argv[1]), 2;
+    if (!(attrs = malloc(space * sizeof *attrs))) return 3;
+    if (gimli_unit_of_address(&sections, address, &offset) == GIMLI_MORE) {
+        if (begin_unit(offset) && function_in_unit(address)) return 0;
+    } else {
+        for (offset = 0; begin_unit(offset); offset += unit.header.length)
+            if (function_in_unit(address)) return 0;
+    }
+    printf("no function at 0x%" PRIx64 "\n", address);
+    return 1;
+}

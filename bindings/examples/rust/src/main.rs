@@ -1,0 +1,313 @@
+//! `function_at ELF ADDRESS`: prints the unit, the name and the ranges of the function at an address of a linked program.
+//! The sections are read by the crate `object`.
+
+use gimli_proved::{Attribute, AttributeValue, Bases, Entry, Error, Place, Range, Sections, UnitHeader};
+use object::{Object, ObjectKind, ObjectSection};
+use std::{borrow::Cow, io::Write, process::ExitCode};
+
+const SUBPROGRAM: u16 = 0x2e;
+const NAME: u16 = 0x03;
+const LOW_PC: u16 = 0x11;
+const HIGH_PC: u16 = 0x12;
+const ORIGIN: u16 = 0x31;
+const SPECIFICATION: u16 = 0x47;
+const RANGES: u16 = 0x55;
+const LINKAGE_NAME: u16 = 0x6e;
+const STR_OFFSETS_BASE: u16 = 0x72;
+const ADDR_BASE: u16 = 0x73;
+const RNGLISTS_BASE: u16 = 0x74;
+const MOST_STEPS: usize = 16;
+
+/// The sections that are read.
+const NAMES: [&str; 9] = [
+    ".debug_info",
+    ".debug_abbrev",
+    ".debug_addr",
+    ".debug_aranges",
+    ".debug_ranges",
+    ".debug_rnglists",
+    ".debug_str",
+    ".debug_line_str",
+    ".debug_str_offsets",
+];
+
+/// What the library refuses, with what stands there and where.
+struct Refused(Error, &'static str, u64);
+
+type Result<T> = std::result::Result<T, Refused>;
+
+/// The sections of a file, as bytes that live as long as it.
+struct File<'a> {
+    dwarf: Sections<'a>,
+    texts: &'a [u8],
+    line_texts: &'a [u8],
+    text_offsets: &'a [u8],
+}
+
+/// A unit, and the attributes of its root that others are read by.
+#[derive(Clone, Copy)]
+struct Unit {
+    header: UnitHeader,
+    bases: Bases,
+    text_offsets: u64,
+}
+
+type Attrs<'a> = Vec<Attribute<'a>>;
+
+fn find<'a>(attrs: &[Attribute<'a>], name: u16) -> Option<Attribute<'a>> {
+    attrs.iter().find(|a| a.name() == name).copied()
+}
+
+/// The number of an attribute that is an offset; 0 where it is not there.
+fn number_of(attrs: &[Attribute<'_>], name: u16) -> u64 {
+    find(attrs, name).and_then(|a| a.udata_value()).unwrap_or(0)
+}
+
+fn attrs_of<'a>(entry: &Entry<'a, '_>) -> Attrs<'a> {
+    entry.attrs().collect()
+}
+
+impl<'a> File<'a> {
+    /// The number of so many bytes at an index of a table in a section.
+    fn number_at(&self, section: &[u8], table: u64, index: u64, size: u8) -> Option<u64> {
+        let start = index.checked_mul(size.into())?.checked_add(table)?;
+        let bytes = section.get(start as usize..)?.get(..size.into())?;
+        let fold = |all: u64, byte: &u8| all << 8 | u64::from(*byte);
+        match self.dwarf.endian {
+            gimli_proved::Endian::Big => Some(bytes.iter().fold(0, fold)),
+            gimli_proved::Endian::Little => Some(bytes.iter().rev().fold(0, fold)),
+        }
+    }
+
+    /// The text of an attribute; a text of no bytes where it is none.
+    fn text_of(&self, unit: &Unit, attr: &Attribute<'a>) -> &'a [u8] {
+        let (section, offset) = match attr.raw_value() {
+            AttributeValue::String(text) => return text,
+            AttributeValue::DebugStrRef(offset) => (self.texts, Some(offset)),
+            AttributeValue::DebugLineStrRef(offset) => (self.line_texts, Some(offset)),
+            AttributeValue::DebugStrOffsetsIndex(index) => {
+                let size = unit.header.offset_size();
+                (self.texts, self.number_at(self.text_offsets, unit.text_offsets, index, size))
+            }
+            _ => return &[],
+        };
+        let from = offset.and_then(|offset| section.get(offset as usize..));
+        let length = from.and_then(|from| from.iter().position(|b| *b == 0));
+        from.zip(length).map_or(&[], |(from, length)| &from[..length])
+    }
+
+    /// The address that an attribute says.
+    fn address_of(&self, unit: &Unit, attr: &Attribute<'_>) -> Option<u64> {
+        match attr.raw_value() {
+            AttributeValue::Addr(address) => Some(address),
+            AttributeValue::DebugAddrIndex(index) => {
+                let size = unit.header.address_size();
+                self.number_at(self.dwarf.debug_addr, unit.bases.addresses, index, size)
+            }
+            _ => None,
+        }
+    }
+
+    /// The end of a range from its beginning on: an address, or the number of its bytes.
+    fn end_of(&self, unit: &Unit, high: &Attribute<'_>, begin: u64) -> u64 {
+        use AttributeValue::{Data1, Data2, Data4, Data8, Sdata, Udata};
+        self.address_of(unit, high).unwrap_or(match high.raw_value() {
+            Sdata(number) => begin.wrapping_add_signed(number),
+            Data1(_) | Data2(_) | Data4(_) | Data8(_) | Udata(_) => begin.wrapping_add(high.udata_value().unwrap_or(0)),
+            _ => begin,
+        })
+    }
+
+    /// The ranges of an entry.
+    fn ranges_of(&self, unit: &Unit, attrs: &[Attribute<'_>]) -> Result<Vec<Range>> {
+        let low = find(attrs, LOW_PC).and_then(|low| self.address_of(unit, &low));
+        if let Some((begin, high)) = low.zip(find(attrs, HIGH_PC)) {
+            let end = self.end_of(unit, &high, begin);
+            return Ok(if begin < end { vec![Range { begin, end }] } else { vec![] });
+        }
+        let Some(list) = find(attrs, RANGES) else { return Ok(vec![]) };
+        match self.dwarf.ranges(&unit.header, &list, &unit.bases) {
+            Err(Error::NoList) => Ok(vec![]),
+            Err(error) => Err(Refused(error, "the ranges of the unit at", unit.header.offset())),
+            Ok(ranges) => Ok(ranges),
+        }
+    }
+
+    /// The attributes of the entry at an offset of a unit.
+    fn entry_at(&self, header: &UnitHeader, offset: u64) -> Result<Attrs<'a>> {
+        let place = Place { offset, depth: 0 };
+        let mut entries = self.dwarf.entries_from(header, place, 1, 16);
+        let refused = |error| Refused(error, "the entry at", header.offset() + offset);
+        let entry = entries.next_entry().map_err(refused)?;
+        Ok(entry.map_or(vec![], |entry| attrs_of(&entry)))
+    }
+
+    /// The unit at an offset; none at the end.
+    fn unit_at(&self, offset: u64) -> Result<Option<Unit>> {
+        let refused = |error| Refused(error, "the unit at", offset);
+        let Some(header) = self.dwarf.unit_at(false, offset).map_err(refused)? else { return Ok(None) };
+        let root = self.entry_at(&header, header.header_size())?;
+        let mut unit = Unit { header, bases: Bases::default(), text_offsets: number_of(&root, STR_OFFSETS_BASE) };
+        unit.bases.addresses = number_of(&root, ADDR_BASE);
+        unit.bases.rnglists = number_of(&root, RNGLISTS_BASE);
+        let low = find(&root, LOW_PC).and_then(|low| self.address_of(&unit, &low));
+        unit.bases.address = low.unwrap_or(0);
+        Ok(Some(unit))
+    }
+
+    /// The entry that an attribute names, and its unit.
+    fn followed(&self, unit: Unit, attr: &Attribute<'_>) -> Result<Option<(Unit, Attrs<'a>)>> {
+        match attr.raw_value() {
+            AttributeValue::UnitRef(offset) => Ok(Some((unit, self.entry_at(&unit.header, offset)?))),
+            AttributeValue::DebugInfoRef(offset) => {
+                let mut at = 0;
+                while let Some(unit) = self.unit_at(at)? {
+                    let start = at;
+                    at += unit.header.length_including_self();
+                    if offset < at {
+                        return Ok(Some((unit, self.entry_at(&unit.header, offset - start)?)));
+                    }
+                }
+                Ok(None)
+            }
+            _ => Ok(None),
+        }
+    }
+
+    /// The text of the first attribute of a name, of an entry or of the entries that it stands for.
+    fn print_text(&self, out: &mut Vec<u8>, word: &str, of: &Unit, attrs: &Attrs<'a>, name: u16) -> Result<()> {
+        let (mut unit, mut attrs) = (*of, attrs.clone());
+        for _ in 0..MOST_STEPS {
+            if let Some(attr) = find(&attrs, name) {
+                let text = self.text_of(&unit, &attr);
+                out.extend([word.as_bytes(), b" ", text, b"\n"].concat());
+                return Ok(());
+            }
+            let Some(next) = find(&attrs, ORIGIN).or(find(&attrs, SPECIFICATION)) else { break };
+            match self.followed(unit, &next)? {
+                Some(entry) => (unit, attrs) = entry,
+                None => break,
+            }
+        }
+        Ok(())
+    }
+
+    /// Whether an entry is the function of an address; then it is printed.
+    fn is_function(&self, out: &mut Vec<u8>, unit: &Unit, attrs: &Attrs<'a>, address: u64) -> Result<bool> {
+        let ranges = self.ranges_of(unit, attrs)?;
+        if !ranges.iter().any(|r| (r.begin..r.end).contains(&address)) {
+            return Ok(false);
+        }
+        out.extend(format!("unit {:#x}\n", unit.header.offset()).bytes());
+        let root = self.entry_at(&unit.header, unit.header.header_size())?;
+        self.print_text(out, "file", unit, &root, NAME)?;
+        self.print_text(out, "function", unit, attrs, NAME)?;
+        self.print_text(out, "linkage name", unit, attrs, LINKAGE_NAME)?;
+        for range in ranges {
+            out.extend(format!("range {:#x} {:#x}\n", range.begin, range.end).bytes());
+        }
+        Ok(true)
+    }
+
+    /// Looks for the function of an address in a unit.
+    fn function_in_unit(&self, out: &mut Vec<u8>, unit: &Unit, address: u64) -> Result<bool> {
+        let mut entries = self.dwarf.entries(&unit.header);
+        loop {
+            match entries.next_entry() {
+                Ok(None) => return Ok(false),
+                Ok(Some(entry)) => {
+                    if entry.tag() == SUBPROGRAM && self.is_function(out, unit, &attrs_of(&entry), address)? {
+                        return Ok(true);
+                    }
+                }
+                Err(error) => {
+                    let offset = unit.header.offset() + entries.place().offset;
+                    return Err(Refused(error, "the entry at", offset));
+                }
+            }
+        }
+    }
+
+    /// Prints the function of an address; false where there is none.
+    fn print_function(&self, out: &mut Vec<u8>, address: u64) -> Result<bool> {
+        if let Ok(Some(offset)) = self.dwarf.unit_of_address(address) {
+            return match self.unit_at(offset)? {
+                Some(unit) => self.function_in_unit(out, &unit, address),
+                None => Ok(false),
+            };
+        }
+        let mut offset = 0;
+        while let Some(unit) = self.unit_at(offset)? {
+            if self.function_in_unit(out, &unit, address)? {
+                return Ok(true);
+            }
+            offset += unit.header.length_including_self();
+        }
+        Ok(false)
+    }
+}
+
+/// Prints the answer, whose exit status is 0 where there is a function and else 1; none where the file is no linked ELF file.
+fn answer(bytes: &[u8], address: u64) -> Option<u8> {
+    let elf = object::File::parse(bytes).ok()?;
+    if !matches!(elf.kind(), ObjectKind::Executable | ObjectKind::Dynamic) {
+        return None;
+    }
+    let held = NAMES.map(|name| {
+        let section = elf.section_by_name(name);
+        section.and_then(|section| section.uncompressed_data().ok()).unwrap_or(Cow::Borrowed(&[]))
+    });
+    let [
+        debug_info,
+        debug_abbrev,
+        debug_addr,
+        debug_aranges,
+        debug_ranges,
+        debug_rnglists,
+        texts,
+        line_texts,
+        text_offsets,
+    ] = held.each_ref().map(|section| &**section);
+    let endian = if elf.is_little_endian() { gimli_proved::Endian::Little } else { gimli_proved::Endian::Big };
+    let dwarf = Sections {
+        debug_info,
+        debug_abbrev,
+        debug_addr,
+        debug_aranges,
+        debug_ranges,
+        debug_rnglists,
+        endian,
+        ..Sections::default()
+    };
+    let mut out = vec![];
+    let file = File { dwarf, texts, line_texts, text_offsets };
+    let found = file.print_function(&mut out, address);
+    match found {
+        Ok(true) => {}
+        Ok(false) => out.extend(format!("no function at {address:#x}\n").bytes()),
+        Err(Refused(error, what, offset)) => {
+            out.extend(format!("error {}: {what} {offset:#x}\n", error.number()).bytes());
+        }
+    }
+    std::io::stdout().write_all(&out).ok()?;
+    Some(u8::from(!matches!(found, Ok(true))))
+}
+
+fn main() -> ExitCode {
+    let words: Vec<String> = std::env::args().skip(1).collect();
+    let [file, address] = &words[..] else {
+        eprintln!("usage: function_at ELF ADDRESS");
+        return ExitCode::from(2);
+    };
+    let Ok(address) = u64::from_str_radix(address.trim_start_matches("0x"), 16) else {
+        eprintln!("usage: function_at ELF ADDRESS");
+        return ExitCode::from(2);
+    };
+    match std::fs::read(file).ok().and_then(|bytes| answer(&bytes, address)) {
+        Some(status) => ExitCode::from(status),
+        None => {
+            eprintln!("function_at: {file} is no linked ELF file");
+            ExitCode::from(2)
+        }
+    }
+}

@@ -1,0 +1,95 @@
+#!/bin/bash
+# test.sh: builds the three examples over what bindings/build.sh has built, and asks each for the functions of programs that gcc
+# and clang make. The three answers are the same, and so is that of pyelftools' own reader (oracle.py); the name is addr2line's.
+# Debian's packages libelf-dev, librust-object-dev and python3-pyelftools have to be there.
+set -euo pipefail
+here=$(cd "$(dirname "$0")" && pwd)
+target=$here/../target
+made=$target/examples
+mkdir -p "$made"
+python=
+for it in "${PYTHON:-python3}" /usr/bin/python3; do
+    if [ -z "$python" ] && "$it" -c 'import elftools' 2> "$made/told"; then python=$it; fi
+done
+if [ -z "$python" ]; then echo "examples: no Python has pyelftools (python3-pyelftools)"; exit 1; fi
+cc -std=gnu11 -O2 -Wall -Wextra -o "$made/function_at_c" "$here/c/function_at.c" \
+    $(pkg-config --cflags --libs "$target/gimli.pc") $(pkg-config --cflags --libs libelf)
+(cd "$here/rust" && cargo build --release --quiet --locked --target-dir "$made/rust")
+
+# ask LANGUAGE PROGRAM ADDRESS: what the example of a language prints
+ask() {
+    case $1 in
+        c) "$made/function_at_c" "$2" "$3" ;;
+        rust) "$made/rust/release/function_at" "$2" "$3" ;;
+        python) "$python" "$here/python/function_at.py" "$2" "$3" ;;
+    esac
+}
+
+# addresses PROGRAM: the first and the last address of each of its functions, those of parts too, and some that have none
+addresses() {
+    nm --defined-only --print-size "$1" | while read -r start size kind name; do
+        case $kind:$name in
+            [tTwW]:_init | [tTwW]:_fini | [tTwW]:_start) ;;
+            [tTwW]:*) printf '%x\n%x\n' "0x$start" $((0x$start + 0x${size:-1} - 1)) ;;
+        esac
+    done | sort -u | grep -v '^0$'
+    echo 10
+    echo fffffffffffffff0
+}
+
+asked=0 programs=0
+try() {
+    local program=$made/$1 address wanted name
+    shift
+    "$@" -o "$program"
+    addresses "$program" > "$made/addresses"
+    "$python" "$here/oracle.py" "$program" $(cat "$made/addresses") > "$made/wanted"
+    for language in c rust python; do
+        for address in $(cat "$made/addresses"); do
+            echo "== $address"
+            ask $language "$program" "$address" || test $? = 1
+        done > "$made/answers.$language"
+        if ! diff "$made/wanted" "$made/answers.$language"; then echo "$language: another answer for $program"; exit 1; fi
+    done
+    # the last name of addr2line is that of the function which others are inlined into; ?? where there is none
+    for address in $(cat "$made/addresses"); do
+        name=$(addr2line -f -i -e "$program" "0x$address" | tail -2 | head -1)
+        wanted=$(awk -v at="== $address" '/^==/ { on = $0 == at } on && /^function / { name = $2 } on && /^linkage name / { name = $3 }
+            END { print name == "" ? "??" : name }' "$made/wanted")
+        if [ "$name" != "$wanted" ] && grep -A1 "^== $address\$" "$made/wanted" | grep -q ^unit; then
+            echo "$program $address: $wanted beside addr2line's $name"; exit 1
+        fi
+        asked=$((asked + 1))
+    done
+    programs=$((programs + 1))
+}
+
+for version in "" -gdwarf-4 -gdwarf-5; do
+    for level in -O0 -O2; do
+        try "c$version$level" gcc -g $version $level "$here/programs/split.c"
+        try "cc$version$level" g++ -g $version $level "$here/programs/shapes.cc"
+    done
+done
+try c-compressed gcc -g -O2 -gz "$here/programs/split.c"
+if command -v clang > "$made/told"; then
+    try c-clang clang -g -gdwarf-5 -O2 "$here/programs/split.c"
+    try cc-clang clang++ -g -gdwarf-4 -O2 "$here/programs/shapes.cc"
+fi
+grep -q . "$made/wanted"
+
+# messages in place of answers
+for language in c rust python; do
+    for words in "" "$here/test.sh 10" "/none 10" "$made/c-compressed nine" "$made/c-compressed"; do
+        status=0
+        ask3() { case $language in
+            c) "$made/function_at_c" "$@" ;;
+            rust) "$made/rust/release/function_at" "$@" ;;
+            python) "$python" "$here/python/function_at.py" "$@" ;;
+        esac; }
+        ask3 $words > "$made/told" 2>&1 || status=$?
+        if [ $status != 2 ] || [ "$(wc -l < "$made/told")" != 1 ]; then
+            echo "$language: '$words' ends with $status:"; cat "$made/told"; exit 1
+        fi
+    done
+done
+echo "examples: $asked addresses in $programs programs, the same in C, Rust and Python, by pyelftools and by addr2line"
