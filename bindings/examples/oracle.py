@@ -1,5 +1,7 @@
 #!/usr/bin/env python3
-"""oracle.py ELF ADDRESS..: what function_at prints for each address, by pyelftools' own reader of DWARF, after a line with it."""
+"""oracle.py ELF ADDRESS..: what function_at prints for each address, by pyelftools' own reader of
+DWARF, after a line with it.
+"""
 import sys
 
 from elftools.dwarf.descriptions import set_global_machine_arch

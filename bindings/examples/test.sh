@@ -1,7 +1,8 @@
 #!/bin/bash
-# test.sh: builds the three examples over what bindings/build.sh has built, and asks each for the functions of programs that gcc
-# and clang make. The three answers are the same, and so is that of pyelftools' own reader (oracle.py); the name is addr2line's.
-# Debian's packages libelf-dev, librust-object-dev and python3-pyelftools have to be there.
+# test.sh: builds the three examples over what bindings/build.sh has built, and asks each for the
+# functions of programs that gcc and clang make. The three answers are the same, and so is that of
+# pyelftools' own reader (oracle.py); the name is addr2line's. Debian's packages libelf-dev,
+# librust-object-dev and python3-pyelftools have to be there.
 set -euo pipefail
 here=$(cd "$(dirname "$0")" && pwd)
 target=$here/../target
@@ -25,7 +26,8 @@ ask() {
     esac
 }
 
-# addresses PROGRAM: the first and the last address of each of its functions, those of parts too, and some that have none
+# addresses PROGRAM: the first and the last address of each of its functions, those of parts too,
+# and some that have none
 addresses() {
     nm --defined-only --print-size "$1" | while read -r start size kind name; do
         case $kind:$name in
@@ -37,7 +39,7 @@ addresses() {
     echo fffffffffffffff0
 }
 
-asked=0 programs=0
+asked=0 programs=0 split=0
 try() {
     local program=$made/$1 address wanted name
     shift
@@ -51,7 +53,8 @@ try() {
         done > "$made/answers.$language"
         if ! diff "$made/wanted" "$made/answers.$language"; then echo "$language: another answer for $program"; exit 1; fi
     done
-    # the last name of addr2line is that of the function which others are inlined into; ?? where there is none
+    # the last name of addr2line is that of the function which others are inlined into; ?? where
+    # there is none
     for address in $(cat "$made/addresses"); do
         name=$(addr2line -f -i -e "$program" "0x$address" | tail -2 | head -1)
         wanted=$(awk -v at="== $address" '/^==/ { on = $0 == at } on && /^function / { name = $2 } on && /^linkage name / { name = $3 }
@@ -61,6 +64,7 @@ try() {
         fi
         asked=$((asked + 1))
     done
+    split=$((split + $(uniq -c -w 6 "$made/wanted" | awk '$2 == "range" && $1 > 1' | wc -l)))
     programs=$((programs + 1))
 }
 
@@ -75,7 +79,7 @@ if command -v clang > "$made/told"; then
     try c-clang clang -g -gdwarf-5 -O2 "$here/programs/split.c"
     try cc-clang clang++ -g -gdwarf-4 -O2 "$here/programs/shapes.cc"
 fi
-grep -q . "$made/wanted"
+if [ $split -lt 4 ]; then echo "examples: no function of several ranges was asked for"; exit 1; fi
 
 # messages in place of answers
 for language in c rust python; do

@@ -1,5 +1,6 @@
-/* function_at ELF ADDRESS: prints the unit, the name and the ranges of the function at an address of a linked program. The
-   sections are read by libelf: cc function_at.c $(pkg-config --cflags --libs ../../target/gimli.pc libelf). */
+/* function_at ELF ADDRESS: prints the unit, the name and the ranges of the function at an address
+   of a linked program. The sections are read by libelf: cc function_at.c $(pkg-config --cflags
+   --libs ../../target/gimli.pc libelf). */
 #include "gimli.h"
 #include <errno.h>
 #include <fcntl.h>
@@ -68,6 +69,7 @@ static bool read_sections(const char *file) {
     Elf *elf = elf_begin(in, ELF_C_READ, NULL);
     if (!elf || elf_kind(elf) != ELF_K_ELF || !gelf_getehdr(elf, &header)) return false;
     if (header.e_type != ET_EXEC && header.e_type != ET_DYN) return false;
+    if (header.e_shoff && !elf_getscn(elf, 1)) return false;
     sections = gimli_no_sections();
     sections.units = section(elf, ".debug_info");
     sections.abbrev = section(elf, ".debug_abbrev");
@@ -159,7 +161,7 @@ static struct entry entry_at(uint64_t offset) {
         if (!(list = realloc(list, room * sizeof *list))) exit(3);
         status = gimli_entries(&sections, unit.header.offset, &place, &row, 1, list, room, &filled);
     }
-    if (filled.rows == 0) refused("the entry at", unit.header.offset + offset, status);
+    if (filled.rows == 0 && status != GIMLI_END) refused("the entry at", unit.header.offset + offset, status);
     entry.attrs = list;
     entry.count = filled.attributes;
     return entry;

@@ -1,4 +1,5 @@
-// Member functions that are declared in a class, a template, a constructor and a function that is inlined and also called.
+// Member functions that are declared in a class, a template, a constructor and a function that is
+// inlined and also called.
 #include <cstdio>
 #include <stdexcept>
 

@@ -1,4 +1,5 @@
-/* A function that gcc splits into a hot and a cold part, one that is inlined and one that is inlined and also called. */
+/* A function that gcc splits into a hot and a cold part, one that is inlined and one that is
+   inlined and also called. */
 #include <stdio.h>
 #include <stdlib.h>
 

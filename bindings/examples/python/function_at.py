@@ -1,8 +1,10 @@
 #!/usr/bin/env python3
-"""function_at.py ELF ADDRESS: prints the unit, the name and the ranges of the function at an address of a linked program.
+"""function_at.py ELF ADDRESS: prints the unit, the name and the ranges of the function at an
+address of a linked program.
 
-The sections are read by pyelftools, and what is in them by the proved library: GIMLI_LIBRARY names libgimli.so, where it is not
-where bindings/build.sh leaves it.
+The sections are read by pyelftools, and what is in them by the proved library: GIMLI_LIBRARY
+names libgimli.so, where it is not where bindings/build.sh leaves it.
+
 """
 import os
 import sys
@@ -27,26 +29,29 @@ class Stopped(Exception):
         super().__init__(f"error {refused.number}: {what} {offset:#x}")
 
 
+NAMES = ["info", "abbrev", "addr", "aranges", "ranges", "rnglists", "str", "line_str", "str_offsets"]
+
+
+def read_sections(path):
+    """Whether numbers have the lowest byte first, and the sections, of a linked ELF file."""
+    with open(path, "rb") as file:
+        elf = ELFFile(file)
+        if elf["e_type"] not in ("ET_EXEC", "ET_DYN"):
+            raise ELFError("not linked")
+        sections = [elf.get_section_by_name(f".debug_{name}") for name in NAMES]
+        there = [it is not None and it["sh_type"] != "SHT_NOBITS" for it in sections]
+        return elf.little_endian, [it.data() if is_there else b"" for it, is_there in zip(sections, there)]
+
+
 class File:
-    """The sections of a linked ELF file."""
+    """The sections of a file, and the library over them."""
 
-    def __init__(self, path):
-        with open(path, "rb") as file:
-            elf = ELFFile(file)
-            if elf["e_type"] not in ("ET_EXEC", "ET_DYN"):
-                raise ELFError("not linked")
-            self.little = elf.little_endian
-            bytes_of = {name: self.section(elf, f".debug_{name}")
-                        for name in ("info", "abbrev", "addr", "aranges", "ranges", "rnglists", "str", "line_str", "str_offsets")}
+    def __init__(self, little, sections):
+        bytes_of = dict(zip(NAMES, sections))
+        self.little, self.addr = little, bytes_of["addr"]
         self.texts, self.line_texts, self.text_offsets = (bytes_of.pop(name) for name in ("str", "line_str", "str_offsets"))
-        self.addr = bytes_of["addr"]
         library = gimli.load(os.environ.get("GIMLI_LIBRARY", BINDINGS / "target/libgimli.so"))
-        self.dwarf = gimli.Dwarf(library, big=not self.little, **{f"debug_{name}": data for name, data in bytes_of.items()})
-
-    @staticmethod
-    def section(elf, name):
-        section = elf.get_section_by_name(name)
-        return b"" if section is None or section["sh_type"] == "SHT_NOBITS" else section.data()
+        self.dwarf = gimli.Dwarf(library, big=not little, **{f"debug_{name}": data for name, data in bytes_of.items()})
 
     def number_at(self, section, table, index, size):
         """The number of so many bytes at an index of a table in a section, or None."""
@@ -102,7 +107,7 @@ class Unit:
         """The attributes of the entry at an offset, by their names."""
         try:
             entries = self.file.dwarf.raw_entries(self.header, 1, 16, gimli.Place(offset, 0))
-            return self.by_name(next(entries)[1])
+            return self.by_name(next(entries, (None, []))[1])
         except gimli.Refused as refused:
             raise Stopped(refused, "the entry at", self.header.offset + offset) from None
 
@@ -207,11 +212,11 @@ def main(words):
         print("usage: function_at ELF ADDRESS", file=sys.stderr)
         return 2
     try:
-        file = File(path)
-    except (OSError, ELFError):
+        little, sections = read_sections(path)
+    except Exception:  # pyelftools lets through whatever it stumbles over
         print(f"function_at: {path} is no linked ELF file", file=sys.stderr)
         return 2
-    out, found = [], False
+    out, found, file = [], False, File(little, sections)
     try:
         found = file.print_function(out, address)
         if not found:

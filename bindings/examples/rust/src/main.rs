@@ -1,5 +1,5 @@
-//! `function_at ELF ADDRESS`: prints the unit, the name and the ranges of the function at an address of a linked program.
-//! The sections are read by the crate `object`.
+//! `function_at ELF ADDRESS`: prints the unit, the name and the ranges of the function at an
+//! address of a linked program. The sections are read by the crate `object`.
 
 use gimli_proved::{Attribute, AttributeValue, Bases, Entry, Error, Place, Range, Sections, UnitHeader};
 use object::{Object, ObjectKind, ObjectSection};
@@ -247,7 +247,8 @@ impl<'a> File<'a> {
     }
 }
 
-/// Prints the answer, whose exit status is 0 where there is a function and else 1; none where the file is no linked ELF file.
+/// Prints the answer, whose exit status is 0 where there is a function and else 1; none where the
+/// file is no linked ELF file.
 fn answer(bytes: &[u8], address: u64) -> Option<u8> {
     let elf = object::File::parse(bytes).ok()?;
     if !matches!(elf.kind(), ObjectKind::Executable | ObjectKind::Dynamic) {
