@@ -1,6 +1,7 @@
 #!/bin/bash
-# build.sh: makes of crates/gimli_c, which it proves where that is to do, what C, Rust and Python link: target/libgimli.a,
-# target/libgimli.so and target/gimli.pc; and the C programs beside them. `build.sh test` runs the tests of all three too.
+# build.sh: makes of crates/gimli_c, which it proves where that is to do, what C, Rust and Python
+# link: target/libgimli.a, target/libgimli.so and target/gimli.pc; and the C programs beside them.
+# `build.sh test` runs the tests of all three too.
 set -euo pipefail
 here=$(cd "$(dirname "$0")" && pwd)
 target=$here/target
@@ -19,7 +20,8 @@ calls=$(grep -o '^uint32_t gimli_[a-z_]*' "$here/include/gimli.h" | cut -d' ' -f
 printf '{ global: %s local: *; };\n' "$(printf '%s; ' $calls)" > "$target/exports"
 cc -shared -o "$target/libgimli.so" -Wl,--whole-archive "$target/libgimli.a" -Wl,--no-whole-archive \
     -Wl,--version-script="$target/exports" -Wl,-z,defs
-# names its own folder, so that it stays right where the tree moves; the archive is linked, as the shared library would have to be found
+# names its own folder, so that it stays right where the tree moves; the archive is linked, as the
+# shared library would have to be found
 cat > "$target/gimli.pc" <<'PC'
 libdir=${pcfiledir}
 includedir=${pcfiledir}/../include

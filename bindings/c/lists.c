@@ -1,7 +1,9 @@
-/* lists: the calls that tables of rows do not reach: ranges, locations, the unit of an address, siblings and false references,
-   in both byte orders, with buffers of length 0, and with null sections. Prints what differs; the exit status says if any did. */
+/* lists: the calls that tables of rows do not reach: ranges, locations, the unit of an address,
+   siblings and false references, in both byte orders, with buffers of length 0, and with null
+   sections. Prints what differs; the exit status says if any did. */
 #include "gimli.h"
 #include <stdio.h>
+#include <string.h>
 
 static int bad;
 
@@ -24,6 +26,42 @@ static void empty_sections(void) {
     same("count", count, 0);
     same("no set", gimli_unit_of_address(&s, 5, &offset), GIMLI_END);
     same("offset", offset, 7);
+}
+
+/* null in place of each section and of each buffer: of no bytes, and of no room, whatever the
+   length beside it */
+static void nulls(void) {
+    static const uint8_t info[] = {8, 0, 0, 0, 4, 0, 0, 0, 0, 0, 8, 0};
+    gimli_sections_t s, none;
+    gimli_unit_t unit, kept;
+    gimli_place_t place = {0x0b, 0};
+    gimli_row_t row;
+    gimli_attr_t list;
+    gimli_filled_t filled;
+    gimli_bases_t bases;
+    uint64_t offset = 7;
+    size_t count = 7;
+    memset(&none, 0, sizeof none);
+    memset(&list, 0, sizeof list);
+    memset(&bases, 0, sizeof bases);
+    s = none;
+    s.units = gimli_bytes(info, sizeof info);
+    same("no unit of null", gimli_unit(&none, 0, &kept), GIMLI_END);
+    same("a unit", gimli_unit(&s, 0, &unit), GIMLI_MORE);
+    same("rows of null", gimli_rows(&none, 0, &place, NULL, 0, &count), GIMLI_REFUSED + GIMLI_UNEXPECTED_EOF);
+    same("rows without abbreviations", gimli_rows(&s, 0, &place, NULL, 0, &count), GIMLI_REFUSED + GIMLI_UNEXPECTED_EOF);
+    same("a sibling", gimli_sibling(&s, 0, &place, 1, &row), GIMLI_REFUSED + GIMLI_UNEXPECTED_EOF);
+    same("a false reference", gimli_first_false(&s, 0, &offset), GIMLI_REFUSED + GIMLI_UNEXPECTED_EOF);
+    same("an address", gimli_unit_of_address(&none, 5, &offset), GIMLI_END);
+    s.abbrev = gimli_bytes("", 1);
+    same("no room for rows", gimli_rows(&s, 0, &place, NULL, 4, &count), GIMLI_MORE);
+    same("their number", count, 0);
+    same("no room for entries", gimli_entries(&s, 0, &place, NULL, 4, NULL, 9, &filled), GIMLI_MORE);
+    same("their number", filled.rows + filled.attributes + filled.wanted, 0);
+    list.kind = GIMLI_SEC_OFFSET;
+    same("ranges", gimli_ranges(&s, &unit, &list, &bases, NULL, 0, &count), GIMLI_END);
+    same("locations", gimli_locations(&s, &unit, &list, &bases, NULL, 0, &count), GIMLI_END);
+    same("offsets", offset, 7);
 }
 
 /* a unit of version 5: an entry with ranges and a location list */
@@ -109,6 +147,7 @@ static void siblings(uint8_t target, uint32_t falsely) {
 
 int main(void) {
     empty_sections();
+    nulls();
     lists();
     types();
     siblings(0x0f, GIMLI_END);

@@ -1,15 +1,18 @@
 /* The proved DWARF reader for C and C++.
 
-   Every call fills what its caller hands over and keeps nothing: there is nothing to free, and any thread may call at any
-   time. What a call gives is proved over definitions of DWARF, for all bytes of the sections (crates/gimli_c). This header is
-   written by hand beside it: the assertions at its end and the tests are all that compares the two.
+   Every call fills what its caller hands over and keeps nothing: there is nothing to free, and
+   any thread may call at any time. What a call gives is proved over definitions of DWARF, for all
+   bytes of the sections (crates/gimli_c). This header is written by hand beside it: the sizes at
+   its end and the tests are all that compares the two.
 
    What a caller owes:
-   - Pointers are valid for the lengths beside them, and lengths are at most 2^63 - 1. No pointer is null, also where its
-     length is 0: begin with gimli_no_sections(), set sections by gimli_bytes(), which takes null for no bytes, and hand over
-     GIMLI_NONE for a buffer of length 0.
+   - Pointers are valid for the lengths beside them, and lengths are at most 2^63 - 1. A section
+     and a buffer may be null, which is one of no bytes and of no room: the end of this header
+     sees to that. Who calls the library without it hands over an address that is not null, also
+     where the length is 0.
    - What is written to overlaps nothing that the same call reads or writes.
-   - The program has 64 bits, and its malloc, realloc and free are of one allocator.
+   - The program has 64 bits, and its malloc, realloc and free are of one allocator, which aligns
+     a block to each power of two up to 16 that divides its size.
    - No call is made from a signal handler, or in the forked child of a process with threads.
    Buffers need not be set before a call. */
 #ifndef GIMLI_H
@@ -46,7 +49,7 @@ enum gimli_error {
 
 /* Bytes of a section. */
 typedef struct {
-    const uint8_t *bytes; /* never null */
+    const uint8_t *bytes; /* null: none */
     size_t length;
 } gimli_bytes_t;
 
@@ -144,7 +147,8 @@ typedef struct {
     uint64_t end; /* behind the last */
 } gimli_range_t;
 
-/* A range of addresses, and where the expression that holds there lies in .debug_loclists (.debug_loc up to version 4). */
+/* A range of addresses, and where the expression that holds there lies in .debug_loclists
+   (.debug_loc up to version 4). */
 typedef struct {
     uint64_t begin;
     uint64_t end;
@@ -173,60 +177,143 @@ static inline gimli_sections_t gimli_no_sections(void) {
 }
 
 /* The header of the unit at an offset of `units`.
-   MORE: `unit` is it. Else `unit` is as it was. END: the offset is the section's length. REFUSED: it was refused. */
+   MORE: `unit` is it. Else `unit` is as it was. END: the offset is the section's length. REFUSED:
+   it was refused. */
 uint32_t gimli_unit(const gimli_sections_t *sections, uint64_t offset, gimli_unit_t *unit);
 
-/* Rows of the unit at an offset of `units`, from a place on: `count` of them from the front of all that are left. The place is
-   left behind them, and `rows` is as it was behind them. `units` and `abbrev` are read.
-   MORE: the buffer is full, and there is more. END: none is left. ROW_REFUSED: what stands at the place was refused.
-   TOO_DEEP, or REFUSED of the unit, of its abbreviations or of the place's offset: no row, and the place is as it was.
-   Where memory was refused, the rows that were written are right too, and the next call goes on. */
+/* Rows of the unit at an offset of `units`, from a place on: `count` of them from the front of
+   all that are left. The place is left behind them, and `rows` is as it was behind them. `units`
+   and `abbrev` are read.
+   MORE: the buffer is full, and there is more. END: none is left. ROW_REFUSED: what stands at the
+   place was refused.
+   TOO_DEEP, or REFUSED of the unit, of its abbreviations or of the place's offset: no row, and
+   the place is as it was. Where memory was refused, the rows that were written are right too, and
+   the next call goes on. */
 uint32_t gimli_rows(const gimli_sections_t *sections, uint64_t unit, gimli_place_t *place, gimli_row_t *rows, size_t room,
                     size_t *count);
 
-/* The same with the attributes of each row, one row's after those of the row before. Rows are written as long as there is
-   room for them and space for all their attributes. MORE with filled->wanted not 0: the next row wants so much space. */
+/* The same with the attributes of each row, one row's after those of the row before. Rows are
+   written as long as there is room for them and space for all their attributes. MORE with
+   filled->wanted not 0: the next row wants so much space. */
 uint32_t gimli_entries(const gimli_sections_t *sections, uint64_t unit, gimli_place_t *place, gimli_entry_t *rows, size_t room,
                        gimli_attr_t *attrs, size_t space, gimli_filled_t *filled);
 
-/* The next sibling of the row at a place: the next entry of its depth, before the null that closes their list. `units` and
-   `abbrev` are read. With `follows` 0 all rows between are read; else the references of entries (DW_AT_sibling) are followed,
-   and the answer is the same where gimli_first_false finds none in the unit.
-   MORE: `row` is it. Else `row` is as it was. END: there is none, or a null stands at the place. ROW_REFUSED: what stands at
-   the place or behind was refused. REFUSED: of the unit, of its abbreviations or of the offset. */
+/* The next sibling of the row at a place: the next entry of its depth, before the null that
+   closes their list. `units` and `abbrev` are read. With `follows` 0 all rows between are read;
+   else the references of entries (DW_AT_sibling) are followed, and the answer is the same where
+   gimli_first_false finds none in the unit.
+   MORE: `row` is it. Else `row` is as it was. END: there is none, or a null stands at the place.
+   ROW_REFUSED: what stands at the place or behind was refused. REFUSED: of the unit, of its
+   abbreviations or of the offset. */
 uint32_t gimli_sibling(const gimli_sections_t *sections, uint64_t unit, const gimli_place_t *place, uint8_t follows,
                        gimli_row_t *row);
 
-/* The first row of a unit whose sibling reference can be followed and does not lead just past the null that closes its
-   children. `units` and `abbrev` are read.
-   MORE: it stands at `offset` of the unit. Else `offset` is as it was. END: there is none. REFUSED: of the unit or of its
-   abbreviations. */
+/* The first row of a unit whose sibling reference can be followed and does not lead just past the
+   null that closes its children. `units` and `abbrev` are read.
+   MORE: it stands at `offset` of the unit. Else `offset` is as it was. END: there is none.
+   REFUSED: of the unit or of its abbreviations. */
 uint32_t gimli_first_false(const gimli_sections_t *sections, uint64_t unit, uint64_t *offset);
 
-/* Where the unit of an address begins in .debug_info: that of the first set of `aranges` with a range that holds the address.
-   MORE: at `offset`. Else `offset` is as it was. END: no set has one. REFUSED: of the header of a set, and no set before it
-   has one. */
+/* Where the unit of an address begins in .debug_info: that of the first set of `aranges` with a
+   range that holds the address.
+   MORE: at `offset`. Else `offset` is as it was. END: no set has one. REFUSED: of the header of a
+   set, and no set before it has one. */
 uint32_t gimli_unit_of_address(const gimli_sections_t *sections, uint64_t address, uint64_t *offset);
 
-/* The ranges of the list that an attribute's value names (GIMLI_SEC_OFFSET, GIMLI_RNG_LISTS_INDEX), as gimli_entries writes it
-   for DW_AT_ranges of a row of `unit`: `count` are all before the first that is refused, of which as many are written as there
-   is room for. `ranges` or `rnglists` is read, and `addresses`.
-   MORE: there are more than there is room for. END: all were written. ROW_REFUSED: all were written, and what stands behind
-   them was refused. NO_LIST, or REFUSED of the size of addresses, of the index or of the offset: none. */
+/* The ranges of the list that an attribute's value names (GIMLI_SEC_OFFSET,
+   GIMLI_RNG_LISTS_INDEX), as gimli_entries writes it for DW_AT_ranges of a row of `unit`: `count`
+   are all before the first that is refused, of which as many are written as there is room for.
+   `ranges` or `rnglists` is read, and `addresses`.
+   MORE: there are more than there is room for. END: all were written. ROW_REFUSED: all were
+   written, and what stands behind them was refused. NO_LIST, or REFUSED of the size of addresses,
+   of the index or of the offset: none. */
 uint32_t gimli_ranges(const gimli_sections_t *sections, const gimli_unit_t *unit, const gimli_attr_t *attribute,
                       const gimli_bases_t *bases, gimli_range_t *into, size_t room, size_t *count);
 
-/* The same of locations (GIMLI_SEC_OFFSET, GIMLI_LOC_LISTS_INDEX). `loc` or `loclists` is read, and `addresses`. */
+/* The same of locations (GIMLI_SEC_OFFSET, GIMLI_LOC_LISTS_INDEX). `loc` or `loclists` is read,
+   and `addresses`. */
 uint32_t gimli_locations(const gimli_sections_t *sections, const gimli_unit_t *unit, const gimli_attr_t *attribute,
                          const gimli_bases_t *bases, gimli_location_t *into, size_t room, size_t *count);
 
+/* What makes null stand for no bytes and for no room: each call is made by the function below
+   that has its name. */
+static inline gimli_bytes_t gimli_held(gimli_bytes_t section) { return gimli_bytes(section.bytes, section.length); }
+
+static inline gimli_sections_t gimli_given(const gimli_sections_t *sections) {
+    gimli_sections_t given = *sections;
+    given.units = gimli_held(given.units), given.abbrev = gimli_held(given.abbrev);
+    given.addresses = gimli_held(given.addresses), given.aranges = gimli_held(given.aranges);
+    given.ranges = gimli_held(given.ranges), given.rnglists = gimli_held(given.rnglists);
+    given.loc = gimli_held(given.loc), given.loclists = gimli_held(given.loclists);
+    return given;
+}
+
+static inline uint32_t gimli_unit_given(const gimli_sections_t *sections, uint64_t offset, gimli_unit_t *unit) {
+    gimli_sections_t given = gimli_given(sections);
+    return gimli_unit(&given, offset, unit);
+}
+
+static inline uint32_t gimli_rows_given(const gimli_sections_t *sections, uint64_t unit, gimli_place_t *place, gimli_row_t *rows,
+                                        size_t room, size_t *count) {
+    gimli_sections_t given = gimli_given(sections);
+    return gimli_rows(&given, unit, place, rows ? rows : GIMLI_NONE(gimli_row_t), rows ? room : 0, count);
+}
+
+static inline uint32_t gimli_entries_given(const gimli_sections_t *sections, uint64_t unit, gimli_place_t *place,
+                                           gimli_entry_t *rows, size_t room, gimli_attr_t *attrs, size_t space,
+                                           gimli_filled_t *filled) {
+    gimli_sections_t given = gimli_given(sections);
+    return gimli_entries(&given, unit, place, rows ? rows : GIMLI_NONE(gimli_entry_t), rows ? room : 0,
+                         attrs ? attrs : GIMLI_NONE(gimli_attr_t), attrs ? space : 0, filled);
+}
+
+static inline uint32_t gimli_sibling_given(const gimli_sections_t *sections, uint64_t unit, const gimli_place_t *place,
+                                           uint8_t follows, gimli_row_t *row) {
+    gimli_sections_t given = gimli_given(sections);
+    return gimli_sibling(&given, unit, place, follows, row);
+}
+
+static inline uint32_t gimli_first_false_given(const gimli_sections_t *sections, uint64_t unit, uint64_t *offset) {
+    gimli_sections_t given = gimli_given(sections);
+    return gimli_first_false(&given, unit, offset);
+}
+
+static inline uint32_t gimli_unit_of_address_given(const gimli_sections_t *sections, uint64_t address, uint64_t *offset) {
+    gimli_sections_t given = gimli_given(sections);
+    return gimli_unit_of_address(&given, address, offset);
+}
+
+static inline uint32_t gimli_ranges_given(const gimli_sections_t *sections, const gimli_unit_t *unit,
+                                          const gimli_attr_t *attribute, const gimli_bases_t *bases, gimli_range_t *into,
+                                          size_t room, size_t *count) {
+    gimli_sections_t given = gimli_given(sections);
+    return gimli_ranges(&given, unit, attribute, bases, into ? into : GIMLI_NONE(gimli_range_t), into ? room : 0, count);
+}
+
+static inline uint32_t gimli_locations_given(const gimli_sections_t *sections, const gimli_unit_t *unit,
+                                             const gimli_attr_t *attribute, const gimli_bases_t *bases, gimli_location_t *into,
+                                             size_t room, size_t *count) {
+    gimli_sections_t given = gimli_given(sections);
+    return gimli_locations(&given, unit, attribute, bases, into ? into : GIMLI_NONE(gimli_location_t), into ? room : 0, count);
+}
+
+#define gimli_unit gimli_unit_given
+#define gimli_rows gimli_rows_given
+#define gimli_entries gimli_entries_given
+#define gimli_sibling gimli_sibling_given
+#define gimli_first_false gimli_first_false_given
+#define gimli_unit_of_address gimli_unit_of_address_given
+#define gimli_ranges gimli_ranges_given
+#define gimli_locations gimli_locations_given
+
+/* The sizes that the library takes these types to have. */
+typedef char gimli_sizes_t[sizeof(size_t) == 8 && sizeof(gimli_bytes_t) == 16 && sizeof(gimli_sections_t) == 136
+                           && sizeof(gimli_unit_t) == 56 && sizeof(gimli_place_t) == 16 && sizeof(gimli_row_t) == 24
+                           && sizeof(gimli_entry_t) == 40 && sizeof(gimli_attr_t) == 48 && sizeof(gimli_filled_t) == 24
+                           && sizeof(gimli_bases_t) == 40 && sizeof(gimli_range_t) == 16 && sizeof(gimli_location_t) == 32
+                           ? 1 : -1];
+
 #ifdef __cplusplus
 }
-static_assert(sizeof(size_t) == 8, "64 bits");
-#else
-_Static_assert(sizeof(size_t) == 8 && sizeof(gimli_bytes_t) == 16 && sizeof(gimli_sections_t) == 136, "64 bits");
-_Static_assert(sizeof(gimli_unit_t) == 56 && sizeof(gimli_place_t) == 16 && sizeof(gimli_row_t) == 24, "64 bits");
-_Static_assert(sizeof(gimli_entry_t) == 40 && sizeof(gimli_attr_t) == 48 && sizeof(gimli_filled_t) == 24, "64 bits");
-_Static_assert(sizeof(gimli_bases_t) == 40 && sizeof(gimli_range_t) == 16 && sizeof(gimli_location_t) == 32, "64 bits");
 #endif
 #endif
