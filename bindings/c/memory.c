@@ -1,69 +1,172 @@
-/* memory INFO ABBREV: reads the first unit with each allocation refused in turn, and goes on after it: the rows must be
-   those of an undisturbed run. Linked with --wrap=malloc --wrap=realloc. */
+/* memory INFO ABBREV: makes the calls that ask for memory over the first unit with each request
+   refused in turn, and again after it: the answers must be those of undisturbed calls, and what a
+   refused call was to write stays. The other calls must ask for none. Linked with --wrap=malloc
+   --wrap=realloc. */
 #include "gimli.h"
+#include "read_file.h"
 #include <stdio.h>
 #include <stdlib.h>
 #include <string.h>
 
-static long left = -1, refusals;
+enum { ROOM = 64, SPACE = 1024, MOST = 400, MARK = 0xaa };
+
+static long left = -1, refusals, requests;
 void *__real_malloc(size_t n);
 void *__real_realloc(void *p, size_t n);
+
 static int refuse(void) {
+    requests++;
     if (left > 0) left--;
-    else if (left == 0) { left = -1; refusals++; return 1; }
+    else if (left == 0) {
+        left = -1;
+        refusals++;
+        return 1;
+    }
     return 0;
 }
+
 void *__wrap_malloc(size_t n) { return refuse() ? NULL : __real_malloc(n); }
 void *__wrap_realloc(void *p, size_t n) { return refuse() ? NULL : __real_realloc(p, n); }
 
-static uint8_t info[1 << 22], abbrev[1 << 20];
-static gimli_entry_t first[1 << 16], again[1 << 16], rows[64];
-static gimli_attr_t attrs[1024];
+static gimli_sections_t sections;
+static gimli_unit_t unit;
+static gimli_entry_t rows[ROOM], first[1 << 16], again[1 << 16];
+static gimli_row_t plain[ROOM];
+static gimli_attr_t attrs[SPACE];
+
+static int fails(const char *what, long at) {
+    printf("%s, refused at %ld\n", what, at);
+    exit(1);
+}
+
+static int is_refused_memory(uint32_t status) {
+    return status == GIMLI_REFUSED + GIMLI_OUT_OF_MEMORY || status == GIMLI_ROW_REFUSED + GIMLI_OUT_OF_MEMORY;
+}
+
+static void is_kept(const char *what, const void *buffer, size_t filled, size_t size, long at) {
+    for (size_t i = filled; i < size; i++) if (((const unsigned char *)buffer)[i] != MARK) fails(what, at);
+}
+
+/* One call with a buffer of rows, with their attributes or without; what is behind its rows is as
+   it was. */
+static uint32_t some_rows(int attributes, gimli_place_t *place, size_t *count, long at) {
+    uint32_t status;
+    if (attributes) {
+        gimli_filled_t filled;
+        memset(rows, MARK, sizeof rows);
+        status = gimli_entries(&sections, unit.offset, place, rows, ROOM, attrs, SPACE, &filled);
+        *count = filled.rows;
+        is_kept("written behind entries", rows, filled.rows * sizeof *rows, sizeof rows, at);
+        return status;
+    }
+    memset(plain, MARK, sizeof plain);
+    status = gimli_rows(&sections, unit.offset, place, plain, ROOM, count);
+    is_kept("written behind rows", plain, *count * sizeof *plain, sizeof plain, at);
+    for (size_t i = 0; i < *count; i++) {
+        gimli_entry_t row = {plain[i].offset, plain[i].depth, 0, 0, plain[i].tag, plain[i].has_children};
+        rows[i] = row;
+    }
+    return status;
+}
+
+/* All rows of the unit where a request is refused, going on after it; their number. */
+static size_t all_rows(int attributes, long at, gimli_entry_t *to, uint32_t *status) {
+    gimli_place_t place = {unit.header_size, 0};
+    size_t all = 0;
+    left = at;
+    for (;;) {
+        gimli_place_t before = place;
+        size_t count;
+        *status = some_rows(attributes, &place, &count, at);
+        if (count == 0 && *status != GIMLI_MORE && memcmp(&before, &place, sizeof place)) fails("the place moved", at);
+        memcpy(to + all, rows, count * sizeof *rows);
+        all += count;
+        if (!is_refused_memory(*status) && *status != GIMLI_MORE) break;
+    }
+    left = -1;
+    return all;
+}
+
+static void same_rows(int attributes) {
+    uint32_t status, ended;
+    size_t total = all_rows(attributes, -1, first, &status);
+    long at = 0;
+    for (long had = refusals; at < MOST; at++, had = refusals) {
+        size_t all = all_rows(attributes, at, again, &ended);
+        if (all != total || ended != status) fails("another number of rows", at);
+        for (size_t i = 0; i < all; i++)
+            if (first[i].offset != again[i].offset || first[i].depth != again[i].depth || first[i].tag != again[i].tag
+                || first[i].attributes != again[i].attributes || first[i].has_children != again[i].has_children)
+                fails("another row", at);
+        if (refusals == had) break;
+    }
+    printf("%s: %zu, same after each of %ld refusals\n", attributes ? "entries" : "rows", total, at);
+}
+
+/* A call that writes one thing. */
+typedef uint32_t call_t(gimli_place_t place, void *into);
+
+static uint32_t plain_sibling(gimli_place_t place, void *into) { return gimli_sibling(&sections, unit.offset, &place, 0, into); }
+static uint32_t followed_sibling(gimli_place_t place, void *into) { return gimli_sibling(&sections, unit.offset, &place, 1, into); }
+static uint32_t first_false(gimli_place_t place, void *into) {
+    (void)place;
+    return gimli_first_false(&sections, unit.offset, into);
+}
+
+static void same_answer(const char *what, call_t *call, gimli_place_t place, size_t size) {
+    unsigned char wanted[64], got[64];
+    memset(wanted, MARK, sizeof wanted);
+    uint32_t status = call(place, wanted);
+    long at = 0;
+    for (long had = refusals; at < MOST; at++, had = refusals) {
+        memset(got, MARK, sizeof got);
+        left = at;
+        uint32_t refused = call(place, got);
+        left = -1;
+        if (refusals == had) break;
+        if (!is_refused_memory(refused)) fails(what, at);
+        is_kept(what, got, 0, sizeof got, at);
+        if (call(place, got) != status || memcmp(got, wanted, size)) fails(what, at);
+    }
+    if (at == 0) fails("no request", at);
+    printf("%s: status %u, same after each of %ld refusals\n", what, status, at);
+}
+
+/* The calls that ask for no memory: the bytes of the abbreviations stand for lists and sets. */
+static void ask_for_none(void) {
+    gimli_attr_t attr = {0};
+    gimli_bases_t bases = {0};
+    gimli_range_t range;
+    gimli_location_t location;
+    uint64_t offset;
+    size_t count;
+    long had = requests;
+    sections.ranges = sections.rnglists = sections.loc = sections.loclists = sections.aranges = sections.abbrev;
+    attr.kind = GIMLI_SEC_OFFSET;
+    gimli_unit(&sections, 0, &unit);
+    gimli_ranges(&sections, &unit, &attr, &bases, &range, 1, &count);
+    gimli_locations(&sections, &unit, &attr, &bases, &location, 1, &count);
+    gimli_unit_of_address(&sections, 1, &offset);
+    if (requests != had) fails("memory that is not asked for", 0);
+}
 
 int main(int argc, char **argv) {
     if (argc < 3) return 2;
-    FILE *a = fopen(argv[1], "rb"), *b = fopen(argv[2], "rb");
-    size_t m = fread(info, 1, sizeof info, a), n = fread(abbrev, 1, sizeof abbrev, b), count;
-    gimli_filled_t filled;
-    fclose(a); fclose(b);
-    gimli_unit_t unit;
-    gimli_sections_t sections = gimli_no_sections();
-    sections.units = gimli_bytes(info, m);
-    sections.abbrev = gimli_bytes(abbrev, n);
+    size_t info_length, abbrev_length;
+    uint8_t *info = read_file(argv[1], &info_length), *abbrev = read_file(argv[2], &abbrev_length);
+    if (!info || !abbrev) return 3;
+    sections = gimli_no_sections();
+    sections.units = gimli_bytes(info, info_length);
+    sections.abbrev = gimli_bytes(abbrev, abbrev_length);
     if (gimli_unit(&sections, 0, &unit) != GIMLI_MORE) return 3;
-    size_t total = 0;
-    for (long at = -1; at < 400; at++) {
-        gimli_place_t place = {unit.header_size, 0};
-        size_t all = 0;
-        uint32_t status = GIMLI_MORE;
-        long had = refusals;
-        left = at;
-        for (int calls = 0; calls < 100000; calls++) {
-            gimli_place_t before = place;
-            memset(rows, 0xaa, sizeof rows);
-            status = gimli_entries(&sections, 0, &place, rows, 64, attrs, 1024, &filled);
-            count = filled.rows;
-            for (size_t i = count; i < 64; i++)
-                for (size_t k = 0; k < sizeof *rows; k++)
-                    if (((unsigned char *)&rows[i])[k] != 0xaa) { puts("written behind"); return 1; }
-            if (count == 0 && status != GIMLI_MORE && memcmp(&before, &place, sizeof place)) { puts("moved"); return 1; }
-            memcpy((at < 0 ? first : again) + all, rows, count * sizeof *rows);
-            all += count;
-            if (status == 256 + GIMLI_OUT_OF_MEMORY || status == 512 + GIMLI_OUT_OF_MEMORY) continue;
-            if (status != GIMLI_MORE) break;
-        }
-        left = -1;
-        if (at < 0) total = all;
-        else if (all != total || status != GIMLI_END) { printf("differs at %ld: %zu %u\n", at, all, status); return 1; }
-        else
-            for (size_t i = 0; i < all; i++)
-                if (first[i].offset != again[i].offset || first[i].depth != again[i].depth || first[i].tag != again[i].tag
-                    || first[i].attributes != again[i].attributes || first[i].has_children != again[i].has_children) {
-                    printf("differs at %ld, row %zu\n", at, i);
-                    return 1;
-                }
-        if (at >= 0 && refusals == had) { printf("%zu rows, same after each of %ld refusals\n", total, refusals); return 0; }
-    }
-    printf("%zu rows, same after each of %ld refusals (no more tried)\n", total, refusals);
+    same_rows(1);
+    same_rows(0);
+    gimli_place_t root = {unit.header_size, 0}, child = {first[1].offset, first[1].depth};
+    same_answer("a sibling", plain_sibling, child, sizeof(gimli_row_t));
+    same_answer("a sibling by references", followed_sibling, child, sizeof(gimli_row_t));
+    same_answer("the root's sibling", plain_sibling, root, sizeof(gimli_row_t));
+    same_answer("the first false reference", first_false, root, sizeof(uint64_t));
+    ask_for_none();
+    free(info), free(abbrev);
     return 0;
 }
