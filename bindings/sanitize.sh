@@ -1,6 +1,9 @@
 #!/bin/bash
-# sanitize.sh: runs the C programs over the library that build.sh has built with the compiler's checks of addresses and of
-# undefined behaviour, on the real files and on each of them cut at many places. The checks see the C side and the allocator.
+# sanitize.sh: runs the C programs over the library that build.sh has built with the compiler's
+# checks of addresses, leaks and undefined behaviour: on the real files, on each of them cut at
+# many places, and on all rows of the tables of tests, whose answers are compared (hostile.py).
+# The checks see the C side and the allocator; behind each section and each buffer of hostile.c no
+# page is mapped.
 set -euo pipefail
 here=$(cd "$(dirname "$0")" && pwd)
 target=$here/target
@@ -29,3 +32,4 @@ for info in "$data"/*.info; do
     done
 done
 echo "$runs runs on cut files without a report"
+"$here/hostile.sh"

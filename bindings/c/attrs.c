@@ -1,5 +1,6 @@
-/* attrs INFO ABBREV [ROOM] [SPACE] [REPEAT]: prints the rows of all units with their attributes: a line for each row, as
-   rows.c does, then one for each attribute: its name, form and class, its number, and its text where it has one. */
+/* attrs INFO ABBREV [ROOM] [SPACE] [REPEAT]: prints the rows of all units with their attributes:
+   a line for each row, as rows.c does, then one for each attribute: its name, form and class, its
+   number, and its text where it has one. */
 #define _POSIX_C_SOURCE 200809L
 #include "gimli.h"
 #include "read_file.h"

@@ -1,5 +1,5 @@
-/* rows INFO ABBREV [all|first] [ROOM] [REPEAT]: prints the rows of the units of a section, in the format of
-   gimli_walk_program rows; with REPEAT nothing is printed but the time. */
+/* rows INFO ABBREV [all|first] [ROOM] [REPEAT]: prints the rows of the units of a section, in the
+   format of gimli_walk_program rows; with REPEAT nothing is printed but the time. */
 #define _POSIX_C_SOURCE 200809L
 #include "gimli.h"
 #include "read_file.h"
