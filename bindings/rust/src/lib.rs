@@ -272,7 +272,7 @@ impl<'a> Sections<'a> {
 
     /// The rows of a unit.
     pub fn rows(&self, unit: &UnitHeader) -> Rows<'a> {
-        self.rows_from(unit, unit.root(), 4096)
+        self.rows_from(unit, unit.root(), 16384)
     }
 
     /// The rows of a unit from a place on, read so many at a time.
@@ -282,7 +282,7 @@ impl<'a> Sections<'a> {
 
     /// The entries of a unit with their attributes.
     pub fn entries(&self, unit: &UnitHeader) -> Entries<'a> {
-        self.entries_from(unit, unit.root(), 4096, 4 * 4096)
+        self.entries_from(unit, unit.root(), 8192, 4 * 8192)
     }
 
     /// The entries of a unit from a place on, read so many at a time, with so many attributes at a time or more.
