@@ -1,7 +1,7 @@
 -- Where lists begin in their sections, and where the reading of one stands (DWARF 5, 2.6.2, 2.17.3,
 -- 7.28 and 7.29; DWARF 4, 2.6.2 and 2.17.3).
 use Rattle.std.specs.Prelude.{◌≡◌, drop, ℕ, ◌+◌, ◌*◌, ◌<◌, nat_le, if◌then◌else◌, List, [], length}
-use Rattle.std.specs.Prelude.{Option, unwrap_or, Result, Ok, Err}
+use Rattle.std.specs.Prelude.{Option, Some, None, unwrap_or, Result, Ok, Err}
 use Rattle.std.specs.Option.{option_map, option_or}
 use Rattle.gimli_base.specs.declared.common.Encoding.{Encoding}
 use Rattle.gimli_base.specs.declared.common.Format.{Format}
@@ -154,6 +154,12 @@ IsNext grammar limit p a q =
     (answers_ahead grammar limit p ≡ answered a (answers_ahead grammar limit q))
     × IsAfterEntries grammar limit (read_from grammar limit p) p q
     × InList p q × IsSpent grammar limit p q
+
+-- an answer that comes in two parts: what is found, and else a refusal, if there is one
+abbrev pub in_parts : {A : Type 0} → Option A → Option Error → Result (Option A) Error
+in_parts (Some a) _ = Ok (Some a)
+in_parts None (Some e) = Err e
+in_parts None None = Ok None
 
 -- the beginning of what the list at an offset stands for, with a base address at hand
 unfoldable pub list_place_at : ListsFormat → ℕ → Encoding → ℕ → View → ℕ → ListSections

@@ -2,16 +2,17 @@
 //! something.
 
 ghost use Rattle.std.specs.Prelude.{◌≡◌, ℕ, ◌<◌, length, MatchResult, IfOk, IfSome, IfNone, OnSome};
+ghost use Rattle.std.specs.Prelude.{None};
 ghost use Rattle.std.specs.Option.{option_map};
 ghost use Rattle.gimli_base.specs.Offset.{answer_of};
 ghost use Rattle.gimli_lists.specs.Resolved.{IsSoundRange};
 ghost use Rattle.gimli_lists.specs.Places.{Grammar, TakesBytes, ListPlace, next_raw, converted};
 ghost use Rattle.gimli_lists.specs.Places.{answers_ahead, InList, IsAfterEntries, IsSpent};
-ghost use Rattle.gimli_lists.specs.Places.{read_from};
+ghost use Rattle.gimli_lists.specs.Places.{read_from, in_parts};
 ghost use Rattle.gimli_lists.specs.RawList.{ListEntry};
 ghost use Rattle.gimli_lists.specs.Resolved.{Resolved, answered};
 
-use gimli_base::Result;
+use gimli_base::{Error, Result};
 
 /// A list whose entries are read one by one, and whose base address each of them may change.
 pub(crate) trait EntryWalk {
@@ -58,7 +59,10 @@ pub(crate) trait EntryWalk {
 }
 
 /// What the next entry stands for that stands for something, or none after the last entry.
-#[inline]
+///
+/// The answer is put together where the call stands: one that comes as a whole through memory is
+/// written in pieces and read as a word, which has to wait for them.
+#[inline(always)]
 pub(crate) fn next_item<W: EntryWalk>(walk: &mut W) -> Result<Option<W::Item>>
     ensures ahead { answers_ahead W.grammar W.limit (W.place walk.old)
         ≡ answered (answer_of (option_map W.resolved) result)
@@ -83,6 +87,77 @@ pub(crate) fn next_item<W: EntryWalk>(walk: &mut W) -> Result<Option<W::Item>>
 
     // What stands for addresses begins below its end, and below the least address that stands for
     // none.
+    ensures sound { IfOk result
+        (λ item. IfSome item (λ i.
+        IsSoundRange (W.place walk.old).raw.encoding.address_size (W.resolved i))) }
+{
+    let mut refusal = None;
+    let item = item_in_parts(walk, &mut refusal);
+    whole_answer(item, refusal)
+}
+
+// The answer whose two parts these are.
+#[inline(always)]
+fn whole_answer<T>(item: Option<T>, refusal: Option<Error>) -> Result<Option<T>>
+    ensures { result ≡ in_parts item refusal }
+{
+    match item {
+        Some(item) => Ok(Some(item)),
+        None => match refusal {
+            Some(error) => Err(error),
+            None => Ok(None),
+        },
+    }
+}
+
+// The same answer in two parts: what the entry stands for, and a refusal in its own place, which
+// has to be empty before.
+fn item_in_parts<W: EntryWalk>(walk: &mut W, refusal: &mut Option<Error>) -> Option<W::Item>
+    requires { refusal.old ≡ None }
+    ensures ahead { answers_ahead W.grammar W.limit (W.place walk.old)
+        ≡ answered (answer_of (option_map W.resolved) (in_parts result refusal.new))
+        (answers_ahead W.grammar W.limit (W.place walk.new)) }
+    ensures place { IsAfterEntries W.grammar W.limit
+        (read_from W.grammar W.limit (W.place walk.old)) (W.place walk.old) (W.place walk.new) }
+    ensures same { InList (W.place walk.old) (W.place walk.new) }
+    ensures takes { MatchResult (in_parts result refusal.new)
+        (λ item.
+        OnSome item
+        (length (W.place walk.new).raw.rest.bytes < length (W.place walk.old).raw.rest.bytes))
+        (λ _. length (W.place walk.new).raw.rest.bytes < length (W.place walk.old).raw.rest.bytes) }
+    ensures ended { IfOk (in_parts result refusal.new)
+        (λ item. IfNone item (length (W.place walk.new).raw.rest.bytes ≡ 0)) }
+    ensures spent { IsSpent W.grammar W.limit (W.place walk.old) (W.place walk.new) }
+    ensures sound { IfOk (in_parts result refusal.new)
+        (λ item. IfSome item (λ i.
+        IsSoundRange (W.place walk.old).raw.encoding.address_size (W.resolved i))) }
+{
+    match first_item(walk) {
+        Ok(item) => item,
+        Err(error) => {
+            *refusal = Some(error);
+            None
+        }
+    }
+}
+
+// The same answer, by the loop over the entries.
+#[inline]
+fn first_item<W: EntryWalk>(walk: &mut W) -> Result<Option<W::Item>>
+    ensures ahead { answers_ahead W.grammar W.limit (W.place walk.old)
+        ≡ answered (answer_of (option_map W.resolved) result)
+        (answers_ahead W.grammar W.limit (W.place walk.new)) }
+    ensures place { IsAfterEntries W.grammar W.limit
+        (read_from W.grammar W.limit (W.place walk.old)) (W.place walk.old) (W.place walk.new) }
+    ensures same { InList (W.place walk.old) (W.place walk.new) }
+    ensures takes { MatchResult result
+        (λ item.
+        OnSome item
+        (length (W.place walk.new).raw.rest.bytes < length (W.place walk.old).raw.rest.bytes))
+        (λ _. length (W.place walk.new).raw.rest.bytes < length (W.place walk.old).raw.rest.bytes) }
+    ensures ended { IfOk result
+        (λ item. IfNone item (length (W.place walk.new).raw.rest.bytes ≡ 0)) }
+    ensures spent { IsSpent W.grammar W.limit (W.place walk.old) (W.place walk.new) }
     ensures sound { IfOk result
         (λ item. IfSome item (λ i.
         IsSoundRange (W.place walk.old).raw.encoding.address_size (W.resolved i))) }

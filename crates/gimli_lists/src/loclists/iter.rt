@@ -193,6 +193,7 @@ impl<R: Reader> LocListIter<R> {
     /// Refusals: those of `RawLocListIter::next`, after which nothing is left, and those of
     /// `convert_raw`, after which the rest of the list is left. Nothing is left after the last
     /// entry either.
+    #[inline(always)]
     pub fn next(&mut self) -> Result<Option<LocationListEntry<R>>>
         ensures ahead { locations_ahead R.Offset.limit self.old
             ≡ answered (answer_of (option_map (location_of R.view)) result)

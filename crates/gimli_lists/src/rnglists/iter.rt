@@ -125,6 +125,7 @@ impl<R: Reader> RngListIter<R> {
     /// `convert_raw`, after which the rest of the list is left. Both can be `UnexpectedEof` or
     /// `UnsupportedOffset`; the next call tells, since a list that is over answers none. Nothing is
     /// left after the last entry either.
+    #[inline(always)]
     pub fn next(&mut self) -> Result<Option<Range>>
         ensures ahead { ranges_ahead R.Offset.limit self.old
             ≡ answered (answer_of (option_map resolved_of) result)

@@ -6,7 +6,7 @@ ghost use Rattle.std.specs.Option.{option_map};
 ghost use Rattle.std.specs.Iterator.{at_most};
 ghost use Rattle.gimli_base.specs.Address.{ones_sized};
 ghost use Rattle.gimli_base.specs.Offset.{answer_of};
-ghost use Rattle.gimli_base.specs.Reading.{read, is_size};
+ghost use Rattle.gimli_base.specs.Reading.{read, is_size, filled, address_at};
 ghost use Rattle.gimli_lists.specs.RawList.{IsFirstOf, pair_at, old_entry_at, index_at};
 ghost use Rattle.gimli_lists.specs.RangeEntry.{range_entry_of, nothing_at, new_entry_at};
 ghost use Rattle.gimli_lists.specs.RangeEntry.{range_grammar};
@@ -169,6 +169,22 @@ impl RawRange {
     }
 }
 
+// The next address of a size, which comes by a place of its own: out of a result of two widths the
+// compiler takes it in pieces. Where it is refused, the input is left anywhere.
+#[inline(always)]
+#[tactic(auto, unfolding(gimli_base::specs::Reading::address_at))]
+fn read_sized<R: Reader>(input: &mut R, address_size: u8, into: &mut u64) -> Result<()>
+    ensures { read (filled into.new result) (R.view input.new)
+        ≡ address_at address_size (R.view input.old) }
+{
+    *into = if address_size == 8 {
+        input.read_u64()?
+    } else {
+        input.read_address(address_size)?
+    };
+    Ok(())
+}
+
 // The next index of an address; where it is refused, the input is left anywhere.
 #[inline]
 pub(crate) fn read_index<R: Reader>(input: &mut R) -> Result<DebugAddrIndex<R::Offset>>
@@ -236,16 +252,20 @@ fn parse_rle<R: Reader>(
             Ok(Some(RawRngListEntry::OffsetPair { begin, end }))
         }
         DW_RLE_base_address => {
-            let addr = input.read_address(address_size)?;
+            let mut addr = 0;
+            read_sized(input, address_size, &mut addr)?;
             Ok(Some(RawRngListEntry::BaseAddress { addr }))
         }
         DW_RLE_start_end => {
-            let begin = input.read_address(address_size)?;
-            let end = input.read_address(address_size)?;
+            let mut begin = 0;
+            read_sized(input, address_size, &mut begin)?;
+            let mut end = 0;
+            read_sized(input, address_size, &mut end)?;
             Ok(Some(RawRngListEntry::StartEnd { begin, end }))
         }
         DW_RLE_start_length => {
-            let begin = input.read_address(address_size)?;
+            let mut begin = 0;
+            read_sized(input, address_size, &mut begin)?;
             let length = input.read_uleb128()?;
             Ok(Some(RawRngListEntry::StartLength { begin, length }))
         }

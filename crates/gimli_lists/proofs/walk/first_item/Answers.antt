@@ -5,7 +5,7 @@ use Rattle.gimli_lists.proofs.PlaceSteps.{ahead_stop, next_raw-ended, next_raw-r
 use Rattle.gimli_lists.proofs.PlaceSteps.{behind_refused, behind_one, behind_more, spent_one}
 use Rattle.gimli_lists.proofs.PlaceSteps.{spent_more, stepped-inside, stepped-ahead}
 use Rattle.gimli_lists.proofs.PlaceSteps.{stepped-shorter, stepped-sound}
-use Rattle.gimli_lists.proofs.walk.next_item.Goals as goal
+use Rattle.gimli_lists.proofs.walk.first_item.Goals as goal
 
 pub entries-init : goal.entries-init
 entries-init g c = (refl, refl, omega arith, λ q h. h, λ q h. h)
