@@ -169,8 +169,9 @@ impl RawRange {
     }
 }
 
-// The next address of a size, which comes by a place of its own: out of a result of two widths the
-// compiler takes it in pieces. Where it is refused, the input is left anywhere.
+// The next address of a size, which comes by a place of its own: out of a result of several widths
+// the compiler takes it in pieces. It is for the entry that most lists are made of; in all of them
+// it makes the loop larger and slower. Where it is refused, the input is left anywhere.
 #[inline(always)]
 #[tactic(auto, unfolding(gimli_base::specs::Reading::address_at))]
 fn read_sized<R: Reader>(input: &mut R, address_size: u8, into: &mut u64) -> Result<()>
@@ -252,15 +253,12 @@ fn parse_rle<R: Reader>(
             Ok(Some(RawRngListEntry::OffsetPair { begin, end }))
         }
         DW_RLE_base_address => {
-            let mut addr = 0;
-            read_sized(input, address_size, &mut addr)?;
+            let addr = input.read_address(address_size)?;
             Ok(Some(RawRngListEntry::BaseAddress { addr }))
         }
         DW_RLE_start_end => {
-            let mut begin = 0;
-            read_sized(input, address_size, &mut begin)?;
-            let mut end = 0;
-            read_sized(input, address_size, &mut end)?;
+            let begin = input.read_address(address_size)?;
+            let end = input.read_address(address_size)?;
             Ok(Some(RawRngListEntry::StartEnd { begin, end }))
         }
         DW_RLE_start_length => {
