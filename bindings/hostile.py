@@ -330,21 +330,21 @@ def is_value(kind, text, attr, start, section):
     """Whether an attribute has the value that a row tells: its kind, and a number or a place and
     bytes.
     """
-    number, sign, high, place, length = attr[3:8]
+    number, more = attr[3:5]
     if attr[2] != KINDS[kind]:
         return False
     words = text.split()
     if kind in ("Block", "Exprloc", "String"):
         at, digits = words[0].split(":")
-        return (place - start, section[place:place + length]) == (int(at), bytes.fromhex(digits.replace("-", "")))
+        return (number - start, section[number:number + more]) == (int(at), bytes.fromhex(digits.replace("-", "")))
     if kind == "Sdata":
-        return sign == int(words[0])
+        return number == int(words[0]) % 2 ** 64
     if kind == "Data16":
-        return number | high << 64 == int(words[0])
+        return number | more << 64 == int(words[0])
     if kind == "Flag":
         return number != 0 if words[0] in ("true", "false") and words[0] == "true" else number == 0
     if kind == "DebugAddrIndexOffset":
-        return (number, high) == (int(words[0]), int(words[1]))
+        return (number, more) == (int(words[0]), int(words[1]))
     return number == int(words[0], 16 if kind == "DebugTypesRef" and not words[0].isdigit() else 0)
 
 

@@ -49,13 +49,13 @@ int main(int argc, char **argv) {
                         printf("%" PRIx64 " %" PRId64 " %x %d\n", r->offset, r->depth, r->tag, r->has_children);
                     for (size_t j = r->first; j < r->first + r->attributes; j++) {
                         const gimli_attr_t *t = &attrs[j];
-                        folded = folded * 31 + t->number + (uint64_t)t->sign + t->place + t->length;
+                        folded = folded * 31 + t->number + t->more;
                         if (repeat) continue;
-                        printf("  %x %x %d %" PRIu64 " %" PRId64, t->name, t->form, t->kind, t->number, t->sign);
+                        printf("  %x %x %u %" PRIu64 " %" PRIu64, t->name, t->form, t->kind, t->number, t->more);
                         if (t->kind == GIMLI_STRING)
-                            printf(" %.*s", (int)t->length, (const char *)info + t->place);
-                        else if (t->length)
-                            for (uint64_t k = 0; k < t->length; k++) printf(" %02x", info[t->place + k]);
+                            printf(" %.*s", (int)t->more, (const char *)info + t->number);
+                        else if (t->kind == GIMLI_BLOCK || t->kind == GIMLI_EXPRLOC)
+                            for (uint64_t k = 0; k < t->more; k++) printf(" %02x", info[t->number + k]);
                         printf("\n");
                     }
                 }

@@ -124,9 +124,10 @@ static void same_attributes(const struct read *a, const gimli_entry_t *x, const 
     for (size_t i = 0; i < x->attributes && i < y->attributes; i++) {
         const gimli_attr_t *p = &a->attrs[x->first + i], *q = &b->attrs[y->first + i];
         same("name", q->name, p->name), same("form", q->form, p->form), same("kind", q->kind, p->kind);
-        same("number", q->number, p->number), same("sign", (uint64_t)q->sign, (uint64_t)p->sign), same("high", q->high, p->high);
-        same("place of bytes", q->place, p->place), same("length", q->length, p->length);
-        if (q->length && (q->place > s.units.length || q->length > s.units.length - q->place)) differs("bytes", q->place, q->length);
+        same("number", q->number, p->number), same("more", q->more, p->more);
+        if ((q->kind == GIMLI_BLOCK || q->kind == GIMLI_EXPRLOC || q->kind == GIMLI_STRING)
+            && (q->number > s.units.length || q->more > s.units.length - q->number))
+            differs("bytes", q->number, q->more);
     }
 }
 
@@ -191,8 +192,7 @@ static void print_entry(const struct read *from, const gimli_entry_t *r) {
     printf("row %" PRIu64 " %" PRId64 " %u %d\n", r->offset, r->depth, r->tag, r->has_children);
     for (size_t i = r->first; i < r->first + r->attributes; i++) {
         const gimli_attr_t *t = &from->attrs[i];
-        printf("attr %u %u %d %" PRIu64 " %" PRId64 " %" PRIu64 " %" PRIu64 " %" PRIu64 "\n", t->name, t->form, t->kind, t->number,
-               t->sign, t->high, t->place, t->length);
+        printf("attr %u %u %u %" PRIu64 " %" PRIu64 "\n", t->name, t->form, t->kind, t->number, t->more);
     }
 }
 

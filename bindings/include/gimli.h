@@ -107,14 +107,13 @@ typedef struct {
 
 /* An attribute, with its value as it is read. */
 typedef struct {
-    uint64_t number; /* a number without a sign, an offset, an index, a flag; of 16 bytes the low 8 */
-    int64_t sign;    /* a number with a sign (GIMLI_SDATA) */
-    uint64_t high;   /* the high 8 of 16 bytes (GIMLI_DATA16) */
-    uint64_t place;  /* where the bytes of a block, an expression or a text lie in `units` */
-    uint64_t length; /* their number; a text's zero is not counted */
+    uint64_t number; /* a number, an offset, an index or a flag: one with a sign (GIMLI_SDATA) as an int64_t, of 16 bytes
+                        the low 8; or where the bytes of a block, an expression or a text lie in `units` */
+    uint64_t more;   /* the number of those bytes, without a text's zero; or the high 8 of 16 bytes (GIMLI_DATA16); or
+                        what is added to the address at an index (GIMLI_ADDR_INDEX_OFFSET); else 0 */
     uint16_t name;   /* DW_AT_.. */
     uint16_t form;   /* DW_FORM_.. of the declaration */
-    uint8_t kind;    /* GIMLI_ADDR .. */
+    uint32_t kind;   /* GIMLI_ADDR .. */
 } gimli_attr_t;
 
 /* The kinds of values. */
@@ -309,7 +308,7 @@ static inline uint32_t gimli_locations_given(const gimli_sections_t *sections, c
 /* The sizes that the library takes these types to have. */
 typedef char gimli_sizes_t[sizeof(size_t) == 8 && sizeof(gimli_bytes_t) == 16 && sizeof(gimli_sections_t) == 136
                            && sizeof(gimli_unit_t) == 56 && sizeof(gimli_place_t) == 16 && sizeof(gimli_row_t) == 24
-                           && sizeof(gimli_entry_t) == 40 && sizeof(gimli_attr_t) == 48 && sizeof(gimli_filled_t) == 24
+                           && sizeof(gimli_entry_t) == 40 && sizeof(gimli_attr_t) == 24 && sizeof(gimli_filled_t) == 24
                            && sizeof(gimli_bases_t) == 40 && sizeof(gimli_range_t) == 16 && sizeof(gimli_location_t) == 32
                            ? 1 : -1];
 

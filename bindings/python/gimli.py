@@ -56,8 +56,7 @@ class Entry(Structure):
 
 
 class Attr(Structure):
-    _fields_ = [("number", c_uint64), ("signed", c_int64), ("high", c_uint64), ("place", c_uint64),
-                ("length", c_uint64), ("name", c_uint16), ("form", c_uint16), ("kind", c_uint8)]
+    _fields_ = [("number", c_uint64), ("more", c_uint64), ("name", c_uint16), ("form", c_uint16), ("kind", c_uint32)]
 
 
 class Filled(Structure):
@@ -175,13 +174,13 @@ class Dwarf:
         """The value of an attribute: a number, or bytes of the section."""
         kind = KINDS.get(attr.kind, "Other")
         if kind in ("Block", "Exprloc", "String"):
-            return kind, self.units_bytes[attr.place:attr.place + attr.length]
+            return kind, self.units_bytes[attr.number:attr.number + attr.more]
         if kind == "Sdata":
-            return kind, attr.signed
+            return kind, c_int64(attr.number).value
         if kind == "Data16":
-            return kind, attr.number | attr.high << 64
+            return kind, attr.number | attr.more << 64
         if kind == "DebugAddrIndexOffset":
-            return kind, (attr.number, attr.high)
+            return kind, (attr.number, attr.more)
         return kind, bool(attr.number) if kind == "Flag" else attr.number
 
     def raw_entries(self, unit, room=1024, space=8192, place=None):

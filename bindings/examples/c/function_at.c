@@ -109,7 +109,7 @@ static uint64_t number_of(struct entry entry, unsigned name) {
 static gimli_bytes_t text_of(const gimli_attr_t *attr) {
     gimli_bytes_t in = texts;
     uint64_t offset = attr->number;
-    if (attr->kind == GIMLI_STRING) return gimli_bytes(sections.units.bytes + attr->place, attr->length);
+    if (attr->kind == GIMLI_STRING) return gimli_bytes(sections.units.bytes + attr->number, attr->more);
     if (attr->kind == GIMLI_LINE_STR_REF) in = line_texts;
     else if (attr->kind == GIMLI_STR_OFFSETS_INDEX) {
         if (!number_at(text_offsets, unit.text_offsets, attr->number, unit.header.offset_size, &offset)) return gimli_bytes(NULL, 0);
@@ -130,7 +130,7 @@ static bool address_of(const gimli_attr_t *attr, uint64_t *address) {
 static uint64_t end_of(const gimli_attr_t *high, uint64_t begin) {
     uint64_t end;
     if (address_of(high, &end)) return end;
-    if (high->kind == GIMLI_SDATA) return begin + (uint64_t)high->sign;
+    if (high->kind == GIMLI_SDATA) return begin + high->number;
     return (high->kind >= GIMLI_DATA1 && high->kind <= GIMLI_DATA8) || high->kind == GIMLI_UDATA ? begin + high->number : begin;
 }
 

@@ -94,13 +94,10 @@ pub(crate) struct Entry {
 #[derive(Clone, Copy, Debug, Default)]
 pub(crate) struct Attr {
     pub(crate) number: u64,
-    pub(crate) signed: i64,
-    pub(crate) high: u64,
-    pub(crate) place: u64,
-    pub(crate) length: u64,
+    pub(crate) more: u64,
     pub(crate) name: u16,
     pub(crate) form: u16,
-    pub(crate) kind: u8,
+    pub(crate) kind: u32,
 }
 
 #[repr(C)]

@@ -69,8 +69,8 @@ impl<'a> Attribute<'a> {
             4 => Data2(a.number as u16),
             5 => Data4(a.number as u32),
             6 => Data8(a.number),
-            7 => Data16(u128::from(a.high) << 64 | u128::from(a.number)),
-            8 => Sdata(a.signed),
+            7 => Data16(u128::from(a.more) << 64 | u128::from(a.number)),
+            8 => Sdata(a.number as i64),
             9 => Udata(a.number),
             10 => Exprloc(self.bytes()),
             11 => Flag(a.number != 0),
@@ -87,8 +87,8 @@ impl<'a> Attribute<'a> {
             31 => DebugStrOffsetsIndex(a.number),
             32 => DebugLineStrRef(a.number),
             33 => String(self.bytes()),
-            48 => DebugAddrIndexOffset(a.number, a.high as u32),
-            kind => Other(kind, a.number),
+            48 => DebugAddrIndexOffset(a.number, a.more as u32),
+            kind => Other(kind as u8, a.number),
         }
     }
 
@@ -96,14 +96,14 @@ impl<'a> Attribute<'a> {
     pub fn udata_value(&self) -> Option<u64> {
         match self.attr.kind {
             2 | 7 | 10 | 33 | 48 => None,
-            8 => u64::try_from(self.attr.signed).ok(),
+            8 => u64::try_from(self.attr.number as i64).ok(),
             _ => Some(self.attr.number),
         }
     }
 
     fn bytes(&self) -> &'a [u8] {
-        let start = self.attr.place as usize;
-        let end = start.saturating_add(self.attr.length as usize);
+        let start = self.attr.number as usize;
+        let end = start.saturating_add(self.attr.more as usize);
         self.units.get(start..end).unwrap_or_default()
     }
 }

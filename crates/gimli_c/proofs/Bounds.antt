@@ -20,7 +20,7 @@ use Rattle.gimli_units.specs.Unit.{entries_in, entries_from}
 use Rattle.gimli_c.specs.declared.rows.GimliRow.{GimliRow}
 use Rattle.gimli_c.specs.declared.rows.GimliPlace.{GimliPlace}
 use Rattle.gimli_c.specs.Status.{end, too_deep, refused, memory_refused}
-use Rattle.gimli_c.specs.Fronts.{ahead_of, rows_from, unit_ahead, declared_ahead, Filled, ToldRows}
+use Rattle.gimli_c.specs.Fronts.{ahead_of, rows_at_place, unit_ahead, declared_ahead, Filled, ToldRows}
 use Rattle.gimli_c.proofs.Front.{first_at}
 
 -- the reader of a place that is in bounds
@@ -91,7 +91,7 @@ module _ (limit : ℕ) (u : UnitView) (t : Table) (place : GimliPlace) (old : Li
       let none : length rest.bytes ≡ 0 = let e =
       length-drop (place.offset - header_size u) u.entries.bytes in
       omega (arith, e, here, fit) in
-      let is : rows_from limit u (found t) place ≡ no_row None (whole_length u - length rest.bytes)
+      let is : rows_at_place limit u (found t) place ≡ no_row None (whole_length u - length rest.bytes)
       place.depth = ahead_ended (entry_at limit u.encoding (found t)) (whole_length u)
       place.depth rest none in
       let stop : whole_length u - length rest.bytes ≡ place.offset = omega (arith, none, here) in
@@ -153,7 +153,7 @@ module _ (limit : ℕ) (u : UnitView) (t : Table) (place : GimliPlace) (old : Li
 module _ (limit : ℕ) (u : UnitView) (place : GimliPlace) (old : List GimliRow) where
   none_filled : (declared : Map) → place.offset ≡ whole_length u
       - length (cut (place.offset - header_size u) u.entries).bytes
-      → ToldRows (Ok (rows_from limit u declared place)) place old place old 0 memory_refused
+      → ToldRows (Ok (rows_at_place limit u declared place)) place old place old 0 memory_refused
   none_filled declared here = record {
     rows = refl;
     behind = first_at limit u.encoding declared (whole_length u) place.depth
@@ -181,7 +181,7 @@ module _ (limit : ℕ) (u : UnitView) (place : GimliPlace) (old : List GimliRow)
   ]
     where
       deep : in_bounds u place.offset ≡ true → (b : Bool)
-          → ToldRows (if b then Ok (rows_from limit u declared place) else Err too_deep) place old
+          → ToldRows (if b then Ok (rows_at_place limit u declared place) else Err too_deep) place old
           place old 0 memory_refused
       deep sure true =
           let e = bytes_left u place.offset fit sure in
@@ -191,7 +191,7 @@ module _ (limit : ℕ) (u : UnitView) (place : GimliPlace) (old : List GimliRow)
 
       inside : (b : Bool) → b ≡ in_bounds u place.offset
           → ToldRows (if b then (if nat_lt (unsigned_abs place.depth
-          + (whole_length u - place.offset)) (2 ^ 63) then Ok (rows_from limit u declared place)
+          + (whole_length u - place.offset)) (2 ^ 63) then Ok (rows_at_place limit u declared place)
           else Err too_deep) else Err (refused (OffsetOutOfBounds place.offset))) place old
           place old 0 memory_refused
       inside true sure = deep (sym sure) (nat_lt (unsigned_abs place.depth

@@ -23,7 +23,7 @@ use Rattle.gimli_units.proofs.RowChain.{AreRows, exist_rows}
 use Rattle.gimli_c.specs.declared.rows.GimliRow.{GimliRow}
 use Rattle.gimli_c.specs.declared.rows.GimliPlace.{GimliPlace}
 use Rattle.gimli_c.specs.Status.{more, end, row_refused, memory_refused, row_memory_refused}
-use Rattle.gimli_c.specs.Fronts.{row_of, ahead_of, first_place, status_at, Filled}
+use Rattle.gimli_c.specs.Fronts.{told_row, ahead_of, first_place, status_at, Filled}
 
 -- these rows before others
 abbrev pub before_rows : List Row → Ahead → Ahead
@@ -41,7 +41,7 @@ pub record Front (limit : ℕ) (base : ℤ) (start now : RawPlace) (old new : Li
   pub count : length taken ≡ n
   pub room : n ≤ length old
   pub ahead : ahead_of limit base start ≡ before_rows taken (ahead_of limit base now)
-  pub rows : new ≡ map row_of taken ++ drop n old
+  pub rows : new ≡ map told_row taken ++ drop n old
   pub fits : unsigned_abs base + unsigned_abs now.depth + length now.rest.bytes < 2 ^ 63
 
 -- a depth that is counted from another base
@@ -130,7 +130,7 @@ module _ (limit : ℕ) (base : ℤ) where
         room = omega (arith, room);
         ahead = f.ahead ∙ ap (before_rows f.taken) step ∙ rw append_assoc refl;
         rows = ap (λ t. slice_set t n x) f.rows
-            ∙ slot (map row_of f.taken) old n x (length-map f.taken row_of ∙ f.count) room
+            ∙ slot (map told_row f.taken) old n x (length-map f.taken told_row ∙ f.count) room
             ∙ rw (map-append, is) refl;
         fits = omega (arith, f.fits, shorter, near);
       }
@@ -177,7 +177,7 @@ at_more room count (Some e) h k = rw (le-ltb count room h) refl
 -- what was written, with what is left
 filled_if : (taken : List Row) (left : Ahead) (old new : List GimliRow) (place : GimliPlace)
     (n status : ℕ)
-    → length taken ≡ n → new ≡ map row_of taken ++ drop n old → place
+    → length taken ≡ n → new ≡ map told_row taken ++ drop n old → place
     ≡ first_place left.rows left.stop left.stop_depth
     → ((status ≡ memory_refused → ⊥) → (status ≡ row_memory_refused → ⊥)
     → (n ≡ min (length old) (n + length left.rows))
@@ -190,7 +190,7 @@ filled_if taken left old new place n status count rows behind whole =
     rw (← count) (drop-append_seam taken left.rows) in
     let all : length (taken ++ left.rows) ≡ n + length left.rows = rw (length-append, count) refl in
     record {
-      rows = rows ∙ ap (λ (t : List Row). map row_of t ++ drop n old) (sym front);
+      rows = rows ∙ ap (λ (t : List Row). map told_row t ++ drop n old) (sym front);
       behind = behind ∙ ap (λ (t : List Row). first_place t left.stop left.stop_depth) (sym others);
       whole = rw all whole;
     }

@@ -1,4 +1,5 @@
 pub mod Front
+pub mod Heads
 pub mod Bounds
 pub mod Slots
 pub mod EntryFront

@@ -5,7 +5,7 @@ use Rattle.std.proofs.Common.{arith, length-append}
 use Rattle.std.proofs.lemmas.List.{length-map, map-append, append-nil, take_all, take-append-le}
 use Rattle.std.proofs.lemmas.List.{drop_all}
 use Rattle.gimli_base.specs.declared.error.Error.{Error}
-use Rattle.gimli_c.specs.Lists.{before_refusal, first_refusal, last_status, list_status, IsListed}
+use Rattle.gimli_c.specs.Lists.{before_refusal, first_refusal, list_end_status, list_status, IsListed}
 use Rattle.gimli_c.specs.Status.{end, row_refused}
 use Rattle.gimli_c.proofs.Slots.{slot}
 
@@ -97,7 +97,7 @@ module _ {X Y : Type 0} (f : X → Y) where
   module _ (start now : List (Result X Error)) (old new : List Y) (n : ℕ)
       (p : ListFront f start now old new n) where
     told : (last : Option Error) → before_refusal now ≡ [] → first_refusal now ≡ last
-        → IsListed f start old new n (list_status (length old) n (last_status last))
+        → IsListed f start old new n (list_status (length old) n (list_end_status last))
     told last none refusal =
         let all : before_refusal start ≡ p.taken =
         ap before_refusal p.ahead ∙ before-taken p.taken now ∙ rw (none, append-nil) refl in

@@ -1,9 +1,9 @@
 -- Writes after a front.
-use Rattle.std.proofs.Common.{◌≡◌, ℕ, suc, ◌+◌, ◌<◌, ◌≤◌, List, [], ◌∷◌, ◌++◌, map, take, drop}
-use Rattle.std.proofs.Common.{length, get_or, slice_set, refl, ap, ◌∙◌, arith, add-one}
+use Rattle.std.proofs.Common.{◌≡◌, ℕ, suc, ◌+◌, ◌<◌, ◌≤◌, List, [], ◌∷◌, ◌++◌, take, drop, length}
+use Rattle.std.proofs.Common.{get_or, slice_set, refl, sym, ap, ◌∙◌, arith, add-one}
 use Rattle.std.proofs.Common.{append_assoc, length-append}
 use Rattle.std.proofs.Math.Seq.{set-append_seam, take-append_seam, drop-append-add, drop-cons}
-use Rattle.std.proofs.lemmas.List.{length-map, length-take-le, map_more, drop-drop}
+use Rattle.std.proofs.lemmas.List.{length-take-le, take_more, drop-drop}
 
 slot_at : {X : Type 0} → (xs old : List X) (x : X) → length xs < length old
     → slice_set (xs ++ drop (length xs) old) (length xs) x ≡ (xs ++ x ∷ [])
@@ -19,24 +19,23 @@ pub slot : {X : Type 0} → (xs old : List X) (n : ℕ) (x : X) → length xs �
 slot xs old n x e h = rw (← e) (slot_at xs old x (rw e h))
 
 -- one more of a list is written, from a place on
-pub slot_more : {X Y : Type 0} → (f : X → Y) (xs : List X) (old new : List Y) (from i : ℕ) (d : X)
-    (y : Y)
-    → i < length xs → from + length xs ≤ length old
-    → new ≡ (take from old ++ map f (take i xs)) ++ drop (from + i) old → y ≡ f (get_or xs i d)
-    → slice_set new (from + i) y ≡ (take from old ++ map f (take (i + 1) xs))
-    ++ drop (from + (i + 1)) old
-slot_more {X} {Y} f xs old new from i d y h room is value =
-    let front : length (take from old ++ map f (take i xs)) ≡ from + i =
+pub slot_more : {X : Type 0} → (xs old new : List X) (from i : ℕ) (x d : X) → i < length xs
+    → from + length xs ≤ length old
+    → new ≡ (take from old ++ take i xs) ++ drop (from + i) old → x ≡ get_or xs i d
+    → slice_set new (from + i) x ≡ (take from old ++ take (i + 1) xs) ++ drop (from + (i + 1)) old
+slot_more {X} xs old new from i x d h room is value =
+    let front : length (take from old ++ take i xs) ≡ from + i =
     rw (
       length-append,
-      length-map,
       length-take-le from old (omega (arith, room)),
       length-take-le i xs (omega (arith, h)),
     ) refl in
     let place : from + i + 1 ≡ from + (i + 1) = omega arith in
-    ap (λ (t : List Y). slice_set t (from + i) y) is ∙ slot (take from old ++ map f (take i xs)) old
-    (from + i) y front (omega (arith, h, room))
-    ∙ rw (value, map_more f xs i d h, place) (simp append_assoc)
+    let one : take (i + 1) xs ≡ take i xs ++ x ∷ [] =
+    take_more xs i d h ∙ ap (λ (y : X). take i xs ++ y ∷ []) (sym value) in
+    ap (λ (t : List X). slice_set t (from + i) x) is
+    ∙ slot (take from old ++ take i xs) old (from + i) x front (omega (arith, h, room))
+    ∙ rw (place, one) (simp append_assoc)
 
 -- more is written after what was
 pub written_more : {Y : Type 0} → (done more old new : List Y) (used : ℕ) → length done ≡ used

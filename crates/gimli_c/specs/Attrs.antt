@@ -1,5 +1,6 @@
 -- The attributes of an entry, as numbers and places of bytes (DWARF 5, 7.5.4 to 7.5.6).
-use Rattle.std.specs.Prelude.{ℕ, pos, ◌%◌, ◌/◌, ◌^◌, cond, length}
+use Rattle.std.specs.Prelude.{ℕ, ◌%◌, ◌/◌, ◌^◌, cond, length}
+use Rattle.std.specs.Int.{w64, cast_unsigned}
 use Rattle.gimli_base.specs.View.{View}
 use Rattle.gimli_units.specs.Entry.{Attr}
 use Rattle.gimli_units.specs.Value.{Value}
@@ -35,106 +36,70 @@ use Rattle.gimli_units.specs.declared.value.AttributeValue.TheVariants.{DebugAdd
 use Rattle.gimli_c.specs.declared.attrs.GimliAttr.{GimliAttr}
 use Rattle.gimli_c.specs.declared.attrs.Numbers.{Numbers}
 
-abbrev pub plain : ℕ → ℕ → Numbers
-plain class number = record {
-  class = class;
-  number = number;
-  signed = pos 0;
-  high = 0;
-  place = 0;
-  length = 0;
-}
+-- a kind, a number and another
+abbrev pub numbers : ℕ → ℕ → ℕ → Numbers
+numbers kind number more = record { kind = kind; number = number; more = more }
 
-abbrev pub wide : ℕ → ℕ → Numbers
-wide class number = record {
-  class = class;
-  number = number % 2 ^ 64;
-  signed = pos 0;
-  high =
-      number / 2 ^ 64;
-  place = 0;
-  length = 0;
-}
-
-abbrev pub added : ℕ → ℕ → ℕ → Numbers
-added class number high = record {
-  class = class;
-  number = number;
-  signed = pos 0;
-  high = high;
-  place = 0;
-  length = 0;
-}
-
+-- where bytes lie in their section, and how many they are
 abbrev pub lying : ℕ → View → Numbers
-lying class v = record {
-  class = class;
-  number = 0;
-  signed = pos 0;
-  high = 0;
-  place = v.place;
-  length = length v.bytes;
-}
+lying kind v = numbers kind v.place (length v.bytes)
 
--- a value: its class, and a number or where its bytes lie
+-- a value: its kind, and a number or where its bytes lie
 abbrev pub values_of : Value → Numbers
-values_of (Addr x) = plain 1 x
+values_of (Addr x) = numbers 1 x 0
 values_of (Block v) = lying 2 v
-values_of (Data1 x) = plain 3 x
-values_of (Data2 x) = plain 4 x
-values_of (Data4 x) = plain 5 x
-values_of (Data8 x) = plain 6 x
-values_of (Data16 x) = wide 7 x
-values_of (Sdata z) = record { class = 8; number = 0; signed = z; high = 0; place = 0; length = 0 }
-values_of (Udata x) = plain 9 x
+values_of (Data1 x) = numbers 3 x 0
+values_of (Data2 x) = numbers 4 x 0
+values_of (Data4 x) = numbers 5 x 0
+values_of (Data8 x) = numbers 6 x 0
+values_of (Data16 x) = numbers 7 (x % 2 ^ 64) (x / 2 ^ 64)
+values_of (Sdata z) = numbers 8 (cast_unsigned w64 z) 0
+values_of (Udata x) = numbers 9 x 0
 values_of (Exprloc e) = lying 10 e.0
-values_of (Flag b) = plain 11 (cond b 1 0)
-values_of (SecOffset x) = plain 12 x
-values_of (DebugAddrBase x) = plain 13 x.0
-values_of (DebugAddrIndex x) = plain 14 x.0
-values_of (UnitRef x) = plain 15 x.0
-values_of (DebugInfoRef x) = plain 16 x.0
-values_of (DebugInfoRefSup x) = plain 17 x.0
-values_of (DebugLineRef x) = plain 18 x.0
-values_of (LocationListsRef x) = plain 19 x.0
-values_of (DebugLocListsBase x) = plain 20 x.0
-values_of (DebugLocListsIndex x) = plain 21 x.0
-values_of (DebugMacinfoRef x) = plain 22 x.0
-values_of (DebugMacroRef x) = plain 23 x.0
-values_of (RangeListsRef x) = plain 24 x.0
-values_of (DebugRngListsBase x) = plain 25 x.0
-values_of (DebugRngListsIndex x) = plain 26 x.0
-values_of (DebugTypesRef x) = plain 27 x.0
-values_of (DebugStrRef x) = plain 28 x.0
-values_of (DebugStrRefSup x) = plain 29 x.0
-values_of (DebugStrOffsetsBase x) = plain 30 x.0
-values_of (DebugStrOffsetsIndex x) = plain 31 x.0
-values_of (DebugLineStrRef x) = plain 32 x.0
+values_of (Flag b) = numbers 11 (cond b 1 0) 0
+values_of (SecOffset x) = numbers 12 x 0
+values_of (DebugAddrBase x) = numbers 13 x.0 0
+values_of (DebugAddrIndex x) = numbers 14 x.0 0
+values_of (UnitRef x) = numbers 15 x.0 0
+values_of (DebugInfoRef x) = numbers 16 x.0 0
+values_of (DebugInfoRefSup x) = numbers 17 x.0 0
+values_of (DebugLineRef x) = numbers 18 x.0 0
+values_of (LocationListsRef x) = numbers 19 x.0 0
+values_of (DebugLocListsBase x) = numbers 20 x.0 0
+values_of (DebugLocListsIndex x) = numbers 21 x.0 0
+values_of (DebugMacinfoRef x) = numbers 22 x.0 0
+values_of (DebugMacroRef x) = numbers 23 x.0 0
+values_of (RangeListsRef x) = numbers 24 x.0 0
+values_of (DebugRngListsBase x) = numbers 25 x.0 0
+values_of (DebugRngListsIndex x) = numbers 26 x.0 0
+values_of (DebugTypesRef x) = numbers 27 x.0 0
+values_of (DebugStrRef x) = numbers 28 x.0 0
+values_of (DebugStrRefSup x) = numbers 29 x.0 0
+values_of (DebugStrOffsetsBase x) = numbers 30 x.0 0
+values_of (DebugStrOffsetsIndex x) = numbers 31 x.0 0
+values_of (DebugLineStrRef x) = numbers 32 x.0 0
 values_of (String v) = lying 33 v
-values_of (Encoding x) = plain 34 x.0
-values_of (DecimalSign x) = plain 35 x.0
-values_of (Endianity x) = plain 36 x.0
-values_of (Accessibility x) = plain 37 x.0
-values_of (Visibility x) = plain 38 x.0
-values_of (Virtuality x) = plain 39 x.0
-values_of (Language x) = plain 40 x.0
-values_of (AddressClass x) = plain 41 x.0
-values_of (IdentifierCase x) = plain 42 x.0
-values_of (CallingConvention x) = plain 43 x.0
-values_of (Inline x) = plain 44 x.0
-values_of (Ordering x) = plain 45 x.0
-values_of (FileIndex x) = plain 46 x
-values_of (DwoId x) = plain 47 x.0
-values_of (DebugAddrIndexOffset x y) = added 48 x.0 y
+values_of (Encoding x) = numbers 34 x.0 0
+values_of (DecimalSign x) = numbers 35 x.0 0
+values_of (Endianity x) = numbers 36 x.0 0
+values_of (Accessibility x) = numbers 37 x.0 0
+values_of (Visibility x) = numbers 38 x.0 0
+values_of (Virtuality x) = numbers 39 x.0 0
+values_of (Language x) = numbers 40 x.0 0
+values_of (AddressClass x) = numbers 41 x.0 0
+values_of (IdentifierCase x) = numbers 42 x.0 0
+values_of (CallingConvention x) = numbers 43 x.0 0
+values_of (Inline x) = numbers 44 x.0 0
+values_of (Ordering x) = numbers 45 x.0 0
+values_of (FileIndex x) = numbers 46 x 0
+values_of (DwoId x) = numbers 47 x.0 0
+values_of (DebugAddrIndexOffset x y) = numbers 48 x.0 y
 
 abbrev pub attr_of : Attr → GimliAttr
 attr_of a = record {
   number = (values_of a.value).number;
-  signed = (values_of a.value).signed;
-  high = (values_of a.value).high;
-  place = (values_of a.value).place;
-  length = (values_of a.value).length;
+  more = (values_of a.value).more;
   name = a.name.0;
   form = a.form.0;
-  class = (values_of a.value).class;
+  kind = (values_of a.value).kind;
 }

@@ -20,8 +20,8 @@ use Rattle.gimli_c.specs.Units.{units_id, units_view, abbreviations_view}
 use Rattle.gimli_c.specs.Status.{more, end, too_deep, refused, row_refused, memory_refused}
 use Rattle.gimli_c.specs.Status.{row_memory_refused}
 
-abbrev pub row_of : Row → GimliRow
-row_of r = record {
+abbrev pub told_row : Row → GimliRow
+told_row r = record {
   offset = r.offset;
   depth = r.depth;
   tag = r.entry.tag.0;
@@ -38,18 +38,18 @@ ahead_of limit base p = ahead_at (entry_at limit p.encoding (found p.abbreviatio
     (base +ℤ p.depth) p.rest
 
 -- the rows of a unit from a place on, which is in bounds or at the unit's end
-abbrev pub rows_from : ℕ → UnitView → Map → GimliPlace → Ahead
-rows_from limit u declared place =
+abbrev pub rows_at_place : ℕ → UnitView → Map → GimliPlace → Ahead
+rows_at_place limit u declared place =
     ahead_at (entry_at limit u.encoding declared) (whole_length u) place.depth
     (cut (place.offset - header_size u) u.entries)
 
 -- the rows of a unit from a place on, or the status of a call that reads none
 abbrev pub unit_ahead : ℕ → UnitView → Map → GimliPlace → Result Ahead ℕ
 unit_ahead limit u declared place =
-    if place.offset == whole_length u then Ok (rows_from limit u declared place)
+    if place.offset == whole_length u then Ok (rows_at_place limit u declared place)
     else if in_bounds u place.offset then
     (if nat_lt (unsigned_abs place.depth + (whole_length u - place.offset)) (2 ^ 63) then Ok
-    (rows_from limit u declared place) else Err too_deep)
+    (rows_at_place limit u declared place) else Err too_deep)
     else Err (refused (OffsetOutOfBounds place.offset))
 
 abbrev pub declared_ahead : ℕ → UnitView → Result Map Error → GimliPlace → Result Ahead ℕ
@@ -94,7 +94,7 @@ status_at room count (Some e) = if nat_lt count room then row_refused e else mor
 -- them. They are all, or as many as there is room for, unless memory was refused.
 pub record Filled (ahead : Ahead) (old : List GimliRow) (place : GimliPlace) (new : List GimliRow)
     (count status : ℕ) : Type 0 where
-  pub rows : new ≡ map row_of (take count ahead.rows) ++ drop count old
+  pub rows : new ≡ map told_row (take count ahead.rows) ++ drop count old
   pub behind : place ≡ first_place (drop count ahead.rows) ahead.stop ahead.stop_depth
   pub whole : (status ≡ memory_refused → ⊥) → (status ≡ row_memory_refused → ⊥)
       → (count ≡ min (length old) (length ahead.rows))

@@ -3,6 +3,7 @@ pub mod Units
 pub mod Fronts
 pub mod Attrs
 pub mod Entries
+pub mod Heads
 pub mod Siblings
 pub mod Addresses
 pub mod Lists

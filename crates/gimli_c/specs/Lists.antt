@@ -56,9 +56,9 @@ abbrev pub list_status : ℕ → ℕ → ℕ → ℕ
 list_status room count last = if nat_lt room count then more else last
 
 -- the status after the last
-abbrev pub last_status : Option Error → ℕ
-last_status None = end
-last_status (Some e) = row_refused e
+abbrev pub list_end_status : Option Error → ℕ
+list_end_status None = end
+list_end_status (Some e) = row_refused e
 
 -- What is before the first refusal is counted, and written as far as there is room; the rest of the
 -- buffer stays as it was.
@@ -66,7 +66,7 @@ pub record IsListed {X Y : Type 0} (f : X → Y) (answers : List (Result X Error
     (count status : ℕ) : Type 0 where
   pub rows : new ≡ map f (take (length old) (before_refusal answers)) ++ drop count old
   pub whole : count ≡ length (before_refusal answers)
-  pub status_is : status ≡ list_status (length old) count (last_status (first_refusal answers))
+  pub status_is : status ≡ list_status (length old) count (list_end_status (first_refusal answers))
 
 -- nothing is written
 pub record IsUnlisted {Y : Type 0} (stop : ℕ) (old new : List Y) (count status : ℕ) : Type 0 where
@@ -82,17 +82,17 @@ IsToldList f (Ok answers) old new count status = IsListed f answers old new coun
 IsToldList f (Err stop) old new count status = IsUnlisted stop old new count status
 
 -- the view of a section's bytes in a byte order
-abbrev pub seen : Bool → List ℕ → View
-seen big bytes = record { big = big; place = 0; bytes = bytes }
+abbrev pub section_view : Bool → List ℕ → View
+section_view big bytes = record { big = big; place = 0; bytes = bytes }
 
-abbrev pub is_big : GimliSections → Bool
-is_big s = not (s.big == 0)
+abbrev pub section_is_big : GimliSections → Bool
+section_is_big s = not (s.big == 0)
 
 abbrev pub range_sections : Bool → GimliSections → ListSections
-range_sections big s = record { old = seen big s.ranges.now; new = seen big s.rnglists.now }
+range_sections big s = record { old = section_view big s.ranges.now; new = section_view big s.rnglists.now }
 
 abbrev pub location_sections : Bool → GimliSections → ListSections
-location_sections big s = record { old = seen big s.loc.now; new = seen big s.loclists.now }
+location_sections big s = record { old = section_view big s.loc.now; new = section_view big s.loclists.now }
 
 -- a refusal as a status
 abbrev pub or_refused : {A : Type 0} → Result A Error → Result A ℕ
@@ -102,15 +102,15 @@ or_refused (Err e) = Err (refused e)
 -- where the list of a value begins: at an offset, or at the offset at an index of a table
 abbrev pub list_begin : ℕ → GimliUnit → GimliAttr → ℕ → View → Result ℕ ℕ
 list_begin index u a base section =
-    if a.class == 12 then Ok a.number
-    else if a.class == index
+    if a.kind == 12 then Ok a.number
+    else if a.kind == index
     then or_refused (list_offset (2 ^ 64) (encoding_in u).format base a.number section)
     else Err no_list
 
 -- the answers of the list that begins there
-abbrev pub answers_at : {A : Type 0} → Result ℕ ℕ → (ℕ → Result A Error) → Result A ℕ
-answers_at (Ok offset) f = or_refused (f offset)
-answers_at (Err stop) f = Err stop
+abbrev pub listed_answers : {A : Type 0} → Result ℕ ℕ → (ℕ → Result A Error) → Result A ℕ
+listed_answers (Ok offset) f = or_refused (f offset)
+listed_answers (Err stop) f = Err stop
 
 -- those of a unit whose addresses have a size that an address may have
 abbrev pub if_sized : {A : Type 0} → GimliUnit → Result A ℕ → Result A ℕ
@@ -122,9 +122,9 @@ abbrev pub ranges_at : Bool → GimliSections → GimliUnit → GimliAttr → Gi
     → Result (List (Result (Resolved (Unit {0})) Error)) ℕ
 ranges_at big s u a b =
     if_sized u
-    (answers_at (list_begin 26 u a b.rnglists (range_sections big s).new)
+    (listed_answers (list_begin 26 u a b.rnglists (range_sections big s).new)
     (λ offset.
-    range_answers (2 ^ 64) offset (encoding_in u) b.address (seen big s.addresses.now) b.addresses
+    range_answers (2 ^ 64) offset (encoding_in u) b.address (section_view big s.addresses.now) b.addresses
     (range_sections big s)))
 
 -- the locations of the list at an attribute's value, each or its refusal
@@ -132,7 +132,7 @@ abbrev pub locations_at : Bool → GimliSections → GimliUnit → GimliAttr →
     → Result (List (Result (Resolved View) Error)) ℕ
 locations_at big s u a b =
     if_sized u
-    (answers_at (list_begin 21 u a b.loclists (location_sections big s).new)
+    (listed_answers (list_begin 21 u a b.loclists (location_sections big s).new)
     (λ offset.
     location_answers (2 ^ 64) (not (b.dwo == 0)) offset (encoding_in u) b.address
-    (seen big s.addresses.now) b.addresses (location_sections big s)))
+    (section_view big s.addresses.now) b.addresses (location_sections big s)))

@@ -83,8 +83,8 @@ AreHonestIn limit (Ok u) declarations offset =
 AreHonestIn limit (Err e) declarations offset = Unit {0}
 
 -- those of a caller's unit
-abbrev pub AreHonest : GimliSections → ℕ → ℕ → Type 0
-AreHonest s unit offset =
+abbrev pub UnitIsHonest : GimliSections → ℕ → ℕ → Type 0
+UnitIsHonest s unit offset =
     AreHonestIn (2 ^ 64) (section_unit s unit) (abbreviations_view s) offset
 
 -- the next sibling in a caller's unit

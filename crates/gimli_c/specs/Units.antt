@@ -47,37 +47,37 @@ at_offset offset u = record {
 }
 
 -- the code of a type of unit, and the id and the offset that it adds to a header
-abbrev pub kind_of : UnitType ℕ → ℕ × ℕ × ℕ
-kind_of Compilation = (1, 0, 0)
-kind_of (TypeUnit signature offset) = (2, signature.0, offset.0)
-kind_of Partial = (3, 0, 0)
-kind_of (Skeleton id) = (4, id.0, 0)
-kind_of (SplitCompilation id) = (5, id.0, 0)
-kind_of (SplitType signature offset) = (6, signature.0, offset.0)
-kind_of (Vendor code) = (code.0, 0, 0)
+abbrev pub type_numbers : UnitType ℕ → ℕ × ℕ × ℕ
+type_numbers Compilation = (1, 0, 0)
+type_numbers (TypeUnit signature offset) = (2, signature.0, offset.0)
+type_numbers Partial = (3, 0, 0)
+type_numbers (Skeleton id) = (4, id.0, 0)
+type_numbers (SplitCompilation id) = (5, id.0, 0)
+type_numbers (SplitType signature offset) = (6, signature.0, offset.0)
+type_numbers (Vendor code) = (code.0, 0, 0)
 
-abbrev pub unit_of : UnitView → GimliUnit
-unit_of u = record {
+abbrev pub unit_numbers : UnitView → GimliUnit
+unit_numbers u = record {
   offset = u.offset;
   length = whole_length u;
   header_size = header_size u;
   abbreviations = u.abbreviations;
-  id = (kind_of u.kind).1;
-  type_offset = (kind_of u.kind).2;
+  id = (type_numbers u.kind).1;
+  type_offset = (type_numbers u.kind).2;
   version = u.encoding.version;
-  kind = (kind_of u.kind).0;
+  kind = (type_numbers u.kind).0;
   address_size = u.encoding.address_size;
   offset_size = word_size_of u.encoding.format;
 }
 
 -- the status, and the unit that the caller has then
-abbrev pub told_of : Result UnitView Error → GimliUnit → ℕ × GimliUnit
-told_of (Ok u) old = (more, unit_of u)
-told_of (Err e) old = (refused e, old)
+abbrev pub told_unit : Result UnitView Error → GimliUnit → ℕ × GimliUnit
+told_unit (Ok u) old = (more, unit_numbers u)
+told_unit (Err e) old = (refused e, old)
 
 abbrev pub unit_told : View → ℕ → Result UnitView Error → GimliUnit → ℕ × GimliUnit
 unit_told section offset read old =
-    if offset == length section.bytes then (end, old) else told_of read old
+    if offset == length section.bytes then (end, old) else told_unit read old
 
 -- the unit at an offset of a caller's units
 abbrev pub section_unit : GimliSections → ℕ → Result UnitView Error

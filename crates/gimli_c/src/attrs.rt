@@ -1,9 +1,8 @@
 //! Attributes, as numbers.
 
-ghost use Rattle.std.specs.Prelude.{◌≡◌, ◌+◌, ◌≤◌, ◌++◌, ◌%◌, ◌/◌, ◌^◌, pos, map, take, drop};
-ghost use Rattle.std.specs.Prelude.{length};
+ghost use Rattle.std.specs.Prelude.{◌≡◌, ◌+◌, ◌≤◌, ◌++◌, ◌%◌, ◌/◌, ◌^◌, take, drop, length};
 ghost use Rattle.gimli_units.specs.Value.{map_value, map_attribute};
-ghost use Rattle.gimli_c.specs.Attrs.{plain, wide, added, lying, values_of, attr_of};
+ghost use Rattle.gimli_c.specs.Attrs.{numbers, lying, values_of, attr_of};
 
 use gimli_base::{Reader, ReaderOffset};
 use gimli_units::{Attribute, AttributeValue};
@@ -12,112 +11,66 @@ use gimli_units::{Attribute, AttributeValue};
 #[repr(C)]
 #[derive(Clone, Copy, Debug)]
 pub struct GimliAttr {
-    /// The value, where it is a number without a sign: of 16 bytes the low 8.
+    /// The value, where it is a number, its bits where it has a sign; of 16 bytes the low 8. Or where
+    /// the bytes of a block, an expression or a text lie in the section of units.
     pub number: u64,
-    /// The value, where it is a number with a sign.
-    pub signed: i64,
-    /// The high 8 of 16 bytes, or what is added to the address at an index.
-    pub high: u64,
-    /// Where the bytes of a block, an expression or a text lie in `.debug_info`.
-    pub place: u64,
-    /// The number of those bytes.
-    pub length: u64,
+    /// The number of those bytes; or the high 8 of 16 bytes; or what is added to the address at an
+    /// index; else 0.
+    pub more: u64,
     /// The name.
     pub name: u16,
     /// The form of the declaration.
     pub form: u16,
-    /// The class of the value, from 1 on.
-    pub class: u8,
+    /// The kind of the value, from 1 on.
+    pub kind: u32,
 }
 
 // A value.
 #[derive(Clone, Copy)]
 struct Numbers {
-    class: u8,
+    kind: u32,
     number: u64,
-    signed: i64,
-    high: u64,
-    place: u64,
-    length: u64,
+    more: u64,
 }
 
 // A number.
 #[inline(always)]
-fn plain(class: u8, number: u64) -> Numbers
-    ensures { result ≡ plain class number }
+fn plain(kind: u32, number: u64) -> Numbers
+    ensures { result ≡ numbers kind number 0 }
 {
-    Numbers {
-        class,
-        number,
-        signed: 0,
-        high: 0,
-        place: 0,
-        length: 0,
-    }
+    two(kind, number, 0)
 }
 
-// A number with a sign.
+// Two numbers.
 #[inline(always)]
-fn signed(number: i64) -> Numbers
-    ensures { result
-        ≡ record { class = 8; number = 0; signed = number; high = 0; place = 0; length = 0 } }
+fn two(kind: u32, number: u64, more: u64) -> Numbers
+    ensures { result ≡ numbers kind number more }
 {
-    Numbers {
-        class: 8,
-        number: 0,
-        signed: number,
-        high: 0,
-        place: 0,
-        length: 0,
-    }
+    Numbers { kind, number, more }
 }
 
 // A number of 16 bytes.
 #[inline(always)]
-fn wide(class: u8, number: u128) -> Numbers
-    ensures { result ≡ wide class number }
+fn wide(kind: u32, number: u128) -> Numbers
+    ensures { result ≡ numbers kind (number % 2 ^ 64) (number / 2 ^ 64) }
 {
-    Numbers {
-        class,
-        number: (number % (1 << 64)) as u64,
-        signed: 0,
-        high: (number / (1 << 64)) as u64,
-        place: 0,
-        length: 0,
-    }
-}
-
-// A number, and another that is added to what it names.
-#[inline(always)]
-fn added(class: u8, number: u64, high: u64) -> Numbers
-    ensures { result ≡ added class number high }
-{
-    Numbers {
-        class,
-        number,
-        signed: 0,
-        high,
-        place: 0,
-        length: 0,
-    }
+    two(
+        kind,
+        (number % (1 << 64)) as u64,
+        (number / (1 << 64)) as u64,
+    )
 }
 
 // Bytes of the section.
 #[inline(always)]
-fn lying<R: Reader>(class: u8, bytes: &R) -> Numbers
-    ensures { result ≡ lying class (R.view bytes.now) }
+fn lying<R: Reader>(kind: u32, bytes: &R) -> Numbers
+    ensures { result ≡ lying kind (R.view bytes.now) }
 {
-    Numbers {
-        class,
-        number: 0,
-        signed: 0,
-        high: 0,
-        place: bytes.offset_id().0,
-        length: bytes.len().into_u64(),
-    }
+    two(kind, bytes.offset_id().0, bytes.len().into_u64())
 }
 
 // A value's numbers.
+#[inline(always)]
 fn values_of<R: Reader>(value: &AttributeValue<R>) -> Numbers
     ensures { result ≡ values_of (map_value R.view R.Offset.number value.now) }
 {
@@ -129,7 +82,7 @@ fn values_of<R: Reader>(value: &AttributeValue<R>) -> Numbers
         AttributeValue::Data4(number) => plain(5, u64::from(*number)),
         AttributeValue::Data8(number) => plain(6, *number),
         AttributeValue::Data16(number) => wide(7, *number),
-        AttributeValue::Sdata(number) => signed(*number),
+        AttributeValue::Sdata(number) => plain(8, number.cast_unsigned()),
         AttributeValue::Udata(number) => plain(9, *number),
         AttributeValue::Exprloc(expression) => lying(10, &expression.0),
         AttributeValue::Flag(flag) => plain(11, u64::from(*flag)),
@@ -170,43 +123,36 @@ fn values_of<R: Reader>(value: &AttributeValue<R>) -> Numbers
         AttributeValue::FileIndex(number) => plain(46, *number),
         AttributeValue::DwoId(code) => plain(47, code.0),
         AttributeValue::DebugAddrIndexOffset(index, offset) => {
-            added(48, index.0.into_u64(), u64::from(*offset))
+            two(48, index.0.into_u64(), u64::from(*offset))
         }
     }
 }
 
-// An attribute's numbers.
-fn attr_of<R: Reader>(attribute: &Attribute<R>) -> GimliAttr
+/// An attribute's numbers.
+#[inline(always)]
+pub(crate) fn attr_of<R: Reader>(attribute: &Attribute<R>) -> GimliAttr
     ensures { result ≡ attr_of (map_attribute R.view R.Offset.number attribute.now) }
 {
     let values = values_of(&attribute.raw_value());
     GimliAttr {
         number: values.number,
-        signed: values.signed,
-        high: values.high,
-        place: values.place,
-        length: values.length,
+        more: values.more,
         name: attribute.name().0,
         form: attribute.form().0,
-        class: values.class,
+        kind: values.kind,
     }
 }
 
 /// Writes attributes, the first at `from`.
-pub(crate) fn write_attrs<R: Reader>(
-    attributes: &[Attribute<R>],
-    into: &mut [GimliAttr],
-    from: usize,
-)
-    requires { from + length attributes.now ≤ length into.old }
+#[inline(always)]
+pub(crate) fn write_attrs(numbers: &[GimliAttr], into: &mut [GimliAttr], from: usize)
+    requires { from + length numbers.now ≤ length into.old }
     ensures { into.new
-        ≡ (take from into.old
-        ++ map (λ a. attr_of (map_attribute R.view R.Offset.number a)) attributes.now)
-        ++ drop (from + length attributes.now) into.old }
+        ≡ (take from into.old ++ numbers.now) ++ drop (from + length numbers.now) into.old }
 {
     let mut at = from;
-    'attributes: for attribute in attributes {
-        into[at] = attr_of(attribute);
+    'each: for number in numbers {
+        into[at] = *number;
         at += 1;
     }
 }

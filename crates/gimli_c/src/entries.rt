@@ -8,11 +8,12 @@ ghost use Rattle.gimli_c.specs.Fronts.{at, ahead_of, unit_ahead, rows_ahead, Res
 ghost use Rattle.gimli_c.specs.Entries.{wrote, FilledEntries, AreTold};
 
 use crate::attrs::{GimliAttr, write_attrs};
+use crate::reading::read_numbers;
 use crate::rows::{GimliPlace, place_of};
 use crate::sections::{UnitSections, header_in};
 use crate::status::{END, MORE, TOO_DEEP, refused, row_refused};
 use gimli_base::{Abbreviations, DebugAbbrev, Reader, ReaderOffset, Section};
-use gimli_units::{DebuggingInformationEntry, EntriesRaw, UnitHeader, UnitOffset};
+use gimli_units::{EntriesRaw, UnitHeader, UnitOffset};
 use std::alloc::Allocator;
 
 /// An entry of a unit, or the null that closes a list of children.
@@ -91,18 +92,11 @@ fn stopped<O: ReaderOffset>(offset: O, depth: isize, status: u32) -> ToldEntries
     ensures { let place = at (O.number offset) depth in
         result ≡ record { status = status; filled = wrote 0 0 0; place = place } }
 {
-    ToldEntries {
-        status,
-        filled: GimliFilled {
-            rows: 0,
-            attributes: 0,
-            wanted: 0,
-        },
-        place: GimliPlace {
-            offset: offset.into_u64(),
-            depth,
-        },
-    }
+    let place = GimliPlace {
+        offset: offset.into_u64(),
+        depth,
+    };
+    ended(status, wrote(0, 0, 0), place)
 }
 
 // Fills rows and attributes of a unit with its abbreviations.
@@ -151,58 +145,56 @@ fn fill_entries<R: Reader, A: Allocator>(
         FilledEntries ahead rows.old attrs.old result.place rows.new attrs.new
         result.filled result.status }
 {
-    let mut entry = DebuggingInformationEntry::null(alloc);
+    let mut numbers = Vec::new(alloc);
     let mut count = 0;
     let mut used = 0;
     'rows: while count < rows.len() && !entries.is_empty() {
-        match entries.read_entry(&mut entry) {
-            Ok(_) => {}
-            Err(error) => {
-                return ToldEntries {
-                    status: row_refused(error),
-                    filled: GimliFilled {
-                        rows: count,
-                        attributes: used,
-                        wanted: 0,
-                    },
-                    place: place_of(entries, base),
-                };
-            }
-        }
-        let offset = entry.offset().0.into_u64();
-        let depth = base + entry.depth();
-        let attributes = entry.attrs().len();
+        let place = place_of(entries, base);
+        let head = match read_numbers(entries, &mut numbers) {
+            Ok(head) => head,
+            Err(error) => return ended(row_refused(error), wrote(count, used, 0), place),
+        };
+        let numbers_read = numbers.as_slice();
+        let attributes = numbers_read.len();
         if attributes > attrs.len() - used {
-            return ToldEntries {
-                status: MORE,
-                filled: GimliFilled {
-                    rows: count,
-                    attributes: used,
-                    wanted: attributes,
-                },
-                place: GimliPlace { offset, depth },
-            };
+            return ended(MORE, wrote(count, used, attributes), place);
         }
-        write_attrs(entry.attrs(), attrs, used);
+        write_attrs(numbers_read, attrs, used);
         rows[count] = GimliEntry {
-            offset,
-            depth,
+            offset: place.offset,
+            depth: place.depth,
             first: used,
             attributes,
-            tag: entry.tag().0,
-            has_children: u8::from(entry.has_children()),
+            tag: head.tag,
+            has_children: head.has_children,
         };
         count += 1;
         used += attributes;
     }
     let status = if entries.is_empty() { END } else { MORE };
+    ended(status, wrote(count, used, 0), place_of(entries, base))
+}
+
+// How much was written.
+#[inline(always)]
+fn wrote(rows: usize, attributes: usize, wanted: usize) -> GimliFilled
+    ensures { result ≡ wrote rows attributes wanted }
+{
+    GimliFilled {
+        rows,
+        attributes,
+        wanted,
+    }
+}
+
+// The answer of a call.
+#[inline(always)]
+fn ended(status: u32, filled: GimliFilled, place: GimliPlace) -> ToldEntries
+    ensures { result ≡ record { status = status; filled = filled; place = place } }
+{
     ToldEntries {
         status,
-        filled: GimliFilled {
-            rows: count,
-            attributes: used,
-            wanted: 0,
-        },
-        place: place_of(entries, base),
+        filled,
+        place,
     }
 }

@@ -10,9 +10,9 @@ ghost use Rattle.gimli_c.specs.Units.{units_view, unit_told, section_unit};
 ghost use Rattle.gimli_c.specs.Fronts.{section_rows, ToldRows, Resumes};
 ghost use Rattle.gimli_c.specs.Entries.{AreTold};
 ghost use Rattle.gimli_c.specs.Status.{more, end, UnlessRefused};
-ghost use Rattle.gimli_c.specs.Siblings.{section_sibling, section_false, IsRowOf, AreHonest};
+ghost use Rattle.gimli_c.specs.Siblings.{section_sibling, section_false, IsRowOf, UnitIsHonest};
 ghost use Rattle.gimli_c.specs.Addresses.{section_holding};
-ghost use Rattle.gimli_c.specs.Lists.{is_big, range_row, location_row, ranges_at, locations_at};
+ghost use Rattle.gimli_c.specs.Lists.{section_is_big, range_row, location_row, ranges_at, locations_at};
 ghost use Rattle.gimli_c.specs.Lists.{IsToldList};
 
 mod address;
@@ -20,6 +20,7 @@ mod attrs;
 mod entries;
 mod first_false;
 mod lists;
+mod reading;
 mod rows;
 mod sections;
 mod sibling;
@@ -144,7 +145,7 @@ pub extern "C" fn gimli_sibling(
     ensures plain { follows ≡ 0 →
         UnlessRefused result ((result, row.new)
         ≡ section_sibling sections.now unit place.now.offset place.now.depth row.old) }
-    ensures followed { AreHonest sections.now unit place.now.offset →
+    ensures followed { UnitIsHonest sections.now unit place.now.offset →
         UnlessRefused result ((result, row.new)
         ≡ section_sibling sections.now unit place.now.offset place.now.depth row.old) }
     ensures kept { (result ≡ more → ⊥) → row.new ≡ row.old }
@@ -178,7 +179,7 @@ pub extern "C" fn gimli_first_false(
     ensures told { UnlessRefused result ((result, offset.new)
         ≡ section_false sections.now unit offset.old) }
     ensures starts { result ≡ end → (at : ℕ) → IsRowOf sections.now unit at →
-        AreHonest sections.now unit at }
+        UnitIsHonest sections.now unit at }
 {
     let unit = unit as usize;
     if sections.big == 0 {
@@ -232,7 +233,7 @@ pub extern "C" fn gimli_ranges(
     count: &mut usize,
 ) -> u32
     ensures { let s = sections.now in
-        let told = ranges_at (is_big s) s unit.now attribute.now bases.now in
+        let told = ranges_at (section_is_big s) s unit.now attribute.now bases.now in
         IsToldList range_row told into.old into.new count.new result }
 {
     let told = if sections.big == 0 {
@@ -256,7 +257,7 @@ pub extern "C" fn gimli_locations(
     count: &mut usize,
 ) -> u32
     ensures { let s = sections.now in
-        let told = locations_at (is_big s) s unit.now attribute.now bases.now in
+        let told = locations_at (section_is_big s) s unit.now attribute.now bases.now in
         IsToldList location_row told into.old into.new count.new result }
 {
     let told = if sections.big == 0 {

@@ -127,9 +127,9 @@ pub(crate) fn find_ranges<E: Endianity>(
     let new = DebugRngLists::new(sections.rnglists, endian);
     let lists = RangeLists::new(old, new);
     let number = attribute.number as usize;
-    let offset = if attribute.class == 12 {
+    let offset = if attribute.kind == 12 {
         RangeListsOffset(number)
-    } else if attribute.class == 26 {
+    } else if attribute.kind == 26 {
         let base = DebugRngListsBase(bases.rnglists as usize);
         match lists.get_offset(encoding, base, DebugRngListsIndex(number)) {
             Ok(offset) => offset,
@@ -203,9 +203,9 @@ pub(crate) fn find_locations<E: Endianity>(
     let new = DebugLocLists::new(sections.loclists, endian);
     let lists = LocationLists::new(old, new);
     let number = attribute.number as usize;
-    let offset = if attribute.class == 12 {
+    let offset = if attribute.kind == 12 {
         LocationListsOffset(number)
-    } else if attribute.class == 21 {
+    } else if attribute.kind == 21 {
         let base = DebugLocListsBase(bases.loclists as usize);
         match lists.get_offset(encoding, base, DebugLocListsIndex(number)) {
             Ok(offset) => offset,

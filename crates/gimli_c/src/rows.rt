@@ -9,10 +9,11 @@ ghost use Rattle.gimli_c.specs.Units.{section_id};
 ghost use Rattle.gimli_c.specs.Fronts.{at, ahead_of, unit_ahead, rows_ahead, Filled, ToldRows};
 ghost use Rattle.gimli_c.specs.Fronts.{Resumes};
 
+use crate::reading::pass_entry;
 use crate::sections::{UnitSections, header_in};
 use crate::status::{END, MORE, TOO_DEEP, refused, row_refused};
 use gimli_base::{Abbreviations, DebugAbbrev, Reader, ReaderOffset, Section};
-use gimli_units::{DebuggingInformationEntry, EntriesRaw, UnitHeader, UnitOffset};
+use gimli_units::{EntriesRaw, UnitHeader, UnitOffset};
 use std::alloc::Allocator;
 
 /// A place in a unit, between two rows.
@@ -72,7 +73,7 @@ pub(crate) fn read_rows<R: Reader, A: Allocator + Copy>(
         Err(error) => return stopped(offset, depth, refused(error)),
     };
     match header.abbreviations(alloc, &sections.abbreviations) {
-        Ok(table) => unit_rows(alloc, &header, &table, offset, depth, rows),
+        Ok(table) => unit_rows(&header, &table, offset, depth, rows),
         Err(error) => stopped(offset, depth, refused(error)),
     }
 }
@@ -93,7 +94,6 @@ fn stopped<O: ReaderOffset>(offset: O, depth: isize, status: u32) -> Told
 
 // Fills rows of a unit with its abbreviations.
 fn unit_rows<R: Reader, A: Allocator + Copy>(
-    alloc: A,
     unit: &UnitHeader<R>,
     table: &Abbreviations<A>,
     offset: R::Offset,
@@ -118,12 +118,11 @@ fn unit_rows<R: Reader, A: Allocator + Copy>(
     if left >= 1 << 63 || steps >= (1 << 63) - left {
         return stopped(offset, depth, TOO_DEEP);
     }
-    fill_rows(alloc, &mut entries, depth, rows)
+    fill_rows(&mut entries, depth, rows)
 }
 
 // Fills rows, their depths counted from `base`.
 fn fill_rows<R: Reader, A: Allocator>(
-    alloc: A,
     entries: &mut EntriesRaw<'_, R, A>,
     base: isize,
     rows: &mut [GimliRow],
@@ -133,26 +132,27 @@ fn fill_rows<R: Reader, A: Allocator>(
     ensures { let ahead = ahead_of R.Offset.limit base entries.old in
         Filled ahead rows.old result.place rows.new result.count result.status }
 {
-    let mut entry = DebuggingInformationEntry::null(alloc);
     let mut count = 0;
     'rows: while count < rows.len() && !entries.is_empty() {
-        match entries.read_entry(&mut entry) {
-            Ok(_) => {}
+        let place = place_of(entries, base);
+        match pass_entry(entries) {
+            Ok(head) => {
+                rows[count] = GimliRow {
+                    offset: place.offset,
+                    depth: place.depth,
+                    tag: head.tag,
+                    has_children: head.has_children,
+                };
+                count += 1;
+            }
             Err(error) => {
                 return Told {
                     status: row_refused(error),
                     count,
-                    place: place_of(entries, base),
+                    place,
                 };
             }
         }
-        rows[count] = GimliRow {
-            offset: entry.offset().0.into_u64(),
-            depth: base + entry.depth(),
-            tag: entry.tag().0,
-            has_children: u8::from(entry.has_children()),
-        };
-        count += 1;
     }
     let status = if entries.is_empty() { END } else { MORE };
     Told {
@@ -163,6 +163,7 @@ fn fill_rows<R: Reader, A: Allocator>(
 }
 
 /// Where entries stand.
+#[inline(always)]
 pub(crate) fn place_of<R: Reader, A: Allocator>(
     entries: &EntriesRaw<'_, R, A>,
     base: isize,

@@ -4,7 +4,7 @@ ghost use Rattle.std.specs.Prelude.{◌≡◌};
 ghost use Rattle.gimli_headers.specs.Units.{header_at};
 ghost use Rattle.gimli_units.specs.UnitHeld.{unit_view};
 ghost use Rattle.gimli_units.specs.UnitKind.{map_type};
-ghost use Rattle.gimli_c.specs.Units.{section_id, at_offset, unit_told, unit_of, kind_of};
+ghost use Rattle.gimli_c.specs.Units.{section_id, at_offset, unit_told, unit_numbers, type_numbers};
 
 use crate::sections::{UnitSections, header_in};
 use crate::status::{END, MORE, refused};
@@ -71,7 +71,7 @@ pub(crate) fn read_unit<R: Reader>(
 
 // A unit's numbers, at an offset.
 fn numbers_of<R: Reader>(unit: &UnitHeader<R>, offset: R::Offset) -> GimliUnit
-    ensures { result ≡ unit_of (at_offset (R.Offset.number offset) (unit_view unit.now)) }
+    ensures { result ≡ unit_numbers (at_offset (R.Offset.number offset) (unit_view unit.now)) }
 {
     let added = added_by(unit.type_());
     GimliUnit {
@@ -90,7 +90,7 @@ fn numbers_of<R: Reader>(unit: &UnitHeader<R>, offset: R::Offset) -> GimliUnit
 
 // What a type adds, and its code.
 fn added_by<O: ReaderOffset>(kind: UnitType<O>) -> Added
-    ensures { (result.code, result.id, result.offset) ≡ kind_of (map_type O.number kind) }
+    ensures { (result.code, result.id, result.offset) ≡ type_numbers (map_type O.number kind) }
 {
     match kind {
         UnitType::Compilation => Added {

@@ -1,0 +1,194 @@
+-- Entries that are read past: the code's parts, then the whole.
+use Rattle.std.proofs.Common.{◌≡◌, ℕ, ◌+◌, ◌<◌, ◌≤◌, ◌==◌, false, List, [], ◌∷◌}
+use Rattle.std.proofs.Common.{◌++◌, map, drop, length, get_or, Option, Some, None, Ok, Err, refl}
+use Rattle.std.proofs.Common.{sym, ap, ◌∙◌}
+use Rattle.std.proofs.Common.{append_assoc}
+use Rattle.std.proofs.lemmas.Bool.{ne_eqb}
+use Rattle.std.proofs.lemmas.List.{drop_more, drop_all, append-nil}
+use Rattle.gimli_base.specs.declared.common.Encoding.{Encoding}
+use Rattle.gimli_base.specs.declared.error.Error.{Error}
+use Rattle.gimli_base.specs.View.{View}
+use Rattle.gimli_base.specs.Reading.{Reads, made}
+use Rattle.gimli_base.specs.Abbreviations.{Specification, Declaration, Map}
+use Rattle.gimli_base.specs.Table.{found}
+use Rattle.gimli_units.specs.Entry.{Attr, Entry, attribute_at, attributes_at, abbreviation_at}
+use Rattle.gimli_units.specs.Entry.{entry_at, null_entry}
+use Rattle.gimli_units.specs.RawPlace.{RawPlace, depth_read, depth_after, below_flag}
+use Rattle.gimli_units.proofs.AttributeTurns.{after, with_none, turn_refused, turn_more, turn_end}
+use Rattle.gimli_c.specs.declared.attrs.GimliAttr.{GimliAttr}
+use Rattle.gimli_c.specs.Attrs.{attr_of}
+use Rattle.gimli_c.specs.Heads.{null_head, declared_head, IsReadPast, IsReadWith, AreRead}
+
+-- the first i attributes were read, and the others are ahead of v
+pub record ReadOn (limit : ℕ) (e : Encoding) (ss : List Specification) (i : ℕ) (all v : View)
+    : Type 0 where
+  pub attributes : List Attr
+  pub same : attributes_at limit e ss all
+      ≡ after attributes (attributes_at limit e (drop i ss) v)
+
+pub on_none : (limit : ℕ) (e : Encoding) (ss : List Specification) (v : View)
+    → ReadOn limit e ss 0 v v
+on_none limit e ss v = record {
+  attributes = [];
+  same = with_none (attributes_at limit e ss v);
+}
+
+pub on_more : (limit : ℕ) (e : Encoding) (ss : List Specification) (i : ℕ) (all v : View)
+    → (r : ReadOn limit e ss i all v) → (s : Specification) (a : Attr) (w : View)
+    → i < length ss → s ≡ get_or ss i s → Ok (a, w) ≡ attribute_at limit e s v
+    → ReadOn limit e ss (i + 1) all w
+on_more limit e ss i all v r s a w lt is h = record {
+  attributes = r.attributes ++ a ∷ [];
+  same = turn_more limit e ss i all v r.attributes r.same s a w lt is h;
+}
+
+pub on_refused : (limit : ℕ) (e : Encoding) (ss : List Specification) (i : ℕ) (all v : View)
+    → ReadOn limit e ss i all v → (s : Specification) (x : Error)
+    → i < length ss → s ≡ get_or ss i s → Err x ≡ attribute_at limit e s v
+    → Err x ≡ attributes_at limit e ss all
+on_refused limit e ss i all v r s x lt is h =
+    turn_refused limit e ss i all v r.attributes r.same s x lt is h
+
+pub on_end : (limit : ℕ) (e : Encoding) (ss : List Specification) (i : ℕ) (all v : View)
+    → (r : ReadOn limit e ss i all v) → length ss ≤ i → AreRead limit e ss all v
+on_end limit e ss i all v r le = record {
+  attributes = r.attributes;
+  are = turn_end limit e ss i all v r.attributes r.same le;
+}
+
+-- the attributes of these specifications, as numbers
+abbrev pub numbers_at : ℕ → Encoding → List Specification → View → Reads (List GimliAttr)
+numbers_at limit e ss v = made (map attr_of) (attributes_at limit e ss v)
+
+-- a turn of the loop that keeps them: the first i are ns
+module _ (limit : ℕ) (e : Encoding) (ss : List Specification) (i : ℕ) (all v : View)
+    (ns : List GimliAttr)
+    (so_far : numbers_at limit e ss all ≡ after ns (numbers_at limit e (drop i ss) v)) where
+  -- the others, of which this is the first
+  others : (s : Specification) → i < length ss → s ≡ get_or ss i s
+      → numbers_at limit e ss all ≡ after ns (numbers_at limit e (s ∷ drop (i + 1) ss) v)
+  others s lt is =
+      let next = drop_more ss i s lt ∙ ap (λ x. x ∷ drop (i + 1) ss) (sym is) in
+      so_far ∙ ap (λ ss. after ns (numbers_at limit e ss v)) next
+
+  pub numbers_refused : (s : Specification) (x : Error) → i < length ss → s ≡ get_or ss i s
+      → Err x ≡ attribute_at limit e s v → Err x ≡ numbers_at limit e ss all
+  unfolding attributes_at
+  numbers_refused s x lt is h = sym (others s lt is ∙ rw (← h) refl)
+
+  pub numbers_more : (s : Specification) (a : Attr) (w : View) → i < length ss → s ≡ get_or ss i s
+      → Ok (a, w) ≡ attribute_at limit e s v
+      → numbers_at limit e ss all
+      ≡ after (ns ++ attr_of a ∷ []) (numbers_at limit e (drop (i + 1) ss) w)
+  unfolding attributes_at
+  numbers_more s a w lt is h =
+      others s lt is ∙ rw (← h) (first (attributes_at limit e (drop (i + 1) ss) w))
+    where
+      first : (r : Reads (List Attr))
+          → after ns (made (map attr_of) (made (λ xs. a ∷ xs) r))
+          ≡ after (ns ++ attr_of a ∷ []) (made (map attr_of) r)
+      first (Ok p) = ap (λ (ys : List GimliAttr). Ok (ys, p.1))
+          (sym (append_assoc ns (attr_of a ∷ []) (map attr_of p.0)))
+      first (Err y) = refl
+
+  pub numbers_end : length ss ≤ i → Ok (ns, v) ≡ numbers_at limit e ss all
+  unfolding attributes_at
+  numbers_end le =
+      let none = ap (λ ss. after ns (numbers_at limit e ss v)) (drop_all i ss le) in
+      sym (so_far ∙ none ∙ ap (λ (ys : List GimliAttr). Ok (ys, v)) (append-nil ns))
+
+-- what numbers were made of
+pub numbers_of : (limit : ℕ) (e : Encoding) (ss : List Specification) (v w : View)
+    (ns : List GimliAttr)
+    → ◌≡◌ {A = Reads (List GimliAttr)} (Ok (ns, w))
+    (made (map attr_of) (attributes_at limit e ss v))
+    → (r : AreRead limit e ss v w) × (ns ≡ map attr_of r.attributes)
+numbers_of limit e ss v w ns h = cases (attributes_at limit e ss v) refl h
+  where
+    cases : (r : Reads (List Attr)) → r ≡ attributes_at limit e ss v
+        → ◌≡◌ {A = Reads (List GimliAttr)} (Ok (ns, w)) (made (map attr_of) r)
+        → (r : AreRead limit e ss v w) × (ns ≡ map attr_of r.attributes)
+    cases (Ok p) is k =
+        let same : ◌≡◌ {A = List GimliAttr × View} (ns, w) (map attr_of p.0, p.1) = cc in (
+          record {
+            attributes = p.0;
+            are = ap (λ (q : List GimliAttr × View). Ok (p.0, q.1)) same ∙ is;
+          },
+          ap (λ (q : List GimliAttr × View). q.0) same,
+        )
+    cases (Err x) is k = absurd (cc)
+
+pub refused_of : (limit : ℕ) (e : Encoding) (ss : List Specification) (v : View) (x : Error)
+    → ◌≡◌ {A = Reads (List GimliAttr)} (Err x) (made (map attr_of) (attributes_at limit e ss v))
+    → ◌≡◌ {A = Reads (List Attr)} (Err x) (attributes_at limit e ss v)
+refused_of limit e ss v x h = cases (attributes_at limit e ss v) h
+  where
+    cases : (r : Reads (List Attr))
+        → ◌≡◌ {A = Reads (List GimliAttr)} (Err x) (made (map attr_of) r)
+        → ◌≡◌ {A = Reads (List Attr)} (Err x) r
+    cases (Ok p) k = absurd (cc)
+    cases (Err y) k = let same : x ≡ y = cc in ap (λ (z : Error). Err z) same
+
+-- a null was read
+module _ (limit : ℕ) (p q : RawPlace) (h : ◌≡◌ {A = Reads (Option Declaration)} (Ok (None, q.rest))
+    (abbreviation_at (found p.abbreviations) p.rest))
+    (moved : q ≡ record p { rest = q.rest; depth = depth_read None p.depth }) where
+  null_is : ◌≡◌ {A = Reads Entry} (Ok (null_entry, q.rest))
+      (entry_at limit p.encoding (found p.abbreviations) p.rest)
+  unfolding entry_at
+  null_is = rw (← h) refl
+
+  pub past_null : IsReadPast limit p null_head q
+  past_null = record { entry = null_entry; is = null_is; head_is = refl; moved = moved }
+
+  pub null_with : (ns : List GimliAttr) → ns ≡ [] → IsReadWith limit p null_head ns q
+  null_with ns none = record {
+    past = record { entry = null_entry; is = null_is; head_is = refl; moved = moved };
+    numbers_are = none;
+  }
+
+-- an entry of a declaration was read
+module _ (limit : ℕ) (p q : RawPlace) (d : Declaration) (v : View)
+    (h : ◌≡◌ {A = Reads (Option Declaration)} (Ok (Some d, v))
+    (abbreviation_at (found p.abbreviations) p.rest))
+    (r : AreRead limit p.encoding d.attributes v q.rest) (set : d.tag.0 ≡ 0 → ⊥)
+    (moved : q ≡ record p { rest = q.rest; depth = below_flag d.has_children p.depth }) where
+  some : d.tag.0 == 0 ≡ false
+  some = ne_eqb d.tag.0 0 set
+
+  abbrev entry_read : Entry
+  entry_read = record { tag = d.tag; has_children = d.has_children; attributes = r.attributes }
+
+  entry_is : ◌≡◌ {A = Reads Entry} (Ok (entry_read, q.rest))
+      (entry_at limit p.encoding (found p.abbreviations) p.rest)
+  unfolding entry_at
+  entry_is = rw (← h, ← r.are, some) refl
+
+  moved_is : q ≡ record p { rest = q.rest; depth = depth_after entry_read p.depth }
+  moved_is = rw some moved
+
+  pub past_entry : IsReadPast limit p (declared_head d) q
+  past_entry = record { entry = entry_read; is = entry_is; head_is = refl; moved = moved_is }
+
+  pub entry_with : (ns : List GimliAttr) → ns ≡ map attr_of r.attributes
+      → IsReadWith limit p (declared_head d) ns q
+  entry_with ns are = record {
+    past = record { entry = entry_read; is = entry_is; head_is = refl; moved = moved_is };
+    numbers_are = are;
+  }
+
+-- the code was refused
+pub past_code : (limit : ℕ) (e : Encoding) (m : Map) (v : View) (x : Error)
+    → ◌≡◌ {A = Reads (Option Declaration)} (Err x) (abbreviation_at m v)
+    → ◌≡◌ {A = Reads Entry} (Err x) (entry_at limit e m v)
+unfolding entry_at
+past_code limit e m v x h = rw (← h) refl
+
+-- an attribute was refused
+pub past_attribute : (limit : ℕ) (e : Encoding) (m : Map) (v w : View) (d : Declaration)
+    (x : Error)
+    → ◌≡◌ {A = Reads (Option Declaration)} (Ok (Some d, w)) (abbreviation_at m v)
+    → ◌≡◌ {A = Reads (List Attr)} (Err x) (attributes_at limit e d.attributes w)
+    → ◌≡◌ {A = Reads Entry} (Err x) (entry_at limit e m v)
+unfolding entry_at
+past_attribute limit e m v w d x h k = rw (← h, ← k) refl

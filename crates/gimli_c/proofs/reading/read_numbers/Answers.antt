@@ -1,0 +1,43 @@
+use Rattle.std.proofs.Common.{◌≡◌, ℤ, rules, Err, ap, ◌∙◌}
+use Rattle.gimli_units.specs.RawPlace.{RawPlace}
+use Rattle.gimli_c.proofs.Heads.{null_with, entry_with, past_code, past_attribute, numbers_of}
+use Rattle.gimli_c.proofs.Heads.{refused_of}
+use Rattle.gimli_c.proofs.reading.read_numbers.Goals as goal
+
+pub returns-in_err-declared-clause-refused : goal.returns-in_err-declared-clause-refused
+returns-in_err-declared-clause-refused g c =
+    let r : c.from_residual.result ≡ Err c.in_err-declared.field-0.0 = search rules in
+    rw r (λ _. past_code _ _ _ _ _ (rw c.copy-rest.ensures at c.in_err-declared.ensures.value))
+
+pub returns-in_default-clause-past : goal.returns-in_default-clause-past
+returns-in_default-clause-past g c =
+    let p = c.args.entries.now in
+    let left = c.read_abbreviation.new.self.rest in
+    let e = rw (c.copy-rest.ensures, c.in_default.is) at c.in_ok-declared.ensures in
+    rw c.null_head.ensures (null_with _ p c.read_abbreviation.new.self e.value
+    (e.same ∙ ap (λ (d : ℤ). record p { rest = left; depth = d }) e.depth) _ (search rules))
+
+pub returns-in_err-push_numbers-clause-refused : goal.returns-in_err-push_numbers-clause-refused
+returns-in_err-push_numbers-clause-refused g c =
+    let r : c.from_residual-in_err-push_numbers.result
+    ≡ Err c.in_err-push_numbers.field-0.0 = search rules in
+    let e = rw (c.copy-rest.ensures, c.in-Some.is) at c.in_ok-declared.ensures in
+    let encoding = ap (λ (p : RawPlace). p.encoding) e.same in
+    rw r (λ other. past_attribute _ _ _ _ _ _ _ e.value
+    (refused_of _ _ _ _ _
+    (rw (encoding, c.attributes.ensures) at c.in_err-push_numbers.ensures.value other)))
+
+pub returns-clause-past : goal.returns-clause-past
+returns-clause-past g c =
+    let p = c.args.entries.now in
+    let q = c.push_numbers.new.entries in
+    let middle = c.read_abbreviation.new.self.rest in
+    let e = rw (c.copy-rest.ensures, c.in-Some.is) at c.in_ok-declared.ensures in
+    let encoding = ap (λ (p : RawPlace). p.encoding) e.same in
+    let moved = e.same ∙ ap (λ (d : ℤ). record p { rest = middle; depth = d }) e.depth in
+    let n = numbers_of _ _ _ _ q.rest c.push_numbers.new.numbers.items
+    (rw (encoding, c.attributes.ensures) at c.in_ok-push_numbers.ensures.value) in
+    rw c.declared_head.ensures.value (entry_with _ p q c.in-Some.declared.now middle e.value n.0
+    c.declared_head.ensures.set
+    (c.in_ok-push_numbers.ensures.same ∙ ap (λ (t : RawPlace). record t { rest = q.rest }) moved)
+    _ n.1)

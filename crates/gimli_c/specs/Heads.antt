@@ -1,0 +1,41 @@
+-- What a row tells of its entry, and an entry that was read past (DWARF 5, 7.5.2).
+use Rattle.std.specs.Prelude.{◌≡◌, ℕ, List, map, cond, Ok}
+use Rattle.gimli_base.specs.declared.common.Encoding.{Encoding}
+use Rattle.gimli_base.specs.View.{View}
+use Rattle.gimli_base.specs.Reading.{Reads}
+use Rattle.gimli_base.specs.Abbreviations.{Specification, Declaration}
+use Rattle.gimli_base.specs.Table.{found}
+use Rattle.gimli_units.specs.Entry.{Attr, Entry, attributes_at, entry_at}
+use Rattle.gimli_units.specs.RawPlace.{RawPlace, depth_after}
+use Rattle.gimli_c.specs.declared.attrs.GimliAttr.{GimliAttr}
+use Rattle.gimli_c.specs.declared.reading.Head.{Head}
+use Rattle.gimli_c.specs.Attrs.{attr_of}
+
+abbrev pub null_head : Head
+null_head = record { tag = 0; has_children = 0 }
+
+abbrev pub declared_head : Declaration → Head
+declared_head d = record { tag = d.tag.0; has_children = cond d.has_children 1 0 }
+
+abbrev pub head_of : Entry → Head
+head_of e = record { tag = e.tag.0; has_children = cond e.has_children 1 0 }
+
+-- the attributes of these specifications can be read at v, and end at w
+pub record AreRead (limit : ℕ) (e : Encoding) (ss : List Specification) (v w : View) : Type 0 where
+  pub attributes : List Attr
+  pub are : ◌≡◌ {A = Reads (List Attr)} (Ok (attributes, w)) (attributes_at limit e ss v)
+
+-- the next entry was read: the head is its own, and the reader stands after it
+pub record IsReadPast (limit : ℕ) (before : RawPlace) (head : Head) (after : RawPlace) : Type 0 where
+  pub entry : Entry
+  pub is : ◌≡◌ {A = Reads Entry} (Ok (entry, after.rest))
+      (entry_at limit before.encoding (found before.abbreviations) before.rest)
+  pub head_is : head ≡ head_of entry
+  pub moved : after
+      ≡ record before { rest = after.rest; depth = depth_after entry before.depth }
+
+-- the same, and these are its attributes
+pub record IsReadWith (limit : ℕ) (before : RawPlace) (head : Head) (numbers : List GimliAttr)
+    (after : RawPlace) : Type 0 where
+  pub past : IsReadPast limit before head after
+  pub numbers_are : numbers ≡ map attr_of past.entry.attributes

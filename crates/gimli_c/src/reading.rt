@@ -1,0 +1,132 @@
+//! Entries that are read one after the other, each into what a row tells of it.
+
+ghost use Rattle.std.specs.Prelude.{◌≡◌, ◌≢◌, [], map, IfOk, IfErr, OnErr};
+ghost use Rattle.gimli_base.specs.Table.{found};
+ghost use Rattle.gimli_base.specs.Reading.{read, filled, made, UnlessMemory};
+ghost use Rattle.gimli_units.specs.Entry.{attributes_at, entry_at};
+ghost use Rattle.gimli_base.specs.declared.error.Error.TheVariants.{OutOfMemory};
+ghost use Rattle.gimli_c.specs.Attrs.{attr_of};
+ghost use Rattle.gimli_c.specs.Heads.{null_head, declared_head, IsReadPast, IsReadWith, AreRead};
+
+use crate::attrs::{GimliAttr, attr_of};
+use gimli_base::{Abbreviation, AttributeSpecification, Reader, Result};
+use gimli_units::EntriesRaw;
+use std::alloc::Allocator;
+
+/// What a row tells of its entry: of a null zeros.
+#[derive(Clone, Copy)]
+pub(crate) struct Head {
+    pub(crate) tag: u16,
+    pub(crate) has_children: u8,
+}
+
+// The null that closes a list of children.
+#[inline(always)]
+fn null_head() -> Head
+    ensures { result ≡ null_head }
+{
+    Head {
+        tag: 0,
+        has_children: 0,
+    }
+}
+
+// What a declaration tells of its entries.
+#[inline(always)]
+fn declared_head<A: Allocator>(declared: &Abbreviation<A>) -> Head
+    ensures value { result ≡ declared_head declared.now }
+    ensures set { declared.now.tag.0 ≢ 0 }
+{
+    Head {
+        tag: declared.tag().0,
+        has_children: u8::from(declared.has_children()),
+    }
+}
+
+/// Reads on past the next entry, and keeps its head alone. Refused as reading the entry is; then
+/// `entries` stays.
+#[inline(always)]
+pub(crate) fn pass_entry<R: Reader, A: Allocator>(
+    entries: &mut EntriesRaw<'_, R, A>,
+) -> Result<Head>
+    ensures past { IfOk result (λ head. IsReadPast R.Offset.limit entries.old head entries.new) }
+    ensures refused { IfErr result (λ e. Err e
+        ≡ entry_at R.Offset.limit entries.old.encoding (found entries.old.abbreviations)
+        entries.old.rest) }
+    ensures kept { OnErr result (entries.new ≡ entries.old) }
+{
+    let mut rest = entries.copy();
+    let Some(declared) = rest.read_abbreviation()? else {
+        *entries = rest;
+        return Ok(null_head());
+    };
+    pass_attributes(&mut rest, declared.attributes())?;
+    *entries = rest;
+    Ok(declared_head(declared))
+}
+
+// Reads on past the attributes of these specifications; where one is refused, `entries` is left
+// anywhere.
+#[inline(always)]
+fn pass_attributes<R: Reader, A: Allocator>(
+    entries: &mut EntriesRaw<'_, R, A>,
+    specifications: &[AttributeSpecification],
+) -> Result<()>
+    ensures passed { IfOk result (λ _. AreRead R.Offset.limit entries.old.encoding
+        specifications.now entries.old.rest entries.new.rest) }
+    ensures refused { IfErr result (λ e. Err e
+        ≡ attributes_at R.Offset.limit entries.old.encoding specifications.now entries.old.rest) }
+    ensures same { entries.new ≡ record entries.old { rest = entries.new.rest } }
+{
+    for specification in specifications {
+        let _attribute = entries.read_attribute_inline(*specification)?;
+    }
+    Ok(())
+}
+
+/// Reads the next entry, and keeps its head, and its attributes in place of those in `numbers`.
+/// Refused as reading the entry is, or for memory; then `entries` stays.
+#[inline(always)]
+pub(crate) fn read_numbers<R: Reader, A: Allocator>(
+    entries: &mut EntriesRaw<'_, R, A>,
+    numbers: &mut Vec<GimliAttr, A>,
+) -> Result<Head>
+    ensures past { IfOk result
+        (λ head. IsReadWith R.Offset.limit entries.old head numbers.new.items entries.new) }
+    ensures refused { IfErr result (λ e. (e ≡ OutOfMemory → ⊥) → Err e
+        ≡ entry_at R.Offset.limit entries.old.encoding (found entries.old.abbreviations)
+        entries.old.rest) }
+    ensures kept { OnErr result (entries.new ≡ entries.old) }
+{
+    numbers.clear();
+    let mut rest = entries.copy();
+    let Some(declared) = rest.read_abbreviation()? else {
+        *entries = rest;
+        return Ok(null_head());
+    };
+    push_numbers(&mut rest, declared.attributes(), numbers)?;
+    *entries = rest;
+    Ok(declared_head(declared))
+}
+
+// Reads the attributes of these specifications into an empty list; where one is refused, `entries`
+// and the list are left anywhere.
+#[inline(always)]
+fn push_numbers<R: Reader, A: Allocator>(
+    entries: &mut EntriesRaw<'_, R, A>,
+    specifications: &[AttributeSpecification],
+    numbers: &mut Vec<GimliAttr, A>,
+) -> Result<()>
+    requires { numbers.old.items ≡ [] }
+    ensures value { UnlessMemory result (read (filled numbers.new.items result) entries.new.rest
+        ≡ made (map attr_of) (attributes_at R.Offset.limit entries.old.encoding specifications.now
+        entries.old.rest)) }
+    ensures same { entries.new ≡ record entries.old { rest = entries.new.rest } }
+{
+    numbers.reserve(specifications.len())?;
+    for specification in specifications {
+        let attribute = entries.read_attribute_inline(*specification)?;
+        numbers.push_reserved(attr_of(&attribute));
+    }
+    Ok(())
+}
