@@ -131,7 +131,7 @@ typedef struct {
     size_t wanted; /* where the next row was left since its attributes have no space: their number; else 0 */
 } gimli_filled_t;
 
-/* What the lists of a unit are resolved against: values of attributes of its root. */
+/* What the lists of a unit are resolved against: all but `dwo` are values of attributes of its root. */
 typedef struct {
     uint64_t address;   /* DW_AT_low_pc, or 0 */
     uint64_t addresses; /* DW_AT_addr_base */

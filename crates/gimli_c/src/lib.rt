@@ -1,8 +1,8 @@
 //! The reader for callers of C: each call fills what its caller hands over, and keeps nothing.
 //!
-//! A status is 0 where there is more, 1 at the end, 2 at a place whose depth is out of range, 256
-//! and the number of the refusal of a unit, of its abbreviations or of an offset, and 512 and that
-//! of a row.
+//! A status is 0 where there is more, 1 at the end, 2 at a place whose depth is out of range, 3
+//! where a value names no list, 256 and the number of the refusal of a unit, of its abbreviations
+//! or of an offset, and 512 and that of a row.
 #![tactic(auto)]
 
 ghost use Rattle.std.specs.Prelude.{◌≡◌, ℕ};
