@@ -1,9 +1,9 @@
 //! What a reader answers to calls that read, one after the other.
 
-use crate::parts::write_bytes;
+use crate::write_bytes;
 use gimli_base::{Error, Format, Reader, ReaderOffset, ReaderOffsetId, Result};
-use std::io::{self, Write};
-use test_tables::{Case, write_refusal};
+use std::io::Write;
+use test_tables::{Call, Outcome, Stop, write_refusal};
 
 // What a call gives.
 #[derive(Drop)]
@@ -25,62 +25,55 @@ enum Given<R> {
 }
 
 /// Writes what a reader answers to the calls whose words begin at an index, and then the bytes that are left.
-pub(crate) fn write_reads<R: Reader, W: Write>(
-    out: &mut W,
-    case: &Case,
+pub(crate) fn write_reads<R: Reader>(
+    call: &Call<'_, R>,
     first: usize,
-    reader: R,
-) -> io::Result<()> {
-    let mut reader = reader;
-    for word in case.words.iter().skip(first) {
-        match give(&mut reader, word.as_str()) {
-            Some(given) => write_given(out, given)?,
-            None => writeln!(out, "no such call")?,
-        }
+    out: &mut Vec<u8>,
+) -> Outcome {
+    let mut reader = call.section(0)?;
+    for word in call.case.words.iter().skip(first) {
+        let given = give(&mut reader, word).ok_or(Stop::Lacks("no such call"))?;
+        write_given(given, out)?;
     }
     write!(out, "rest ")?;
-    write_bytes(out, &reader)
+    write_bytes(&reader, out)
 }
 
-/// Writes what a call answers for each size from 0 to 255, and the place after it, and leaves out the sizes that it
-/// refuses as such, at the place where it began.
-pub(crate) fn write_sizes<R: Reader, W: Write>(
-    out: &mut W,
-    case: &Case,
-    reader: R,
-) -> io::Result<()> {
-    let call = case.word(1).unwrap_or("");
+/// Writes what a call answers for each size from 0 to 255, and the place after it, and leaves out the sizes
+/// that it refuses as such, at the place where it began.
+pub(crate) fn write_sizes<R: Reader>(call: &Call<'_, R>, out: &mut Vec<u8>) -> Outcome {
+    let reader = call.section(0)?;
+    let name = call.case.word(1).unwrap_or("");
     for size in 0..=255_u8 {
         let mut rest = reader.copy();
-        let given = give_sized(&mut rest, call, u64::from(size));
+        let given = give_sized(&mut rest, name, u64::from(size));
         let place = rest.offset_id().0;
-        match given {
-            Some(Err(Error::UnsupportedAddressSize(own) | Error::UnsupportedOffsetSize(own)))
+        match given.ok_or(Stop::Lacks("no such call"))? {
+            Err(Error::UnsupportedAddressSize(own) | Error::UnsupportedOffsetSize(own))
                 if own == size && place == reader.offset_id().0 => {}
-            Some(given) => {
+            given => {
                 write!(out, "{size} at {place} ")?;
-                write_given(out, given)?;
+                write_given(given, out)?;
             }
-            None => writeln!(out, "no such call")?,
         }
     }
     Ok(())
 }
 
 // Writes what a call gives, or its refusal.
-fn write_given<R: Reader, W: Write>(out: &mut W, given: Result<Given<R>>) -> io::Result<()> {
+fn write_given<R: Reader>(given: Result<Given<R>>, out: &mut Vec<u8>) -> Outcome {
     match given {
         Ok(Given::Nothing) => write!(out, "ok")?,
         Ok(Given::Word(number)) => write!(out, "0x{number:x}")?,
         Ok(Given::Number(number)) => write!(out, "{number}")?,
         Ok(Given::Signed(number)) => write!(out, "{number}")?,
-        Ok(Given::Bytes(bytes)) => return write_bytes(out, &bytes),
+        Ok(Given::Bytes(bytes)) => return write_bytes(&bytes, out),
         Ok(Given::Length(length, format)) => write!(out, "0x{length:x} {format:?}")?,
         Ok(Given::Found(Some(number))) => write!(out, "{number}")?,
         Ok(Given::Found(None)) => write!(out, "none")?,
         Err(error) => write_refusal(out, error)?,
     }
-    writeln!(out)
+    Ok(writeln!(out)?)
 }
 
 // What a call answers: a word, and its number in brackets if it takes one.
@@ -159,8 +152,8 @@ fn give_length<R: Reader>(reader: &mut R) -> Result<Given<R>> {
     Ok(Given::Length(length.into_u64(), format))
 }
 
-// Bytes: those that are split off, or the piece with which it goes on; copied ones, the first of them the highest of a
-// number of eight bytes; or a text.
+// Bytes: those that are split off, or the piece with which it goes on; copied ones, the first of them the
+// highest of a number of eight bytes; or a text.
 fn give_bytes<R: Reader>(reader: &mut R, call: &str, number: u64) -> Option<Result<Given<R>>> {
     let count = R::Offset::from_u64(number).ok()?;
     Some(match call {

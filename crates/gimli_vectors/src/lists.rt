@@ -1,138 +1,91 @@
 //! Attributes that are read or passed together.
 
-use crate::attributes::{
-    empty_table, parse_code, raw_over, read_by, specification, write_next, write_passed,
-};
+use crate::attributes::{Input, parse_code, read_by, specification, write_next, write_passed};
 use crate::values::{write_parts, write_value};
 use gimli_base::{AttributeSpecification, Reader, ReaderOffset};
-use gimli_units::{Attribute, EntriesRaw};
+use gimli_units::EntriesRaw;
 use std::alloc::Global;
-use std::io::{self, Write};
-use test_tables::{Case, write_refusal};
+use std::io::Write;
+use test_tables::{Call, Outcome, Stop, write_refusal};
 
 // The declaration of a word `NAME:FORM`.
-fn parse_pair(word: &str) -> Option<AttributeSpecification> {
-    let (name, form) = word.split_once(":")?;
-    specification(parse_code(name)?, parse_code(form)?, "-")
+fn parse_pair(word: &str) -> Outcome<AttributeSpecification> {
+    let (name, form) = word.split_once(":").unwrap_or((word, ""));
+    match (parse_code(name), parse_code(form)) {
+        (Some(name), Some(form)) => specification(name, form, "-"),
+        _ => Err(Stop::Lacks("no case")),
+    }
 }
 
-// The declarations of the words from an index on, up to a last word.
-fn parse_pairs(alloc: Global, words: &[String], last: &str) -> Option<Vec<AttributeSpecification>> {
-    let mut pairs = Vec::new(alloc);
-    for word in words {
-        if word.as_str() == last {
-            break;
+// The declarations of the words after the encoding, up to a word `then`, and those after it.
+fn pairs_of<R: Reader>(
+    call: &Call<'_, R>,
+) -> Outcome<(Vec<AttributeSpecification>, Vec<AttributeSpecification>)> {
+    let mut first = Vec::new(call.alloc);
+    let mut then = Vec::new(call.alloc);
+    let mut is_first = true;
+    for word in call.case.words.iter().skip(4) {
+        if word.as_str() == "then" {
+            is_first = false;
+        } else if is_first {
+            first.push(parse_pair(word)?)?;
+        } else {
+            then.push(parse_pair(word)?)?;
         }
-        pairs.push(parse_pair(word)?).ok()?;
     }
-    Some(pairs)
+    Ok((first, then))
 }
 
-// The declarations after a word `then`.
-fn parse_behind(alloc: Global, words: &[String]) -> Option<Vec<AttributeSpecification>> {
-    match words.iter().position(|word| word.as_str() == "then") {
-        Some(index) => parse_pairs(alloc, words.get(index.checked_add(1)?..)?, ""),
-        None => Some(Vec::new(alloc)),
-    }
-}
-
-/// Writes what passing attributes together answers, and after `then` what reading others does, one after the other.
-pub(crate) fn write_passed_list<R: Reader>(
-    out: &mut Vec<u8>,
-    alloc: Global,
-    case: &Case,
-    sections: &[R],
-) -> io::Result<()> {
-    let (Some(encoding), Some(words)) = (case.encoding(1), case.words.get(4..)) else {
-        return write!(out, "no case");
-    };
-    let (Some(passed), Some(then)) = (
-        parse_pairs(alloc, words, "then"),
-        parse_behind(alloc, words),
-    ) else {
-        return write!(out, "no case");
-    };
-    let (Some(input), Some(table)) = (sections.first(), empty_table(alloc)) else {
-        return write!(out, "no case");
-    };
-    let mut raw = raw_over(input, encoding, &table);
-    write_passed(out, &mut raw, input, &passed)?;
+/// Writes what passing attributes together answers, and after `then` what reading others does, one after
+/// the other.
+pub(crate) fn write_passed_list<R: Reader>(call: &Call<'_, R>, out: &mut Vec<u8>) -> Outcome {
+    let input = Input::new(call, 1)?;
+    let (passed, then) = pairs_of(call)?;
+    let mut raw = input.raw();
+    write_passed(&mut raw, &input.reader, &passed, out)?;
     if then.is_empty() {
         return Ok(());
     }
-    write_steps(out, &mut raw, &then)
-}
-
-// Writes what reading attributes one after the other answers, and where the reader stands then.
-fn write_steps<R: Reader>(
-    out: &mut Vec<u8>,
-    raw: &mut EntriesRaw<'_, R, Global>,
-    specifications: &[AttributeSpecification],
-) -> io::Result<()> {
-    for specification in specifications {
-        write_step(out, raw, *specification)?;
+    for specification in &then {
+        write_step(&mut raw, *specification, out)?;
     }
     let rest = if raw.is_empty() { "end" } else { "more" };
     let depth = raw.next_depth();
-    write!(out, "{rest} depth {depth}")
+    Ok(write!(out, "{rest} depth {depth}")?)
 }
 
 // Writes what reading an attribute answers, by one call of a copy and by the other.
 fn write_step<R: Reader>(
-    out: &mut Vec<u8>,
     raw: &mut EntriesRaw<'_, R, Global>,
     specification: AttributeSpecification,
-) -> io::Result<()> {
+    out: &mut Vec<u8>,
+) -> Outcome {
     let other = read_by(&mut raw.copy(), specification, false);
     let answer = read_by(raw, specification, true);
     match (answer, other) {
-        (Ok(attribute), Ok(_)) => write_value(out, &attribute.raw_value())?,
+        (Ok(attribute), Ok(_)) => write_value(&attribute.raw_value(), out)?,
         (Err(error), Err(_)) => write_refusal(out, error)?,
         _ => write!(out, "not the same")?,
     }
-    write_next(out, raw)
+    write_next(raw, out)
 }
 
-/// Writes what reading attributes together answers, in place of one that was there, and then all that are there.
-pub(crate) fn write_list<R: Reader>(
-    out: &mut Vec<u8>,
-    alloc: Global,
-    case: &Case,
-    sections: &[R],
-) -> io::Result<()> {
-    let (Some(encoding), Some(words)) = (case.encoding(1), case.words.get(4..)) else {
-        return write!(out, "no case");
-    };
-    let (Some(pairs), Some(before)) = (parse_pairs(alloc, words, ""), specification(1, 0x19, "-"))
-    else {
-        return write!(out, "no case");
-    };
-    let (Some(input), Some(table)) = (sections.first(), empty_table(alloc)) else {
-        return write!(out, "no case");
-    };
-    let mut raw = raw_over(input, encoding, &table);
-    let mut attributes = Vec::new(alloc);
-    if raw.read_attributes(&[before], &mut attributes).is_err() {
-        return write!(out, "no memory");
-    }
-    write_list_in(out, &mut raw, &pairs, &mut attributes)
-}
-
-// Writes what reading attributes together answers, and then all that are there.
-fn write_list_in<R: Reader>(
-    out: &mut Vec<u8>,
-    raw: &mut EntriesRaw<'_, R, Global>,
-    specifications: &[AttributeSpecification],
-    attributes: &mut Vec<Attribute<R>>,
-) -> io::Result<()> {
-    if let Err(error) = raw.read_attributes(specifications, attributes) {
+/// Writes what reading attributes together answers, in place of one that was there, and then all that are
+/// there.
+pub(crate) fn write_list<R: Reader>(call: &Call<'_, R>, out: &mut Vec<u8>) -> Outcome {
+    let input = Input::new(call, 1)?;
+    let (pairs, _) = pairs_of(call)?;
+    let mut raw = input.raw();
+    let mut attributes = Vec::new(call.alloc);
+    raw.read_attributes(&[specification(1, 0x19, "-")?], &mut attributes)?;
+    if let Err(error) = raw.read_attributes(&pairs, &mut attributes) {
         write_refusal(out, error)?;
         write!(out, " ")?;
     }
-    for attribute in attributes.iter() {
-        write_parts(out, attribute)?;
+    for attribute in &attributes {
+        write_parts(attribute, out)?;
         writeln!(out)?;
     }
     let next = raw.next_offset().0.into_u64();
-    writeln!(out, "next {next}")
+    Ok(writeln!(out, "next {next}")?)
 }

@@ -12,8 +12,8 @@ pub struct Tally {
 }
 
 impl Tally {
-    /// Compares an answer with that of a case, and writes both with the case's line where they differ. What was written in
-    /// several lines stands in a table after `; `.
+    /// Compares an answer with that of a case, and writes both with the case's line where they differ. What
+    /// was written in several lines stands in a table after `; `.
     pub fn compare<W: Write>(
         &mut self,
         out: &mut W,
