@@ -13,8 +13,10 @@ use std::alloc::Global;
 pub struct Call<'a, R> {
     /// Where what is answered is kept.
     pub alloc: Global,
-    /// The words and the wanted answers.
+    /// The words.
     pub case: &'a Case,
+    /// The answer that is wanted over these readers.
+    pub wanted: &'a str,
     /// The sections of the case, and empty ones after them where it has fewer than two.
     pub sections: Vec<R>,
 }

@@ -19,7 +19,7 @@ pub trait Program {
         0
     }
 
-    /// What is to be written where a row has an answer.
+    /// What is to be written where a row has an answer. A program that writes what differs wants nothing.
     fn wanted<'a>(&self, answer: &'a str) -> &'a str {
         answer
     }
@@ -73,6 +73,7 @@ fn answer_parts<P: Program, E: Endianity>(
     let call = Call {
         alloc,
         case,
+        wanted: &case.wide,
         sections,
     };
     program.answer(&call, out)
@@ -98,6 +99,7 @@ fn answer_wholes<P: Program>(
     let call = Call {
         alloc,
         case,
+        wanted: &case.narrow,
         sections,
     };
     program.answer(&call, out)

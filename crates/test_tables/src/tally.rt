@@ -36,8 +36,8 @@ impl Tally {
     }
 }
 
-// Whether the lines of an answer are those that are wanted.
-fn is_answer(wanted: &str, found: &str) -> bool {
+/// Whether the lines of an answer are those that are wanted.
+pub fn is_answer(wanted: &str, found: &str) -> bool {
     let mut lines = found.lines();
     if wanted.is_empty() {
         return lines.next().is_none();
