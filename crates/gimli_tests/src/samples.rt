@@ -18,6 +18,9 @@ pub(crate) const NESTED_STRINGS: [u8; 18] = [
     0x00, 0x00,
 ];
 
+/// A reader of the kind that most tests take.
+pub(crate) type Part<'a> = EndianSlice<'a, LittleEndian>;
+
 /// A reader that keeps what is left of these bytes, from the place 100 on.
 pub(crate) fn part<E: Endianity>(bytes: &[u8], endian: E) -> EndianSlice<'_, E> {
     let _length = bytes.len();
@@ -30,7 +33,7 @@ pub(crate) fn whole<'a, E: Endianity>(
     bytes: &'a [u8],
     endian: E,
 ) -> WholeSlice<'a, E> {
-    assert!(rt; bytes.len() < 0x1_0000);
+    assert!(rt; bytes.len() < 0x100_0000);
     WholeSlice::new_at(bytes, endian, 100)
 }
 
@@ -39,16 +42,16 @@ pub(crate) fn table_of(alloc: Global, bytes: &[u8]) -> Result<Abbreviations<Glob
     DebugAbbrev::new(bytes, LittleEndian).abbreviations(alloc, DebugAbbrevOffset(0))
 }
 
-/// Version 4, the 32-bit format, and addresses of 4 bytes.
-pub(crate) fn version_4() -> Encoding {
+/// The 32-bit format, a version, and a number of bytes of an address.
+pub(crate) fn encoding(version: u16, address_size: u8) -> Encoding {
     Encoding {
         format: Format::Dwarf32,
-        version: 4,
-        address_size: 4,
+        version,
+        address_size,
     }
 }
 
-/// The compilation unit of that encoding with these entries, the first of them at 11.
+/// The compilation unit of version 4 with these entries, the first of them at 11.
 pub(crate) fn unit_of<R: Reader>(rt: &impl Abort, entries: R) -> UnitHeader<R> {
     let zero = R::Offset::from_u8(0);
     let unit_length = R::Offset::from_u8(7)
@@ -57,7 +60,7 @@ pub(crate) fn unit_of<R: Reader>(rt: &impl Abort, entries: R) -> UnitHeader<R> {
     let whole = R::Offset::from_u8(12).checked_add(unit_length);
     assert!(rt; whole.is_some());
     UnitHeader::new(
-        version_4(),
+        encoding(4, 4),
         unit_length,
         UnitType::Compilation,
         DebugAbbrevOffset(zero),
@@ -77,6 +80,11 @@ pub(crate) fn next_of<I: Iterator>(items: &mut I) -> Option<I::Item>
 /// The refusal of missing bytes at a place.
 pub(crate) fn end_at(place: u64) -> Error {
     Error::UnexpectedEof(ReaderOffsetId(place))
+}
+
+/// Whether a reader has these bytes left, the first of them at a place, and no other.
+pub(crate) fn has_bytes_at<R: Reader>(reader: &R, bytes: &[u8], place: u64) -> bool {
+    has_bytes(reader, bytes) && reader.offset_id() == ReaderOffsetId(place)
 }
 
 /// Whether a reader has these bytes left, and no other.

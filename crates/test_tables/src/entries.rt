@@ -43,7 +43,7 @@ pub fn write_counted<R: Reader, A: Allocator>(
 }
 
 /// Where a cursor stands: the offset and the depth of what was read last, and of what is read next.
-#[derive(Clone, Copy)]
+#[derive(Clone, Copy, Debug, PartialEq, Eq)]
 pub struct Place {
     /// The offset of what was read last.
     pub offset: u64,

@@ -1,7 +1,6 @@
 //! Location lists.
 
-use crate::lists::samples::{Part, encoding, end_at_first, part, whole};
-use crate::samples::{has_bytes, hash_of, next_of};
+use crate::samples::{Part, encoding, end_at, has_bytes, hash_of, next_of, part, whole};
 use gimli_base::{
     DebugAddr, DebugAddrBase, DebugAddrIndex, Encoding, EndianSlice, Error, Expression, Format,
     LittleEndian, LocationListsOffset, Reader, ReaderOffset, ReaderOffsetId, Result, Section,
@@ -33,12 +32,7 @@ fn locations_of<R: Reader>(lists: &LocationLists<R>, none: R) -> Result<LocListI
     let zero = R::Offset::from_u8(0);
     let (begin, base) = (LocationListsOffset(zero), DebugAddrBase(zero));
     let table = DebugAddr::from(none);
-    let encoding = Encoding {
-        format: Format::Dwarf32,
-        version: 4,
-        address_size: 4,
-    };
-    lists.locations(begin, encoding, 0x0100_0000, &table, base)
+    lists.locations(begin, encoding(4, 4), 0x0100_0000, &table, base)
 }
 
 // The next entry as it is written.
@@ -82,7 +76,7 @@ fn tries_conversions<R: Reader>(rt: &impl Abort, locations: &mut LocListIter<R>)
         addr: DebugAddrIndex(R::Offset::from_u8(0)),
     };
     let refusal = locations.convert_raw(missing).err();
-    assert!(rt; refusal == Some(end_at_first()));
+    assert!(rt; refusal == Some(end_at(100)));
     tries_last(rt, locations);
 }
 
@@ -96,11 +90,11 @@ fn tries_last<R: Reader>(rt: &impl Abort, locations: &mut LocListIter<R>) {
 
 #[test]
 fn converts_entries_one_by_one(rt: HostRuntime) {
-    let of_parts = lists_of(part(&PAIRS));
-    let locations = locations_of(&of_parts, part(b""));
+    let of_parts = lists_of(part(&PAIRS, LittleEndian));
+    let locations = locations_of(&of_parts, part(b"", LittleEndian));
     tries_conversions(&rt, &mut locations.expect(&rt, "no list"));
-    let of_wholes = lists_of(whole(&rt, &PAIRS)).copy();
-    let locations = locations_of(&of_wholes, whole(&rt, b""));
+    let of_wholes = lists_of(whole(&rt, &PAIRS, LittleEndian)).copy();
+    let locations = locations_of(&of_wholes, whole(&rt, b"", LittleEndian));
     tries_conversions(&rt, &mut locations.expect(&rt, "no list"));
 }
 
@@ -114,16 +108,16 @@ fn location<R>(end: u64, reader: R) -> LocationListEntry<R> {
 
 #[test]
 fn locations_are_compared_by_their_bytes(rt: HostRuntime) -> std::result::Result<(), Fail> {
-    let found = location(2, part(&[0x30, 0x9f]));
+    let found = location(2, part(&[0x30, 0x9f], LittleEndian));
     let assigned = found;
     let elsewhere = location(2, EndianSlice::new(&[0x30, 0x9f], LittleEndian));
     for same in [assigned, found.copy(), found.clone()?, elsewhere] {
         assert!(rt; same == found);
         assert!(rt; hash_of(&same) == hash_of(&found));
     }
-    let later = location(3, part(&[0x30, 0x9f]));
-    let other = location(2, part(&[0x30, 0x9e]));
-    let shorter = location(2, part(&[0x30]));
+    let later = location(3, part(&[0x30, 0x9f], LittleEndian));
+    let other = location(2, part(&[0x30, 0x9e], LittleEndian));
+    let shorter = location(2, part(&[0x30], LittleEndian));
     for different in [later, other, shorter] {
         assert_ne!(rt; different, found);
         assert_ne!(rt; hash_of(&different), hash_of(&found));
@@ -131,7 +125,8 @@ fn locations_are_compared_by_their_bytes(rt: HostRuntime) -> std::result::Result
     Ok(())
 }
 
-// Tries that both sections have their own bytes: an old list of one pair, and a new one of a default location.
+// Tries that both sections have their own bytes: an old list of one pair, and a new one of a default
+// location.
 fn tries_sections<R: Reader>(rt: &impl Abort, of_both: &LocationLists<R>, old: &[u8], new: &[u8]) {
     let begin = LocationListsOffset(R::Offset::from_u8(0));
     let pairs = of_both.raw_locations(begin, encoding(4, 1));

@@ -1,8 +1,7 @@
-use crate::samples::version_4;
-use crate::units::samples::{Input, input};
+use crate::samples::{Part, encoding, part};
 use gimli_base::{
     DW_UT_hi_user, DW_UT_lo_user, DebugAbbrevOffset, DebugTypeSignature, DwoId, Encoding, Format,
-    Reader, SectionId,
+    LittleEndian, Reader, SectionId,
 };
 use gimli_units::{UnitHeader, UnitOffset, UnitSectionOffset, UnitType};
 use std::process::Abort;
@@ -32,8 +31,8 @@ fn header_of<'a>(
     encoding: Encoding,
     (unit_length, unit_type): (u32, UnitType<usize>),
     (section, offset, abbreviations): Place,
-    entries: Input<'a>,
-) -> UnitHeader<Input<'a>> {
+    entries: Part<'a>,
+) -> UnitHeader<Part<'a>> {
     assert!(rt; entries.len() <= unit_length as usize);
     UnitHeader::new(
         encoding,
@@ -79,7 +78,7 @@ fn unit_types() -> [UnitType<usize>; 7] {
 fn shows_versions_and_sizes_that_no_bytes_give(rt: HostRuntime) {
     let encoding = encoding_of(Format::Dwarf32, 0xffff, 0xff);
     let usual = (12, UnitType::Compilation);
-    let unit = header_of(&rt, encoding, usual, FIRST, input(&ENTRIES));
+    let unit = header_of(&rt, encoding, usual, FIRST, part(&ENTRIES, LittleEndian));
     assert!(rt; unit.encoding() == encoding);
     assert!(rt; (unit.version(), unit.address_size()) == (0xffff, 0xff));
 }
@@ -96,7 +95,13 @@ fn sizes_of(format: Format) -> [usize; 7] {
 fn tries_sizes(rt: &impl Abort, format: Format, version: u16) {
     let encoding = encoding_of(format, version, 4);
     for (unit_type, size) in unit_types().into_iter().zip(sizes_of(format)) {
-        let unit = header_of(rt, encoding, (100, unit_type), FIRST, input(&ENTRIES));
+        let unit = header_of(
+            rt,
+            encoding,
+            (100, unit_type),
+            FIRST,
+            part(&ENTRIES, LittleEndian),
+        );
         assert_eq!(rt; unit.size_of_header(), size, "{unit_type:?}");
         assert!(rt; unit.type_() == unit_type);
     }
@@ -142,7 +147,13 @@ fn types_with_other_parts_differ(rt: HostRuntime) {
 #[test]
 fn units_with_other_parts_differ(rt: HostRuntime) -> Result<(), Fail> {
     let usual = (12, UnitType::Compilation);
-    let unit = header_of(&rt, version_4(), usual, FIRST, input(&ENTRIES));
+    let unit = header_of(
+        &rt,
+        encoding(4, 4),
+        usual,
+        FIRST,
+        part(&ENTRIES, LittleEndian),
+    );
     assert!(rt; unit.copy() == unit);
     assert!(rt; unit.clone()? == unit);
     let others = [
@@ -153,7 +164,13 @@ fn units_with_other_parts_differ(rt: HostRuntime) -> Result<(), Fail> {
         (usual, (SectionId::DebugInfo, 0, 1)),
     ];
     for (other, place) in others {
-        let found = header_of(&rt, version_4(), other, place, input(&ENTRIES));
+        let found = header_of(
+            &rt,
+            encoding(4, 4),
+            other,
+            place,
+            part(&ENTRIES, LittleEndian),
+        );
         assert_ne!(rt; found, unit);
     }
     Ok(())
@@ -162,16 +179,22 @@ fn units_with_other_parts_differ(rt: HostRuntime) -> Result<(), Fail> {
 #[test]
 fn units_with_other_encodings_or_entries_differ(rt: HostRuntime) {
     let usual = (12, UnitType::Compilation);
-    let unit = header_of(&rt, version_4(), usual, FIRST, input(&ENTRIES));
+    let unit = header_of(
+        &rt,
+        encoding(4, 4),
+        usual,
+        FIRST,
+        part(&ENTRIES, LittleEndian),
+    );
     let encodings = [
         encoding_of(Format::Dwarf64, 4, 4),
         encoding_of(Format::Dwarf32, 5, 4),
         encoding_of(Format::Dwarf32, 4, 8),
     ];
     for encoding in encodings {
-        let found = header_of(&rt, encoding, usual, FIRST, input(&ENTRIES));
+        let found = header_of(&rt, encoding, usual, FIRST, part(&ENTRIES, LittleEndian));
         assert_ne!(rt; found, unit);
     }
-    let entries = input(&[0x01, 0x0f, 0x02, 0x00, 0x01]);
-    assert_ne!(rt; header_of(&rt, version_4(), usual, FIRST, entries), unit);
+    let entries = part(&[0x01, 0x0f, 0x02, 0x00, 0x01], LittleEndian);
+    assert_ne!(rt; header_of(&rt, encoding(4, 4), usual, FIRST, entries), unit);
 }

@@ -1,9 +1,9 @@
-use crate::samples::end_at;
-use crate::walk::samples::{first_unit, part, whole};
+use crate::samples::{end_at, part, whole};
 use gimli_base::{
     Abbreviations, DebugAbbrev, DebugAbbrevOffset, Error, LittleEndian, Reader, ReaderOffset,
 };
-use gimli_units::{AttributeValue, DebuggingInformationEntry};
+use gimli_headers::DebugInfo;
+use gimli_units::{AttributeValue, DebuggingInformationEntry, UnitHeader};
 use std::alloc::{AllocError, Global};
 use std::process::Abort;
 use std::test::Fail;
@@ -21,7 +21,8 @@ fn table_bytes(alloc: Global) -> Result<Vec<u8>, AllocError> {
     Ok(bytes)
 }
 
-// A unit of version 4 with one entry, of code 1 and so many bytes more, which count up and begin again after 255.
+// A unit of version 4 with one entry, of code 1 and so many bytes more, which count up and begin again
+// after 255.
 fn unit_bytes(alloc: Global, count: u16) -> Result<Vec<u8>, AllocError> {
     // after the length field are seven bytes of the header, and the code
     let [low, high] = count.saturating_add(8).to_le_bytes();
@@ -33,6 +34,12 @@ fn unit_bytes(alloc: Global, count: u16) -> Result<Vec<u8>, AllocError> {
         bytes.push(byte)?;
     }
     Ok(bytes)
+}
+
+// The first unit of a section.
+fn first_unit<R: Reader>(rt: &impl Abort, info: R) -> UnitHeader<R> {
+    let mut units = DebugInfo::from(info).units();
+    units.next().expect(rt, "refused").expect(rt, "no unit")
 }
 
 // The table of the section.
@@ -90,13 +97,13 @@ fn tries_cut_entry<R: Reader>(
     let mut raw = unit.entries_raw(&table, None)?;
     let mut entry = DebuggingInformationEntry::null(alloc);
     // 12 bytes and 9,999 more are there
-    assert!(rt; raw.read_entry(&mut entry) == Err(end_at(10_011)));
+    assert!(rt; raw.read_entry(&mut entry) == Err(end_at(10_111)));
     assert!(rt; entry.is_null() && entry.attrs().is_empty());
     assert!(rt; (raw.next_offset().0.into_u64(), raw.next_depth()) == (11, 0));
     let declared = raw.read_abbreviation()?.expect(rt, "a null");
     let mut attrs = Vec::new(alloc);
     let answer = raw.read_attributes(declared.attributes(), &mut attrs);
-    assert!(rt; answer == Err(end_at(10_011)));
+    assert!(rt; answer == Err(end_at(10_111)));
     assert!(rt; attrs.is_empty());
     assert!(rt; raw.next_offset().0.into_u64() == 12);
     let answer = raw.skip_attributes(declared.attributes());
