@@ -71,8 +71,8 @@ fn write_numbers<R: Reader>(call: &Call<'_, R>, out: &mut Vec<u8>) -> Outcome {
 }
 
 /// Writes the bytes that a reader has left, and at which place they begin.
-pub(crate) fn write_bytes<R: Reader>(reader: &R, out: &mut Vec<u8>) -> Outcome {
+pub(crate) fn write_left<R: Reader>(reader: &R, out: &mut Vec<u8>) -> Outcome {
     let place = reader.offset_id().0;
     write_hex(out, reader, " ")?;
-    Ok(writeln!(out, "at {place}")?)
+    Ok(write!(out, "at {place}")?)
 }

@@ -1,6 +1,6 @@
 //! Places of sections, and texts of the section of strings.
 
-use crate::write_bytes;
+use crate::write_left;
 use gimli_base::{
     DebugAbbrev, DebugAddr, DebugStr, DebugStrOffset, Reader, ReaderOffset, ReaderOffsetId, Section,
 };
@@ -34,5 +34,5 @@ pub(crate) fn write_place<R: Reader>(call: &Call<'_, R>, out: &mut Vec<u8>) -> O
 pub(crate) fn write_text<R: Reader>(call: &Call<'_, R>, out: &mut Vec<u8>) -> Outcome {
     let section = DebugStr::from(call.section(0)?);
     let text = section.get_str(DebugStrOffset(call.offset_or_zero(1)?))?;
-    write_bytes(&text, out)
+    write_left(&text, out)
 }

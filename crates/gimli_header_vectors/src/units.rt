@@ -1,6 +1,6 @@
 //! Units of `.debug_info` and `.debug_types`.
 
-use crate::write_bytes;
+use crate::write_left;
 use gimli_base::{Encoding, Format, Reader, ReaderOffset, Result, SectionId};
 use gimli_headers::{DebugInfo, DebugTypes};
 use gimli_units::{DebugInfoOffset, UnitHeader, UnitType};
@@ -171,10 +171,8 @@ fn write_entries<R: Reader>(unit: &UnitHeader<R>, out: &mut Vec<u8>) -> Outcome 
     write!(out, " entries ")?;
     let root = unit.root_offset();
     match unit.range_from(root..) {
-        Ok(entries) => write_bytes(&entries, out),
-        Err(error) => {
-            write_refusal(out, error)?;
-            Ok(writeln!(out)?)
-        }
+        Ok(entries) => write_left(&entries, out)?,
+        Err(error) => write_refusal(out, error)?,
     }
+    Ok(writeln!(out)?)
 }

@@ -2,33 +2,18 @@
 
 use std::alloc::{AllocError, Global};
 
-// Of each call: how it tells that memory was refused; whether the case itself makes the call again, so that
+// Of a call: how it tells that memory was refused; whether the case itself makes the call again, so that
 // more may be asked for; and whether a request is refused alone too: the words of the program ask for less
 // room where room for the steps is refused, and go on with that.
-const MARKS: [(&str, &str, bool, bool); 12] = [
-    ("words", "error 24\nstatus 1", true, false),
-    ("text", "error 24\nstatus 1", false, true),
-    ("units", "stopped", false, true),
-    ("type_units", "stopped", false, true),
-    ("ranges", "stopped", false, true),
-    ("locations", "stopped", false, true),
-    ("run_cursor", "stopped", false, true),
-    ("run_plain", "stopped", false, true),
-    ("run_tree", "stopped", false, true),
-    ("table", "refused 24", false, true),
-    ("entry", "refused 24", false, true),
-    ("check", "refused 24", false, true),
-];
-
-// What `MARKS` says of a call. One that it does not name answers the refusal, goes on, and is refused alone
-// too.
 fn mark_of(call: &str) -> (&'static str, bool, bool) {
-    for (name, words, goes_on, alone) in &MARKS {
-        if *name == call {
-            return (words, *goes_on, *alone);
-        }
+    match call {
+        "words" => ("error 24\nstatus 1", true, false),
+        "text" => ("error 24\nstatus 1", false, true),
+        "units" | "type_units" | "ranges" | "locations" => ("stopped", false, true),
+        "run_cursor" | "run_plain" | "run_tree" => ("stopped", false, true),
+        "table" | "entry" | "check" => ("refused 24", false, true),
+        _ => ("refused 24", true, true),
     }
-    ("refused 24", true, true)
 }
 
 /// The answer of a case: all lines of the call, and what it says of its requests for memory.
