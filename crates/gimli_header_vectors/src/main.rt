@@ -39,8 +39,7 @@ impl Program for Headers {
 
     fn answer<R: Reader + PartialEq>(&self, call: &Call<'_, R>, out: &mut Vec<u8>) -> Outcome {
         match call.name() {
-            "read" => write_reads(call, 1, out),
-            "read_at" => write_reads(call, 2, out),
+            "read" | "read_at" => write_reads(call, out),
             "sizes" => write_sizes(call, out),
             "abbrev" => write_abbreviations(call, out),
             "text" => write_text(call, out),

@@ -5,12 +5,9 @@ use gimli_base::{Error, Format, Reader, ReaderOffset, ReaderOffsetId};
 use std::io::Write;
 use test_tables::{Call, Outcome, Stop};
 
-/// Writes what a reader answers to the calls whose words begin at an index, and then the bytes that are left.
-pub(crate) fn write_reads<R: Reader>(
-    call: &Call<'_, R>,
-    first: usize,
-    out: &mut Vec<u8>,
-) -> Outcome {
+/// Writes what a reader answers to the calls of the words, and then the bytes that are left.
+pub(crate) fn write_reads<R: Reader>(call: &Call<'_, R>, out: &mut Vec<u8>) -> Outcome {
+    let first = if call.name() == "read_at" { 2 } else { 1 };
     let mut reader = call.section(0)?;
     for word in call.case.words.iter().skip(first) {
         let answer = write_read(&mut reader, word, out);

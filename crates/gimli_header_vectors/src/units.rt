@@ -1,7 +1,7 @@
 //! Units of `.debug_info` and `.debug_types`.
 
 use crate::write_left;
-use gimli_base::{Encoding, Format, Reader, ReaderOffset, Result, SectionId};
+use gimli_base::{Encoding, Reader, ReaderOffset, Result, SectionId};
 use gimli_headers::{DebugInfo, DebugTypes};
 use gimli_units::{DebugInfoOffset, UnitHeader, UnitType};
 use std::io::Write;
@@ -104,19 +104,15 @@ fn write_begin<R: Reader>(unit: &UnitHeader<R>, out: &mut Vec<u8>) -> Outcome {
 // Writes the bytes of an offset, the version, and the bytes of an address.
 fn write_encoding<R: Reader>(unit: &UnitHeader<R>, out: &mut Vec<u8>) -> Outcome {
     let (format, version, address_size) = (unit.format(), unit.version(), unit.address_size());
-    match format {
-        Format::Dwarf32 => write!(out, " 4")?,
-        Format::Dwarf64 => write!(out, " 8")?,
-    }
-    write!(out, " {version} {address_size}")?;
-    let whole = unit.encoding();
+    let word = format.word_size();
+    write!(out, " {word} {version} {address_size}")?;
     let parts = Encoding {
         format,
         version,
         address_size,
     };
-    if whole != parts {
-        write!(out, " or {whole:?}")?;
+    if unit.encoding() != parts {
+        write!(out, " or {:?}", unit.encoding())?;
     }
     Ok(())
 }

@@ -16,34 +16,34 @@ fn lists_of<R: Reader>(call: &Call<'_, R>, encoding: Encoding) -> Outcome<Locati
     Ok(LocationLists::new(DebugLoc::from(old), DebugLocLists::from(new)))
 }
 
-// The entries of a list as they are written; a split file's where `dwo`.
+// Whether the list is that of a split file.
+fn is_split<R: Reader>(call: &Call<'_, R>) -> bool {
+    call.name().ends_with("_dwo")
+}
+
+// The entries of a list as they are written.
 fn raw_of<R: Reader>(
     call: &Call<'_, R>,
     encoding: Encoding,
     offset: R::Offset,
-    dwo: bool,
 ) -> Outcome<RawLocListIter<R>> {
     let lists = lists_of(call, encoding)?;
     let offset = LocationListsOffset(offset);
-    if dwo {
+    if is_split(call) {
         Ok(lists.raw_locations_dwo(offset, encoding)?)
     } else {
         Ok(lists.raw_locations(offset, encoding)?)
     }
 }
 
-// The locations of a list; of a split file's where `dwo`.
-fn locations_of<R: Reader>(
-    call: &Call<'_, R>,
-    start: &Start<R>,
-    dwo: bool,
-) -> Outcome<LocListIter<R>>
+// The locations of a list.
+fn locations_of<R: Reader>(call: &Call<'_, R>, start: &Start<R>) -> Outcome<LocListIter<R>>
     requires { IsTrue (is_size start.now.encoding.address_size) }
 {
     let lists = lists_of(call, start.encoding)?;
     let offset = LocationListsOffset(start.offset);
     let (encoding, base) = (start.encoding, start.base);
-    if dwo {
+    if is_split(call) {
         Ok(lists.locations_dwo(offset, encoding, base, &start.addr, start.addr_base)?)
     } else {
         Ok(lists.locations(offset, encoding, base, &start.addr, start.addr_base)?)
@@ -51,15 +51,11 @@ fn locations_of<R: Reader>(
 }
 
 /// Writes the entries of the list of a case as they are written, and its locations, each with the refusals
-/// where they come; those of a split file where `dwo`.
-pub(crate) fn write_locations<R: Reader>(
-    call: &Call<'_, R>,
-    dwo: bool,
-    out: &mut Vec<u8>,
-) -> Outcome {
+/// where they come.
+pub(crate) fn write_locations<R: Reader>(call: &Call<'_, R>, out: &mut Vec<u8>) -> Outcome {
     let start = start_of(call)?;
-    let raw = raw_of(call, start.encoding, start.offset, dwo)?;
-    let locations = locations_of(call, &start, dwo)?;
+    let raw = raw_of(call, start.encoding, start.offset)?;
+    let locations = locations_of(call, &start)?;
     write!(out, "raw")?;
     write_items(raw, out)?;
     write!(out, "\nlocations")?;
@@ -67,12 +63,8 @@ pub(crate) fn write_locations<R: Reader>(
 }
 
 /// Writes the entries alone, whatever the size of an address.
-pub(crate) fn write_raw_locations<R: Reader>(
-    call: &Call<'_, R>,
-    dwo: bool,
-    out: &mut Vec<u8>,
-) -> Outcome {
-    let raw = raw_of(call, call.encoding(1)?, call.offset_or_zero(4)?, dwo)?;
+pub(crate) fn write_raw_locations<R: Reader>(call: &Call<'_, R>, out: &mut Vec<u8>) -> Outcome {
+    let raw = raw_of(call, call.encoding(1)?, call.offset_or_zero(4)?)?;
     write!(out, "raw")?;
     write_items(raw, out)
 }

@@ -10,6 +10,9 @@ use std::alloc::Global;
 use std::io::Write;
 use test_tables::{Call, Outcome, Stop, write_refusal};
 
+/// A reader of entries.
+pub(crate) type Raw<'abbrev, R> = EntriesRaw<'abbrev, R, Global>;
+
 /// The bytes of attributes, how they are read, and a table without declarations.
 #[derive(Drop)]
 pub(crate) struct Input<R: Reader> {
@@ -30,7 +33,7 @@ impl<R: Reader> Input<R> {
     }
 
     /// A reader of the attributes, which begins at the offset 0.
-    pub(crate) fn raw(&self) -> EntriesRaw<'_, R, Global> {
+    pub(crate) fn raw(&self) -> Raw<'_, R> {
         let zero = UnitOffset(R::Offset::from_u8(0));
         EntriesRaw::new(self.reader.copy(), self.encoding, &self.table, zero)
     }
@@ -68,15 +71,11 @@ fn specification_of<R: Reader>(call: &Call<'_, R>) -> Outcome<AttributeSpecifica
 }
 
 /// Writes what reading an attribute answers, and then what passing it does.
-pub(crate) fn write_attribute<R: Reader>(
-    call: &Call<'_, R>,
-    inline: bool,
-    out: &mut Vec<u8>,
-) -> Outcome {
+pub(crate) fn write_attribute<R: Reader>(call: &Call<'_, R>, out: &mut Vec<u8>) -> Outcome {
     let input = Input::new(call, 4)?;
     let specification = specification_of(call)?;
     let mut raw = input.raw();
-    match read_by(&mut raw, specification, inline) {
+    match read_by(&mut raw, specification, call.name() == "inline") {
         Ok(attribute) => write_shown(call.alloc, &attribute, specification, out)?,
         Err(error) => write_refusal(out, error)?,
     }
@@ -87,7 +86,7 @@ pub(crate) fn write_attribute<R: Reader>(
 
 /// Reads an attribute by either call.
 pub(crate) fn read_by<R: Reader>(
-    raw: &mut EntriesRaw<'_, R, Global>,
+    raw: &mut Raw<'_, R>,
     specification: AttributeSpecification,
     inline: bool,
 ) -> Result<Attribute<R>> {
@@ -99,7 +98,7 @@ pub(crate) fn read_by<R: Reader>(
 }
 
 /// Writes the offset of what is read next, and ends the line.
-pub(crate) fn write_next<R: Reader>(raw: &EntriesRaw<'_, R, Global>, out: &mut Vec<u8>) -> Outcome {
+pub(crate) fn write_next<R: Reader>(raw: &Raw<'_, R>, out: &mut Vec<u8>) -> Outcome {
     let next = raw.next_offset().0.into_u64();
     Ok(writeln!(out, " next {next}")?)
 }
@@ -107,7 +106,7 @@ pub(crate) fn write_next<R: Reader>(raw: &EntriesRaw<'_, R, Global>, out: &mut V
 /// Writes what passing attributes answers, a refusal of missing bytes without its place, which may be any
 /// of the input's or its end; and where it ends.
 pub(crate) fn write_passed<R: Reader>(
-    raw: &mut EntriesRaw<'_, R, Global>,
+    raw: &mut Raw<'_, R>,
     input: &R,
     specifications: &[AttributeSpecification],
     out: &mut Vec<u8>,

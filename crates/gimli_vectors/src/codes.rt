@@ -1,5 +1,6 @@
 //! Declarations of codes.
 
+use crate::attributes::Raw;
 use crate::entries::{table_of, write_place, write_tag};
 use crate::headers::{offset_at, unit_of};
 use gimli_base::{
@@ -55,7 +56,7 @@ pub(crate) fn write_codes<R: Reader>(call: &Call<'_, R>, out: &mut Vec<u8>) -> O
 }
 
 // Writes the declaration of the next code, and `end` where no byte was left. Whether it was read.
-fn write_code<R: Reader>(raw: &mut EntriesRaw<'_, R, Global>, out: &mut Vec<u8>) -> Outcome<bool> {
+fn write_code<R: Reader>(raw: &mut Raw<'_, R>, out: &mut Vec<u8>) -> Outcome<bool> {
     if raw.is_empty() {
         write!(out, "end ")?;
     }

@@ -1,10 +1,10 @@
 //! Entries of units.
 
-use crate::attributes::parse_code;
+use crate::attributes::{Raw, parse_code};
 use crate::headers::{offset_at, offset_of, unit_of};
 use crate::values::{write_parts, write_value};
 use gimli_base::{Abbreviations, DebugAbbrev, DwAt, Reader, ReaderOffset};
-use gimli_units::{DebuggingInformationEntry, EntriesRaw, UnitHeader, UnitOffset};
+use gimli_units::{DebuggingInformationEntry, UnitHeader, UnitOffset};
 use std::alloc::Global;
 use std::io::Write;
 use test_tables::{Call, Outcome, Stop, write_refusal};
@@ -21,10 +21,7 @@ pub(crate) fn table_of<R: Reader>(
 }
 
 /// Writes the offset and the depth of what is read next.
-pub(crate) fn write_place<R: Reader>(
-    raw: &EntriesRaw<'_, R, Global>,
-    out: &mut Vec<u8>,
-) -> Outcome {
+pub(crate) fn write_place<R: Reader>(raw: &Raw<'_, R>, out: &mut Vec<u8>) -> Outcome {
     let next = raw.next_offset().0.into_u64();
     let depth = raw.next_depth();
     Ok(writeln!(out, " next {next} {depth}")?)
@@ -73,7 +70,7 @@ pub(crate) fn write_entries<R: Reader>(call: &Call<'_, R>, out: &mut Vec<u8>) ->
 
 // Writes the next entry. Whether it was read.
 fn write_next_entry<R: Reader>(
-    raw: &mut EntriesRaw<'_, R, Global>,
+    raw: &mut Raw<'_, R>,
     entry: &mut Entry<R>,
     out: &mut Vec<u8>,
 ) -> Outcome<bool> {

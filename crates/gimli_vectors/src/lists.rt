@@ -1,10 +1,8 @@
 //! Attributes that are read or passed together.
 
-use crate::attributes::{Input, parse_code, read_by, specification, write_next, write_passed};
+use crate::attributes::{Input, Raw, parse_code, read_by, specification, write_next, write_passed};
 use crate::values::{write_parts, write_value};
 use gimli_base::{AttributeSpecification, Reader, ReaderOffset};
-use gimli_units::EntriesRaw;
-use std::alloc::Global;
 use std::io::Write;
 use test_tables::{Call, Outcome, Stop, write_refusal};
 
@@ -56,7 +54,7 @@ pub(crate) fn write_passed_list<R: Reader>(call: &Call<'_, R>, out: &mut Vec<u8>
 
 // Writes what reading an attribute answers, by one call of a copy and by the other.
 fn write_step<R: Reader>(
-    raw: &mut EntriesRaw<'_, R, Global>,
+    raw: &mut Raw<'_, R>,
     specification: AttributeSpecification,
     out: &mut Vec<u8>,
 ) -> Outcome {

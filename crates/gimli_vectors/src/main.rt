@@ -31,13 +31,11 @@ struct Vectors;
 impl Program for Vectors {
     fn answer<R: Reader + PartialEq>(&self, call: &Call<'_, R>, out: &mut Vec<u8>) -> Outcome {
         match call.name() {
-            "attribute" => write_attribute(call, false, out),
-            "inline" => write_attribute(call, true, out),
+            "attribute" | "inline" => write_attribute(call, out),
             "debug" => write_debug(call, out),
             "size" => write_size(call, out),
             "texts" => write_texts(call, out),
-            "names" => write_names(call, true, out),
-            "raw_names" => write_names(call, false, out),
+            "names" | "raw_names" => write_names(call, out),
             "pass" => write_passed_list(call, out),
             "list" => write_list(call, out),
             _ => write_of_unit(call, out),

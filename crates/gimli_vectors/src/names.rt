@@ -7,12 +7,9 @@ use std::io::Write;
 use test_tables::{Call, Outcome, Stop, write_refusal};
 
 /// Writes the value that the first name gives, and that of each other name whose value is another; the
-/// value is that of the name where `normal`, or else that of the form.
-pub(crate) fn write_names<R: Reader>(
-    call: &Call<'_, R>,
-    normal: bool,
-    out: &mut Vec<u8>,
-) -> Outcome {
+/// value is that of the name, or else that of the form.
+pub(crate) fn write_names<R: Reader>(call: &Call<'_, R>, out: &mut Vec<u8>) -> Outcome {
+    let normal = call.name() == "names";
     let input = Input::new(call, 2)?;
     let form = call.case.word(1).and_then(parse_code).unwrap_or(0);
     let mut first = Vec::new(call.alloc);

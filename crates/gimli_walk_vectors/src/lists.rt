@@ -21,13 +21,10 @@ pub(crate) fn write_ranges<R: Reader>(call: &Call<'_, R>, out: &mut Vec<u8>) -> 
     write_run(&run, out)
 }
 
-/// Writes each location of a list, and each refusal where it comes. `dwo` says that the section is that of
-/// a split file.
-pub(crate) fn write_locations<R: Reader>(
-    call: &Call<'_, R>,
-    dwo: bool,
-    out: &mut Vec<u8>,
-) -> Outcome {
+/// Writes each location of a list, and each refusal where it comes.
+pub(crate) fn write_locations<R: Reader>(call: &Call<'_, R>, out: &mut Vec<u8>) -> Outcome {
+    // whether the section is that of a split file
+    let dwo = call.name() == "locations_dwo";
     let encoding = call.sized_encoding(1)?;
     let base = call.case.number(4).unwrap_or(0);
     let offset = LocationListsOffset(call.offset_or_zero(5)?);

@@ -71,8 +71,7 @@ fn write_of_sections<R: Reader>(call: &Call<'_, R>, out: &mut Vec<u8>) -> Outcom
         "units" => write_run(&run_units(call.alloc, &DebugInfo::from(first)), out),
         "type_units" => write_run(&run_type_units(call.alloc, &DebugTypes::from(first)), out),
         "ranges" => write_ranges(call, out),
-        "locations" => write_locations(call, false, out),
-        "locations_dwo" => write_locations(call, true, out),
+        "locations" | "locations_dwo" => write_locations(call, out),
         _ => Err(Stop::Lacks("no such call")),
     }
 }

@@ -24,7 +24,10 @@ pub struct Call<'a, R> {
 impl<'a, R: Reader> Call<'a, R> {
     /// The name of the call.
     pub fn name(&self) -> &str {
-        self.case.word(0).unwrap_or("")
+        match self.case.word(0) {
+            Some(name) => name,
+            None => "",
+        }
     }
 
     /// The number at an index of the words.

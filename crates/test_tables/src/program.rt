@@ -40,12 +40,24 @@ pub(crate) fn answer_over<P: Program>(
     kind: Kind,
 ) -> io::Result<Vec<u8>> {
     let mut found = Vec::new(alloc);
+    let given = Given {
+        program,
+        alloc,
+        case,
+    };
     let outcome = match (kind.is_wide, kind.endian) {
         (true, RunTimeEndian::Little) => {
-            answer_parts(program, alloc, case, LittleEndian, &mut found)
+            let sections = given.parts(LittleEndian);
+            given.answer(&case.wide, sections, &mut found)
         }
-        (true, RunTimeEndian::Big) => answer_parts(program, alloc, case, BigEndian, &mut found),
-        (false, endian) => answer_wholes(program, alloc, case, endian, &mut found),
+        (true, RunTimeEndian::Big) => {
+            let sections = given.parts(BigEndian);
+            given.answer(&case.wide, sections, &mut found)
+        }
+        (false, endian) => {
+            let sections = given.wholes(endian);
+            given.answer(&case.narrow, sections, &mut found)
+        }
     };
     if let Err(stop) = outcome {
         stop.write(&mut found)?;
@@ -53,54 +65,60 @@ pub(crate) fn answer_over<P: Program>(
     Ok(found)
 }
 
-// What is answered over readers whose offsets have 64 bits.
-fn answer_parts<P: Program, E: Endianity>(
-    program: &P,
+// A case for a program.
+#[derive(Drop)]
+struct Given<'a, P> {
+    program: &'a P,
     alloc: Global,
-    case: &Case,
-    endian: E,
-    out: &mut Vec<u8>,
-) -> Outcome {
-    let mut sections = Vec::new(alloc);
-    for index in 0..case.sections.len().max(2) {
-        let bytes = case.section(index).unwrap_or(&[]);
-        let place = program.place(case, index);
-        if u32::try_from(bytes.len()).is_err() || place.checked_add(bytes.len() as u64).is_none() {
-            return Err(Stop::Lacks("too long"));
-        }
-        sections.push(EndianSlice::new_at(bytes, endian, place))?;
-    }
-    let call = Call {
-        alloc,
-        case,
-        wanted: &case.wide,
-        sections,
-    };
-    program.answer(&call, out)
+    case: &'a Case,
 }
 
-// What is answered over readers whose offsets have 32 bits.
-fn answer_wholes<P: Program>(
-    program: &P,
-    alloc: Global,
-    case: &Case,
-    endian: RunTimeEndian,
-    out: &mut Vec<u8>,
-) -> Outcome {
-    let mut sections = Vec::new(alloc);
-    for index in 0..case.sections.len().max(2) {
-        let bytes = case.section(index).unwrap_or(&[]);
-        let place = program.place(case, index);
-        if u32::try_from(bytes.len()).is_err() || place.checked_add(bytes.len() as u64).is_none() {
-            return Err(Stop::Lacks("too long"));
+impl<'a, P: Program> Given<'a, P> {
+    // Readers of the sections whose offsets have 64 bits, if their bytes have places and offsets of 32 bits.
+    fn parts<E: Endianity>(&self, endian: E) -> Option<Vec<EndianSlice<'a, E>>> {
+        let mut sections = Vec::new(self.alloc);
+        for index in 0..self.case.sections.len().max(2) {
+            let bytes = self.case.section(index).unwrap_or(&[]);
+            let place = self.program.place(self.case, index);
+            if bytes.len() > 0xffff_ffff || place.checked_add(bytes.len() as u64).is_none() {
+                return None;
+            }
+            sections
+                .push(EndianSlice::new_at(bytes, endian, place))
+                .ok()?;
         }
-        sections.push(WholeSlice::new_at(bytes, endian, place))?;
+        Some(sections)
     }
-    let call = Call {
-        alloc,
-        case,
-        wanted: &case.narrow,
-        sections,
-    };
-    program.answer(&call, out)
+
+    // The same of readers whose offsets have 32 bits.
+    fn wholes(&self, endian: RunTimeEndian) -> Option<Vec<WholeSlice<'a, RunTimeEndian>>> {
+        let mut sections = Vec::new(self.alloc);
+        for index in 0..self.case.sections.len().max(2) {
+            let bytes = self.case.section(index).unwrap_or(&[]);
+            let place = self.program.place(self.case, index);
+            if bytes.len() > 0xffff_ffff || place.checked_add(bytes.len() as u64).is_none() {
+                return None;
+            }
+            sections
+                .push(WholeSlice::new_at(bytes, endian, place))
+                .ok()?;
+        }
+        Some(sections)
+    }
+
+    // Writes what is answered over these readers.
+    fn answer<R: Reader + PartialEq>(
+        &self,
+        wanted: &str,
+        sections: Option<Vec<R>>,
+        out: &mut Vec<u8>,
+    ) -> Outcome {
+        let call = Call {
+            alloc: self.alloc,
+            case: self.case,
+            wanted,
+            sections: sections.ok_or(Stop::Lacks("too long"))?,
+        };
+        self.program.answer(&call, out)
+    }
 }

@@ -73,18 +73,6 @@ fn tries_two<R: Reader>(
     tries_step(rt, &mut cursor, b's', (None, at((11, 0), end), reads));
 }
 
-// Entries, each the child of the one before, and as many nulls.
-fn chain(alloc: Global) -> Result<Vec<u8>, AllocError> {
-    let mut bytes = Vec::new(alloc);
-    for _ in 0..COUNT {
-        bytes.push(0x01)?;
-    }
-    for _ in 0..COUNT {
-        bytes.push(0x00)?;
-    }
-    Ok(bytes)
-}
-
 // Tries to go down the chain, and up again; and to pass it all at once.
 fn tries_chain<R: Reader>(
     rt: &impl Abort,
@@ -115,7 +103,9 @@ fn tries_chain<R: Reader>(
 
 #[test]
 fn walks_a_deep_chain(rt: HostRuntime) -> Result<(), Fail> {
-    let entries = chain(rt.alloc())?;
+    // entries, each the child of the one before, and as many nulls
+    let mut entries = vec![in rt.alloc(); 0x01; 10_000]?;
+    entries.extend_from_slice(&vec![in rt.alloc(); 0x00; 10_000]?)?;
     assert!(rt; entries.len() == 20_000);
     for follows in [true, false] {
         tries_chain(&rt, rt.alloc(), part(&entries, LittleEndian), follows)?;
