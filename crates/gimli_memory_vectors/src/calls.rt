@@ -38,6 +38,7 @@ pub(crate) fn write_call<R: Reader>(
                 unit,
                 table,
                 start: call.offset(1).unwrap_or(None).map(UnitOffset),
+                letters: call.case.word(1).unwrap_or("").as_bytes(),
             };
             stage.write(out)
         }

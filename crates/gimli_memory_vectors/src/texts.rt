@@ -100,8 +100,9 @@ pub(crate) fn write_short<R: Reader>(call: &Call<'_, R>, out: &mut Vec<u8>) -> O
     let status = write_text(alloc, &heap, case, &mut text)?;
     let mut whole = Vec::from_slice(alloc, &text)?;
     writeln!(whole, "status {}", status.unwrap_or(0xff))?;
-    if !is_answer(call.wanted, str::from_utf8(&whole).unwrap_or("no text")) {
-        out.write_all(&whole)?;
+    let whole = str::from_utf8(&whole).unwrap_or("no text");
+    if !is_answer(call.wanted, whole) {
+        write!(out, "{whole}")?;
     }
     let mut space = Vec::from_slice(alloc, &text)?;
     for size in 0..=text.len() {

@@ -32,7 +32,8 @@ const MANY: u64 = 1000;
 /// Makes a call with each of its requests refused in turn, alone and with all after it, and writes what
 /// differs.
 pub(crate) fn try_each<R: Reader>(call: &Call<'_, R>, out: &mut Vec<u8>) -> Outcome {
-    let wanted = Wanted::new(call.alloc, call.wanted, call.name())?;
+    let name = call.name();
+    let wanted = Wanted::new(call.alloc, call.wanted, name)?;
     for number in 1..MANY {
         let alone = wanted.alone && try_refusal(call, &wanted, Refusal::Nth(number), out)?;
         let all = try_refusal(call, &wanted, Refusal::From(number), out)?;

@@ -20,6 +20,8 @@ pub(crate) struct Stage<'s, 'c, 'h, R: Reader> {
     pub(crate) table: Abbreviations<Heap<'h>>,
     /// The offset that is the first word after the call, or none where that is no number.
     pub(crate) start: Option<UnitOffset<R::Offset>>,
+    /// The letters that are this word.
+    pub(crate) letters: &'c [u8],
 }
 
 impl<'s, 'c, 'h, R: Reader> Stage<'s, 'c, 'h, R> {
@@ -39,11 +41,6 @@ impl<'s, 'c, 'h, R: Reader> Stage<'s, 'c, 'h, R> {
             "clone_tree" => self.write_tree(&heaps.ample, out),
             _ => self.write_tree(&heaps.failing, out),
         }
-    }
-
-    // The steps that are the first word after the call.
-    fn letters(&self) -> &[u8] {
-        self.call.case.word(1).unwrap_or("").as_bytes()
     }
 
     // Writes the entry at an offset.
@@ -79,7 +76,7 @@ impl<'s, 'c, 'h, R: Reader> Stage<'s, 'c, 'h, R> {
             table: &self.table,
             heap,
         };
-        write_walk(self.trial, &mut walk, self.letters(), out)
+        Ok(write_walk(self.trial, &mut walk, self.letters, out)?)
     }
 
     // Writes the steps of a cursor that is made with an allocator, and cloned with the one that refuses.
@@ -92,7 +89,7 @@ impl<'s, 'c, 'h, R: Reader> Stage<'s, 'c, 'h, R> {
             },
             heap: &self.trial.heaps.failing,
         };
-        write_walk(self.trial, &mut walk, self.letters(), out)
+        Ok(write_walk(self.trial, &mut walk, self.letters, out)?)
     }
 
     // Writes the steps of a tree that is made with an allocator, and cloned with the one that refuses; or
@@ -102,8 +99,14 @@ impl<'s, 'c, 'h, R: Reader> Stage<'s, 'c, 'h, R> {
         let mut tree = self.unit.entries_tree(made, &self.table, None)?;
         match self.call.name() {
             "nodes" => write_nodes(self.trial, &mut tree, out),
-            "walker" => write_walk(self.trial, &mut tree.walk(heap), self.letters(), out),
-            _ => write_walk(self.trial, &mut Tree { tree, heap }, self.letters(), out),
+            "walker" => {
+                let mut walk = tree.walk(heap);
+                Ok(write_walk(self.trial, &mut walk, self.letters, out)?)
+            }
+            _ => {
+                let mut walk = Tree { tree, heap };
+                Ok(write_walk(self.trial, &mut walk, self.letters, out)?)
+            }
         }
     }
 }

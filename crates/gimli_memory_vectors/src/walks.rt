@@ -2,7 +2,7 @@
 
 use crate::trial::Trial;
 use gimli_base::{Error, Result};
-use std::io::Write;
+use std::io::{self, Write};
 use test_tables::{Outcome, write_outcome};
 
 /// A walk.
@@ -50,7 +50,15 @@ pub(crate) fn write_walk<T: Walk>(
     walk: &mut T,
     letters: &[u8],
     out: &mut Vec<u8>,
-) -> Outcome {
+) -> io::Result<()> {
+    match go_on(trial, walk, letters, out) {
+        Ok(()) => Ok(()),
+        Err(stop) => stop.write(out),
+    }
+}
+
+// Takes the steps of a walk, and what follows a refusal.
+fn go_on<T: Walk>(trial: Trial<'_>, walk: &mut T, letters: &[u8], out: &mut Vec<u8>) -> Outcome {
     let left = take_steps(walk, letters, out)?;
     let [letter, ..] = left else {
         return Ok(());

@@ -52,28 +52,30 @@ pub(crate) fn specification(
     name: u16,
     form: u16,
     constant: &str,
-) -> Outcome<AttributeSpecification> {
+) -> Option<AttributeSpecification> {
     let (name, form) = (DwAt(name), DwForm(form));
-    match (form, constant.parse::<i64>()) {
-        (DW_FORM_implicit_const, Ok(constant)) => {
-            Ok(AttributeSpecification::new(name, form, Some(constant)))
+    match form {
+        DW_FORM_implicit_const => {
+            let constant = constant.parse::<i64>().ok()?;
+            Some(AttributeSpecification::new(name, form, Some(constant)))
         }
-        (DW_FORM_implicit_const, Err(_)) => Err(Stop::Lacks("no constant")),
-        _ => Ok(AttributeSpecification::new(name, form, None)),
+        _ => Some(AttributeSpecification::new(name, form, None)),
     }
 }
 
 // The declaration that the words after the call give.
-fn specification_of<R: Reader>(call: &Call<'_, R>) -> Outcome<AttributeSpecification> {
-    let name = call.case.word(1).and_then(parse_code).unwrap_or(0);
-    let form = call.case.word(2).and_then(parse_code).unwrap_or(0);
-    specification(name, form, call.case.word(3).unwrap_or("-"))
+fn specification_of<R: Reader>(call: &Call<'_, R>) -> Option<AttributeSpecification> {
+    let name = parse_code(call.case.word(1)?)?;
+    let form = parse_code(call.case.word(2)?)?;
+    specification(name, form, call.case.word(3)?)
 }
 
 /// Writes what reading an attribute answers, and then what passing it does.
 pub(crate) fn write_attribute<R: Reader>(call: &Call<'_, R>, out: &mut Vec<u8>) -> Outcome {
     let input = Input::new(call, 4)?;
-    let specification = specification_of(call)?;
+    let Some(specification) = specification_of(call) else {
+        return Err(Stop::Lacks("no case"));
+    };
     let mut raw = input.raw();
     match read_by(&mut raw, specification, call.name() == "inline") {
         Ok(attribute) => write_shown(call.alloc, &attribute, specification, out)?,
@@ -201,27 +203,40 @@ fn write_number(
 // of its value where they are others.
 fn write_reader<R: Reader>(
     alloc: Global,
-    (some, none): (&str, &str),
+    words: (&str, &str),
     (own, other): (Option<R>, Option<R>),
     out: &mut Vec<u8>,
 ) -> Outcome {
-    let mut texts = (Vec::new(alloc), Vec::new(alloc));
-    for (reader, text) in [(own, &mut texts.0), (other, &mut texts.1)] {
-        match reader {
-            Some(reader) => {
-                write!(text, "{some}")?;
-                write_bytes(&reader, text)?;
-            }
-            None => write!(text, "{none}")?,
+    let own = text_of(alloc, words, own)?;
+    let other = text_of(alloc, words, other)?;
+    write_either((&own, &other), " but of the value ", out)
+}
+
+// The bytes of a reader after a first word, or a second word where there is none.
+fn text_of<R: Reader>(
+    alloc: Global,
+    (some, none): (&str, &str),
+    reader: Option<R>,
+) -> Outcome<Vec<u8>> {
+    let mut text = Vec::new(alloc);
+    match reader {
+        Some(reader) => {
+            write!(text, "{some}")?;
+            write_bytes(&reader, &mut text)?;
         }
+        None => write!(text, "{none}")?,
     }
-    write_either((&texts.0, &texts.1), " but of the value ", out)
+    Ok(text)
 }
 
 /// Writes the debug text of a value as its name makes it, or of a refusal.
 pub(crate) fn write_debug<R: Reader>(call: &Call<'_, R>, out: &mut Vec<u8>) -> Outcome {
     let input = Input::new(call, 4)?;
-    match input.raw().read_attribute(specification_of(call)?) {
+    let Some(specification) = specification_of(call) else {
+        return Err(Stop::Lacks("no case"));
+    };
+    let mut raw = input.raw();
+    match raw.read_attribute(specification) {
         Ok(attribute) => {
             let value = attribute.value();
             write!(out, "{value:?}")?;
@@ -233,7 +248,11 @@ pub(crate) fn write_debug<R: Reader>(call: &Call<'_, R>, out: &mut Vec<u8>) -> O
 
 /// Writes the number of bytes that a form has under an encoding, if the bytes do not tell it.
 pub(crate) fn write_size<R: Reader>(call: &Call<'_, R>, out: &mut Vec<u8>) -> Outcome {
-    match specification_of(call)?.size(call.encoding(4)?) {
+    let encoding = call.encoding(4)?;
+    let Some(specification) = specification_of(call) else {
+        return Err(Stop::Lacks("no case"));
+    };
+    match specification.size(encoding) {
         Some(size) => write!(out, "{size}")?,
         None => write!(out, "none")?,
     }
@@ -244,24 +263,34 @@ pub(crate) fn write_size<R: Reader>(call: &Call<'_, R>, out: &mut Vec<u8>) -> Ou
 /// one; and those of its value where they are others.
 pub(crate) fn write_texts<R: Reader>(call: &Call<'_, R>, out: &mut Vec<u8>) -> Outcome {
     let input = Input::new(call, 4)?;
-    let attribute = input.raw().read_attribute(specification_of(call)?)?;
+    let Some(specification) = specification_of(call) else {
+        return Err(Stop::Lacks("no case"));
+    };
+    let mut raw = input.raw();
+    let attribute = raw.read_attribute(specification)?;
     let value = attribute.raw_value();
     let own = DebugStr::from(call.section(1)?);
     let other = DebugStr::from(call.section(2)?);
-    let texts = [
-        (attribute.string_value(&own), value.string_value(&own)),
-        (
-            attribute.string_value_sup(&own, None),
-            value.string_value_sup(&own, None),
-        ),
-        (
-            attribute.string_value_sup(&own, Some(&other)),
-            value.string_value_sup(&own, Some(&other)),
-        ),
-    ];
-    for pair in texts {
-        write_reader(call.alloc, ("", "none"), pair, out)?;
-        writeln!(out)?;
-    }
-    Ok(())
+    let text = (attribute.string_value(&own), value.string_value(&own));
+    write_text(call.alloc, text, out)?;
+    let text = (
+        attribute.string_value_sup(&own, None),
+        value.string_value_sup(&own, None),
+    );
+    write_text(call.alloc, text, out)?;
+    let text = (
+        attribute.string_value_sup(&own, Some(&other)),
+        value.string_value_sup(&own, Some(&other)),
+    );
+    write_text(call.alloc, text, out)
+}
+
+// Writes the text of an attribute, and that of its value where it is another, in a line of its own.
+fn write_text<R: Reader>(
+    alloc: Global,
+    texts: (Option<R>, Option<R>),
+    out: &mut Vec<u8>,
+) -> Outcome {
+    write_reader(alloc, ("", "none"), texts, out)?;
+    Ok(writeln!(out)?)
 }

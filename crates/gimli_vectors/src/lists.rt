@@ -3,42 +3,48 @@
 use crate::attributes::{Input, Raw, parse_code, read_by, specification, write_next, write_passed};
 use crate::values::{write_parts, write_value};
 use gimli_base::{AttributeSpecification, Reader, ReaderOffset};
+use std::alloc::Global;
 use std::io::Write;
 use test_tables::{Call, Outcome, Stop, write_refusal};
 
 // The declaration of a word `NAME:FORM`.
-fn parse_pair(word: &str) -> Outcome<AttributeSpecification> {
-    let (name, form) = word.split_once(":").unwrap_or((word, ""));
-    match (parse_code(name), parse_code(form)) {
-        (Some(name), Some(form)) => specification(name, form, "-"),
-        _ => Err(Stop::Lacks("no case")),
-    }
+fn parse_pair(word: &str) -> Option<AttributeSpecification> {
+    let (name, form) = word.split_once(":")?;
+    specification(parse_code(name)?, parse_code(form)?, "-")
 }
 
-// The declarations of the words after the encoding, up to a word `then`, and those after it.
-fn pairs_of<R: Reader>(
-    call: &Call<'_, R>,
-) -> Outcome<(Vec<AttributeSpecification>, Vec<AttributeSpecification>)> {
-    let mut first = Vec::new(call.alloc);
-    let mut then = Vec::new(call.alloc);
-    let mut is_first = true;
-    for word in call.case.words.iter().skip(4) {
-        if word.as_str() == "then" {
-            is_first = false;
-        } else if is_first {
-            first.push(parse_pair(word)?)?;
-        } else {
-            then.push(parse_pair(word)?)?;
-        }
+// The declarations of words.
+fn parse_pairs(alloc: Global, words: &[String]) -> Option<Vec<AttributeSpecification>> {
+    let mut pairs = Vec::new(alloc);
+    for word in words {
+        pairs.push(parse_pair(word)?).ok()?;
     }
-    Ok((first, then))
+    Some(pairs)
+}
+
+// Declarations up to a word `then`, and those after it.
+type Pairs = (Vec<AttributeSpecification>, Vec<AttributeSpecification>);
+
+// The declarations of the words after the encoding.
+fn pairs_of(alloc: Global, words: &[String]) -> Option<Pairs> {
+    let words = words.get(4..)?;
+    match words.iter().position(|word| word.as_str() == "then") {
+        Some(index) => {
+            let first = parse_pairs(alloc, words.get(..index)?)?;
+            let then = parse_pairs(alloc, words.get(index.checked_add(1)?..)?)?;
+            Some((first, then))
+        }
+        None => Some((parse_pairs(alloc, words)?, Vec::new(alloc))),
+    }
 }
 
 /// Writes what passing attributes together answers, and after `then` what reading others does, one after
 /// the other.
 pub(crate) fn write_passed_list<R: Reader>(call: &Call<'_, R>, out: &mut Vec<u8>) -> Outcome {
     let input = Input::new(call, 1)?;
-    let (passed, then) = pairs_of(call)?;
+    let Some((passed, then)) = pairs_of(call.alloc, &call.case.words) else {
+        return Err(Stop::Lacks("no case"));
+    };
     let mut raw = input.raw();
     write_passed(&mut raw, &input.reader, &passed, out)?;
     if then.is_empty() {
@@ -72,10 +78,15 @@ fn write_step<R: Reader>(
 /// there.
 pub(crate) fn write_list<R: Reader>(call: &Call<'_, R>, out: &mut Vec<u8>) -> Outcome {
     let input = Input::new(call, 1)?;
-    let (pairs, _) = pairs_of(call)?;
+    let (Some((pairs, _)), Some(before)) = (
+        pairs_of(call.alloc, &call.case.words),
+        specification(1, 0x19, "-"),
+    ) else {
+        return Err(Stop::Lacks("no case"));
+    };
     let mut raw = input.raw();
     let mut attributes = Vec::new(call.alloc);
-    raw.read_attributes(&[specification(1, 0x19, "-")?], &mut attributes)?;
+    raw.read_attributes(&[before], &mut attributes)?;
     if let Err(error) = raw.read_attributes(&pairs, &mut attributes) {
         write_refusal(out, error)?;
         write!(out, " ")?;

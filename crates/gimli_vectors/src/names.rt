@@ -17,7 +17,10 @@ pub(crate) fn write_names<R: Reader>(call: &Call<'_, R>, out: &mut Vec<u8>) -> O
         let (low, high) = parse_range(word).ok_or(Stop::Lacks("no name"))?;
         for name in low..=high {
             let mut found = Vec::new(call.alloc);
-            write_read(&input, specification(name, form, "-")?, normal, &mut found)?;
+            let Some(specification) = specification(name, form, "-") else {
+                return Err(Stop::Lacks("no case"));
+            };
+            write_read(&input, specification, normal, &mut found)?;
             if first.is_empty() {
                 out.write_all(&found)?;
                 first = found;

@@ -17,14 +17,13 @@ pub(crate) fn write_section_offset<R: Reader>(call: &Call<'_, R>, out: &mut Vec<
 // Writes the offset in the unit of an offset of `.debug_info`, of one of `.debug_types`, and of one of the
 // unit's section.
 fn write_in_unit<R: Reader>(unit: &UnitHeader<R>, offset: R::Offset, out: &mut Vec<u8>) -> Outcome {
+    let info = DebugInfoOffset(offset).to_unit_offset(unit);
+    let types = DebugTypesOffset(offset).to_unit_offset(unit);
+    let own = UnitSectionOffset(offset).to_unit_offset(unit);
     write!(out, "unit")?;
-    for found in [
-        DebugInfoOffset(offset).to_unit_offset(unit),
-        DebugTypesOffset(offset).to_unit_offset(unit),
-        UnitSectionOffset(offset).to_unit_offset(unit),
-    ] {
-        write_offset(found.map(|found| found.0.into_u64()), out)?;
-    }
+    write_offset(info.map(|found| found.0.into_u64()), out)?;
+    write_offset(types.map(|found| found.0.into_u64()), out)?;
+    write_offset(own.map(|found| found.0.into_u64()), out)?;
     Ok(writeln!(out)?)
 }
 
