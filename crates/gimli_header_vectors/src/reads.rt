@@ -108,7 +108,10 @@ fn write_part<R: Reader>(
     match name {
         "skip" => reader.skip(count)?,
         "truncate" => reader.truncate(count)?,
-        "piece" => *reader = reader.split(count)?,
+        "piece" => {
+            let piece = reader.split(count)?;
+            *reader = piece;
+        }
         "split" => return write_left(&reader.split(count)?, out),
         "text" => return write_left(&reader.read_null_terminated_slice()?, out),
         _ => {
@@ -120,19 +123,35 @@ fn write_part<R: Reader>(
     Ok(write!(out, "ok")?)
 }
 
-// Writes a LEB128 number or that it is passed, the length of a unit, that all bytes are passed, where a
-// byte stands, or where a place lies.
+// Writes a LEB128 number, or where a byte stands.
 fn write_number<R: Reader>(
     reader: &mut R,
     (name, number): (&str, u64),
     out: &mut Vec<u8>,
 ) -> Outcome {
+    let number = match name {
+        "uleb" => i128::from(reader.read_uleb128()?),
+        "uleb16" => i128::from(reader.read_uleb128_u16()?),
+        "sleb" => i128::from(reader.read_sleb128()?),
+        "find" => i128::from(reader.find(number.min(0xff) as u8)?.into_u64()),
+        _ => return write_other(reader, (name, number), out),
+    };
+    Ok(write!(out, "{number}")?)
+}
+
+// Writes that a LEB128 number or all bytes are passed, the length of a unit, or where a place lies.
+fn write_other<R: Reader>(
+    reader: &mut R,
+    (name, number): (&str, u64),
+    out: &mut Vec<u8>,
+) -> Outcome {
     match name {
-        "uleb" => write!(out, "{}", reader.read_uleb128()?)?,
-        "uleb16" => write!(out, "{}", reader.read_uleb128_u16()?)?,
-        "sleb" => write!(out, "{}", reader.read_sleb128()?)?,
         "skip_leb" => {
             reader.skip_leb128()?;
+            write!(out, "ok")?;
+        }
+        "empty" => {
+            reader.empty();
             write!(out, "ok")?;
         }
         "length" => {
@@ -140,16 +159,11 @@ fn write_number<R: Reader>(
             let length = length.into_u64();
             write!(out, "0x{length:x} {format:?}")?;
         }
-        "empty" => {
-            reader.empty();
-            write!(out, "ok")?;
-        }
-        "find" => {
-            let before = reader.find(number.min(0xff) as u8)?;
-            write!(out, "{}", before.into_u64())?;
-        }
         "lookup" => match reader.lookup_offset_id(ReaderOffsetId(number)) {
-            Some(before) => write!(out, "{}", before.into_u64())?,
+            Some(before) => {
+                let before = before.into_u64();
+                write!(out, "{before}")?;
+            }
             None => write!(out, "none")?,
         },
         _ => return Err(Stop::Lacks("no such call")),

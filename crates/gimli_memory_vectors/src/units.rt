@@ -45,7 +45,9 @@ impl<'s, 'c, 'h, R: Reader> Stage<'s, 'c, 'h, R> {
 
     // Writes the entry at an offset.
     fn write_entry(&self, out: &mut Vec<u8>) -> Outcome {
-        let offset = self.start.ok_or(Stop::Lacks("no offset"))?;
+        let Some(offset) = self.start else {
+            return Err(Stop::Lacks("no offset"));
+        };
         let heap = &self.trial.heaps.failing;
         let entry = self.unit.entry(heap, &self.table, offset)?;
         write!(out, "yes")?;

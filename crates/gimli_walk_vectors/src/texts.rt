@@ -19,9 +19,9 @@ pub(crate) fn check_text(alloc: Global, case: &Case, out: &mut Vec<u8>) -> Outco
     }
     let mut found = Vec::new(alloc);
     write_text(alloc, case, &mut found)?;
-    if !is_answer(&wanted, str::from_utf8(&found).unwrap_or("no text")) {
-        out.write_all(b"the text:\n")?;
-        out.write_all(&found)?;
+    let found = str::from_utf8(&found).unwrap_or("no text");
+    if !is_answer(&wanted, found) {
+        write!(out, "the text:\n{found}")?;
     }
     Ok(())
 }

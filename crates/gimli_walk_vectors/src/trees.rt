@@ -32,13 +32,10 @@ pub(crate) fn write_tree<R: Reader>(call: &Call<'_, R>, out: &mut Vec<u8>) -> Ou
 fn walk<R: Reader>(call: &Call<'_, R>, out: &mut Vec<u8>) -> Outcome<bool> {
     let (unit, table) = first_unit(call)?;
     let mut tree = unit.entries_tree(call.alloc, &table, None)?;
-    let mut climb = Climb {
-        lists: Vec::new(call.alloc),
-        is_node: false,
-        is_text: true,
-        is_refused: false,
-    };
-    for step in &parse_tree_steps(call.alloc, call.case.word(1).unwrap_or(""))? {
+    let mut climb = Climb::new(call.alloc, true);
+    let letters = call.case.word(1).unwrap_or("");
+    let steps = parse_tree_steps(call.alloc, letters)?;
+    for step in &steps {
         climb.take(&mut tree, *step, out)?;
         writeln!(out, " > reads {}", tree.reads())?;
     }
@@ -49,7 +46,8 @@ fn walk<R: Reader>(call: &Call<'_, R>, out: &mut Vec<u8>) -> Outcome<bool> {
 /// refusal carries; and what the run over the same steps holds, where that is another.
 pub(crate) fn write_tree_at<R: Reader>(call: &Call<'_, R>, out: &mut Vec<u8>) -> Outcome {
     let (unit, table) = first_unit(call)?;
-    let steps = parse_tree_steps(call.alloc, call.case.word(2).unwrap_or(""))?;
+    let letters = call.case.word(2).unwrap_or("");
+    let steps = parse_tree_steps(call.alloc, letters)?;
     let start = call.offset(1)?.map(UnitOffset);
     let run = run_tree(call.alloc, &unit, &table, start, &steps);
     match (unit.entries_tree(call.alloc, &table, start), run) {
@@ -68,12 +66,7 @@ fn write_both<R: Reader>(
     out: &mut Vec<u8>,
 ) -> Outcome {
     writeln!(out, "begins > reads {}", tree.reads())?;
-    let mut climb = Climb {
-        lists: Vec::new(alloc),
-        is_node: false,
-        is_text: false,
-        is_refused: false,
-    };
+    let mut climb = Climb::new(alloc, false);
     let mut answers = run.answers.iter();
     for step in steps {
         let mut line = Vec::new(alloc);
@@ -106,6 +99,15 @@ fn write_answer<R: Reader>(answer: &TreeAnswer<R, Global>, out: &mut Vec<u8>) ->
 }
 
 impl Climb {
+    fn new(alloc: Global, is_text: bool) -> Climb {
+        Climb {
+            lists: Vec::new(alloc),
+            is_node: false,
+            is_text,
+            is_refused: false,
+        }
+    }
+
     // Takes a step, and writes what it answers.
     fn take<R: Reader>(
         &mut self,

@@ -23,12 +23,13 @@ pub(crate) fn first_unit<R: Reader>(
 pub(crate) fn parse_steps(alloc: Global, letters: &str) -> Outcome<Vec<CursorStep>> {
     let mut steps = Vec::new(alloc);
     for letter in letters.as_bytes() {
-        steps.push(match letter {
+        let step = match letter {
             b'e' => CursorStep::NextEntry,
             b'd' => CursorStep::NextDfs,
             b's' => CursorStep::NextSibling,
             _ => return Err(Stop::Lacks("no steps")),
-        })?;
+        };
+        steps.push(step)?;
     }
     Ok(steps)
 }
@@ -37,13 +38,14 @@ pub(crate) fn parse_steps(alloc: Global, letters: &str) -> Outcome<Vec<CursorSte
 pub(crate) fn parse_tree_steps(alloc: Global, letters: &str) -> Outcome<Vec<TreeStep>> {
     let mut steps = Vec::new(alloc);
     for letter in letters.as_bytes() {
-        steps.push(match letter {
+        let step = match letter {
             b'r' => TreeStep::Root,
             b'n' => TreeStep::Next,
             b'i' => TreeStep::Enter,
             b'o' => TreeStep::Leave,
             _ => return Err(Stop::Lacks("no steps")),
-        })?;
+        };
+        steps.push(step)?;
     }
     Ok(steps)
 }
