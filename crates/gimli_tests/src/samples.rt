@@ -6,6 +6,7 @@ use gimli_base::{
 };
 use gimli_units::{UnitHeader, UnitSectionOffset, UnitType};
 use std::alloc::Global;
+use std::fmt::Debug;
 use std::hash::{DefaultHasher, Hash, Hasher};
 use std::process::Abort;
 
@@ -103,4 +104,21 @@ pub(crate) fn hash_of<T: Hash>(value: &T) -> u64 {
     let mut state = DefaultHasher::new();
     value.hash(&mut state);
     state.finish()
+}
+
+/// Tries a value with others that are equal to it, and with others that are not.
+pub(crate) fn compares<T: Copy + Debug + PartialEq + Hash>(
+    rt: &impl Abort,
+    value: T,
+    same: [T; 2],
+    others: [T; 4],
+) {
+    for other in same {
+        assert!(rt; value == other);
+        assert!(rt; hash_of(&value) == hash_of(&other));
+    }
+    for other in others {
+        assert_ne!(rt; value, other);
+        assert_ne!(rt; hash_of(&value), hash_of(&other));
+    }
 }

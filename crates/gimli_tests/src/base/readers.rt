@@ -1,11 +1,9 @@
 //! How readers and expressions are made, copied, compared and shown.
 
-use crate::samples::{has_bytes_at, hash_of, part, whole};
+use crate::samples::{compares, has_bytes_at, part, whole};
 use gimli_base::{
     BigEndian, EndianSlice, Expression, LittleEndian, Reader, RunTimeEndian, WholeSlice,
 };
-use std::fmt::Debug;
-use std::hash::Hash;
 use std::process::Abort;
 use std::test::Fail;
 
@@ -64,23 +62,6 @@ fn are_copied_and_cloned(rt: HostRuntime) -> Result<(), Fail> {
     let big = RunTimeEndian::Big;
     tries_copies(&rt, part(&BYTES, big), big)?;
     tries_copies(&rt, whole(&rt, &BYTES, BigEndian), BigEndian)
-}
-
-// Tries a value with others that are equal to it, and with others that are not.
-fn compares<T: Copy + Debug + PartialEq + Hash>(
-    rt: &impl Abort,
-    value: T,
-    same: [T; 2],
-    others: [T; 4],
-) {
-    for other in same {
-        assert!(rt; value == other);
-        assert!(rt; hash_of(&value) == hash_of(&other));
-    }
-    for other in others {
-        assert_ne!(rt; value, other);
-        assert_ne!(rt; hash_of(&value), hash_of(&other));
-    }
 }
 
 const TWICE: [u8; 4] = [0x01, 0x02, 0x01, 0x02];

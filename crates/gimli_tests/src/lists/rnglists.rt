@@ -1,13 +1,13 @@
 //! Range lists, and the header of their section.
 
+use crate::base::sections::holds;
 use crate::samples::{Part, encoding, end_at, next_of, part, whole};
 use gimli_base::{
-    DebugAddr, DebugAddrBase, DebugAddrIndex, Encoding, EndianSlice, Error, Format, LittleEndian,
-    RangeListsOffset, Reader, ReaderOffset, ReaderOffsetId, Result, Section, SectionId,
+    DebugAddr, DebugAddrBase, DebugAddrIndex, EndianSlice, Format, LittleEndian, RangeListsOffset,
+    Reader, ReaderOffset, Result, Section, SectionId,
 };
 use gimli_lists::{
-    DebugRanges, DebugRngLists, ListsHeader, Range, RangeLists, RawRngListEntry, RawRngListIter,
-    RngListIter,
+    DebugRanges, DebugRngLists, ListsHeader, Range, RangeLists, RawRngListEntry, RngListIter,
 };
 use std::process::Abort;
 use std::test::Fail;
@@ -132,8 +132,18 @@ fn sections_are_kept_and_replaced(rt: HostRuntime) -> std::result::Result<(), Fa
     tries_slices(&rt, &of_both.copy(), &[4], &[3]);
     tries_slices(&rt, &same, &[1, 2], &[3]);
     tries_slices(&rt, &RangeLists::default(), &[], &[]);
-    assert!(rt; (<DebugRanges<Part<'_>>>::id()) == SectionId::DebugRanges);
-    assert!(rt; (<DebugRngLists<Part<'_>>>::id()) == SectionId::DebugRngLists);
+    holds(
+        &rt,
+        same.debug_ranges(),
+        SectionId::DebugRanges,
+        (&[1, 2], 0),
+    );
+    holds(
+        &rt,
+        same.debug_rnglists(),
+        SectionId::DebugRngLists,
+        (&[3], 0),
+    );
     let text = format!(in rt.alloc(); "{:?}", RangeListsOffset(7_usize))?;
     assert!(rt; text.as_str() == "RangeListsOffset(7)");
     Ok(())
