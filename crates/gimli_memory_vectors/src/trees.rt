@@ -15,8 +15,8 @@ pub(crate) struct Tree<'table, 'h, R: Reader> {
 }
 
 impl<'table, 'h, R: Reader> Walk for Tree<'table, 'h, R> {
-    // `r` goes to the root, `n` to the next entry of depth 1, `m` to that of depth 2; `c` puts a clone in the tree's
-    // place.
+    // `r` goes to the root, `n` to the next entry of depth 1, `m` to that of depth 2; `c` puts a clone in the
+    // tree's place.
     fn take(&mut self, letter: u8) -> Result<bool> {
         match letter {
             b'r' => {
