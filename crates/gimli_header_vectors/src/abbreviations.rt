@@ -1,36 +1,20 @@
 //! Tables of abbreviations.
 
-use gimli_base::{Abbreviation, DebugAbbrev, DebugAbbrevOffset, Reader, ReaderOffset};
+use gimli_base::{Abbreviation, DebugAbbrev, DebugAbbrevOffset, Reader};
 use std::alloc::Global;
-use std::io::{self, Write};
-use test_tables::{Case, write_refusal};
+use std::io::Write;
+use test_tables::{Call, Outcome};
 
 /// Writes the refusal of the table at an offset, or the declaration of each code that is asked for.
-pub(crate) fn write_abbreviations<R: Reader, W: Write>(
-    alloc: Global,
-    out: &mut W,
-    case: &Case,
-    first: usize,
-    reader: R,
-) -> io::Result<()> {
-    let offset = case.number(first.saturating_add(1)).unwrap_or(0);
-    let section = DebugAbbrev::from(reader);
-    let table = match R::Offset::from_u64(offset) {
-        Ok(offset) => section.abbreviations(alloc, DebugAbbrevOffset(offset)),
-        Err(error) => Err(error),
-    };
-    let table = match table {
-        Ok(table) => table,
-        Err(error) => {
-            write_refusal(out, error)?;
-            return writeln!(out);
-        }
-    };
-    for index in first.saturating_add(2)..case.words.len() {
-        let code = case.number(index).unwrap_or(0);
+pub(crate) fn write_abbreviations<R: Reader>(call: &Call<'_, R>, out: &mut Vec<u8>) -> Outcome {
+    let section = DebugAbbrev::from(call.section(0)?);
+    let offset = DebugAbbrevOffset(call.offset_or_zero(1)?);
+    let table = section.abbreviations(call.alloc, offset)?;
+    for index in 2..call.case.words.len() {
+        let code = call.number(index)?;
         write!(out, "{code}")?;
         match table.get(code) {
-            Some(declared) => write_declaration(out, code, declared)?,
+            Some(declared) => write_declaration(code, declared, out)?,
             None => write!(out, " none")?,
         }
         writeln!(out)?;
@@ -39,11 +23,7 @@ pub(crate) fn write_abbreviations<R: Reader, W: Write>(
 }
 
 // Writes the tag, whether there are children, and the attributes of a declaration.
-fn write_declaration<W: Write>(
-    out: &mut W,
-    code: u64,
-    declared: &Abbreviation<Global>,
-) -> io::Result<()> {
+fn write_declaration(code: u64, declared: &Abbreviation<Global>, out: &mut Vec<u8>) -> Outcome {
     let own = declared.code();
     if own != code {
         write!(out, " is {own}")?;

@@ -1,8 +1,8 @@
 //! The numbers of the codes.
 
 use gimli_base::*;
-use std::io::{self, Write};
-use test_tables::Case;
+use std::io::Write;
+use test_tables::{Case, Outcome, Stop};
 
 // The number of a code's name among codes.
 macro_rules! number_of {
@@ -17,29 +17,19 @@ macro_rules! number_of {
 }
 
 /// Writes the number of a code's name.
-pub(crate) fn write_code<W: Write>(out: &mut W, case: &Case) -> io::Result<()> {
+pub(crate) fn write_code(case: &Case, out: &mut Vec<u8>) -> Outcome {
     let name = case.word(1).unwrap_or("");
     let number = match name.split("_").nth(1) {
         Some("TAG") => number_of_tag(name),
         Some("AT") => number_of_attribute(name),
         Some("FORM") => number_of_form(name),
         Some("LANG") => number_of_language(name),
-        Some("CHILDREN") => number_of_flag(name),
+        Some("CHILDREN") if name == "DW_CHILDREN_no" => Some(u64::from(DW_CHILDREN_no)),
+        Some("CHILDREN") if name == "DW_CHILDREN_yes" => Some(u64::from(DW_CHILDREN_yes)),
         _ => number_of_other(name),
     };
-    match number {
-        Some(number) => writeln!(out, "0x{number:x}"),
-        None => writeln!(out, "no such code"),
-    }
-}
-
-// The number of a flag on children.
-fn number_of_flag(name: &str) -> Option<u64> {
-    match name {
-        "DW_CHILDREN_no" => Some(u64::from(DW_CHILDREN_no)),
-        "DW_CHILDREN_yes" => Some(u64::from(DW_CHILDREN_yes)),
-        _ => None,
-    }
+    let number = number.ok_or(Stop::Lacks("no such code"))?;
+    Ok(writeln!(out, "0x{number:x}")?)
 }
 
 // The numbers of tags.

@@ -1,20 +1,23 @@
 //! The refusals: their numbers, and their debug texts.
 
 use gimli_base::{DwForm, DwLle, DwRle, DwUt, Error, ReaderOffsetId};
-use std::io::{self, Write};
-use test_tables::Case;
+use std::io::Write;
+use test_tables::{Case, Outcome, Stop};
 
 /// Writes the number and the debug text of the refusal with a name, which carries a number or nothing.
-pub(crate) fn write_error<W: Write>(out: &mut W, case: &Case) -> io::Result<()> {
+pub(crate) fn write_error(case: &Case, out: &mut Vec<u8>) -> Outcome {
     let carried = case.number(2).unwrap_or(0);
-    match error_of(case.word(1).unwrap_or(""), carried) {
-        Some(error) => writeln!(out, "{} {error:?}", error.number()),
-        None => writeln!(out, "no such refusal"),
-    }
+    let name = case.word(1).unwrap_or("");
+    let error = match bare(name) {
+        Some(error) => Some(error),
+        None => carrying(name, carried),
+    };
+    let error = error.ok_or(Stop::Lacks("no such refusal"))?;
+    Ok(writeln!(out, "{} {error:?}", error.number())?)
 }
 
-// The refusal with a name.
-fn error_of(name: &str, carried: u64) -> Option<Error> {
+// The refusal with a name among those that carry nothing.
+fn bare(name: &str) -> Option<Error> {
     Some(match name {
         "BadUnsignedLeb128" => Error::BadUnsignedLeb128,
         "BadSignedLeb128" => Error::BadSignedLeb128,
@@ -28,7 +31,7 @@ fn error_of(name: &str, carried: u64) -> Option<Error> {
         "AttributeFormZero" => Error::AttributeFormZero,
         "DuplicateAbbreviationCode" => Error::DuplicateAbbreviationCode,
         "OutOfMemory" => Error::OutOfMemory,
-        _ => return carrying(name, carried),
+        _ => return None,
     })
 }
 

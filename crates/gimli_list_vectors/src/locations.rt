@@ -3,188 +3,68 @@
 ghost use Rattle.std.specs.Prelude.{IsTrue};
 ghost use Rattle.gimli_base.specs.Reading.{is_size};
 
-use crate::calls::{Start, raw_start_of, start_of};
-use crate::shown::write_bytes;
-use gimli_base::{
-    DebugAddr, DebugAddrBase, Encoding, LocationListsOffset, Reader, ReaderOffset, Result,
-};
-use gimli_lists::{
-    DebugLoc, DebugLocLists, LocListIter, LocationLists, RawLocListEntry, RawLocListIter,
-};
-use std::io::{self, Write};
-use test_tables::{Case, write_refusal};
+use crate::items::write_items;
+use crate::starts::{Start, old_and_new, start_of};
+use gimli_base::{Encoding, LocationListsOffset, Reader};
+use gimli_lists::{DebugLoc, DebugLocLists, LocListIter, LocationLists, RawLocListIter};
+use std::io::Write;
+use test_tables::{Call, Outcome};
 
 // The lists of a section, which is that of the version; the other is empty.
-fn lists_of<R: Reader>(version: u16, section: R) -> LocationLists<R> {
-    let mut none = section.copy();
-    none.empty();
-    if version <= 4 {
-        LocationLists::new(DebugLoc::from(section), DebugLocLists::from(none))
-    } else {
-        LocationLists::new(DebugLoc::from(none), DebugLocLists::from(section))
-    }
+fn lists_of<R: Reader>(call: &Call<'_, R>, encoding: Encoding) -> Outcome<LocationLists<R>> {
+    let (old, new) = old_and_new(call, encoding.version)?;
+    Ok(LocationLists::new(DebugLoc::from(old), DebugLocLists::from(new)))
 }
 
-// The entries of a list as they are written; a split file's where `dwo`.
-fn raw_locations<R: Reader>(
-    section: R,
+// Whether the list is that of a split file.
+fn is_split<R: Reader>(call: &Call<'_, R>) -> bool {
+    call.name().ends_with("_dwo")
+}
+
+// The entries of a list as they are written.
+fn raw_of<R: Reader>(
+    call: &Call<'_, R>,
     encoding: Encoding,
-    offset: u64,
-    dwo: bool,
-) -> Result<RawLocListIter<R>> {
-    let lists = lists_of(encoding.version, section);
-    let offset = LocationListsOffset(R::Offset::from_u64(offset)?);
-    if dwo {
-        lists.raw_locations_dwo(offset, encoding)
+    offset: R::Offset,
+) -> Outcome<RawLocListIter<R>> {
+    let lists = lists_of(call, encoding)?;
+    let offset = LocationListsOffset(offset);
+    if is_split(call) {
+        Ok(lists.raw_locations_dwo(offset, encoding)?)
     } else {
-        lists.raw_locations(offset, encoding)
+        Ok(lists.raw_locations(offset, encoding)?)
     }
 }
 
-// The locations of a list; of a split file's where `dwo`.
-fn locations<R: Reader>(start: Start, section: R, addresses: R, dwo: bool) -> Result<LocListIter<R>>
-    requires { IsTrue (is_size start.encoding.address_size) }
+// The locations of a list.
+fn locations_of<R: Reader>(call: &Call<'_, R>, start: &Start<R>) -> Outcome<LocListIter<R>>
+    requires { IsTrue (is_size start.now.encoding.address_size) }
 {
-    let lists = lists_of(start.encoding.version, section);
-    let offset = LocationListsOffset(R::Offset::from_u64(start.offset)?);
-    let table = DebugAddrBase(R::Offset::from_u64(start.table)?);
-    let addr = DebugAddr::from(addresses);
-    if dwo {
-        lists.locations_dwo(offset, start.encoding, start.base, &addr, table)
+    let lists = lists_of(call, start.encoding)?;
+    let offset = LocationListsOffset(start.offset);
+    let (encoding, base) = (start.encoding, start.base);
+    if is_split(call) {
+        Ok(lists.locations_dwo(offset, encoding, base, &start.addr, start.addr_base)?)
     } else {
-        lists.locations(offset, start.encoding, start.base, &addr, table)
+        Ok(lists.locations(offset, encoding, base, &start.addr, start.addr_base)?)
     }
 }
 
-// Both iterators over a list.
-fn iterators<R: Reader>(
-    start: Start,
-    section: R,
-    addresses: R,
-    dwo: bool,
-) -> Result<(RawLocListIter<R>, LocListIter<R>)>
-    requires { IsTrue (is_size start.encoding.address_size) }
-{
-    let raw = raw_locations(section.copy(), start.encoding, start.offset, dwo)?;
-    let locations = locations(start, section, addresses, dwo)?;
-    Ok((raw, locations))
-}
-
-/// Writes the entries of the list of a case as they are written, and its locations, each with the refusals where they
-/// come; those of a split file where `dwo`.
-pub(crate) fn write_locations_of<R: Reader, W: Write>(
-    out: &mut W,
-    case: &Case,
-    section: R,
-    addresses: R,
-    dwo: bool,
-) -> io::Result<()> {
-    let Some(start) = start_of(case) else {
-        return write!(out, "no list");
-    };
-    match iterators(start, section, addresses, dwo) {
-        Ok((raw, locations)) => {
-            write!(out, "raw")?;
-            write_entries(out, raw)?;
-            write!(out, "\nlocations")?;
-            write_locations(out, locations)
-        }
-        Err(error) => write_refusal(out, error),
-    }
+/// Writes the entries of the list of a case as they are written, and its locations, each with the refusals
+/// where they come.
+pub(crate) fn write_locations<R: Reader>(call: &Call<'_, R>, out: &mut Vec<u8>) -> Outcome {
+    let start = start_of(call)?;
+    let raw = raw_of(call, start.encoding, start.offset)?;
+    let locations = locations_of(call, &start)?;
+    write!(out, "raw")?;
+    write_items(raw, out)?;
+    write!(out, "\nlocations")?;
+    write_items(locations, out)
 }
 
 /// Writes the entries alone, whatever the size of an address.
-pub(crate) fn write_raw_locations_of<R: Reader, W: Write>(
-    out: &mut W,
-    case: &Case,
-    section: R,
-    dwo: bool,
-) -> io::Result<()> {
-    let Some((encoding, offset)) = raw_start_of(case) else {
-        return write!(out, "no list");
-    };
-    match raw_locations(section, encoding, offset, dwo) {
-        Ok(raw) => {
-            write!(out, "raw")?;
-            write_entries(out, raw)
-        }
-        Err(error) => write_refusal(out, error),
-    }
-}
-
-fn write_entries<R: Reader, W: Write>(out: &mut W, entries: RawLocListIter<R>) -> io::Result<()> {
-    for entry in entries {
-        write!(out, ", ")?;
-        match entry {
-            Ok(entry) => write_entry(out, &entry)?,
-            Err(error) => write_refusal(out, error)?,
-        }
-    }
-    Ok(())
-}
-
-// Writes an entry: its kind, its operands, and the place and the bytes of its expression.
-fn write_entry<R: Reader, W: Write>(out: &mut W, entry: &RawLocListEntry<R>) -> io::Result<()> {
-    match entry {
-        RawLocListEntry::AddressOrOffsetPair { begin, end, expr } => {
-            write!(out, "AddressOrOffsetPair {begin} {end}")?;
-            write_bytes(out, &expr.0)
-        }
-        RawLocListEntry::BaseAddress { addr } => write!(out, "BaseAddress {addr}"),
-        RawLocListEntry::BaseAddressx { addr } => {
-            let index = addr.0.into_u64();
-            write!(out, "BaseAddressx {index}")
-        }
-        RawLocListEntry::StartxEndx { begin, end, expr } => {
-            let begin = begin.0.into_u64();
-            let end = end.0.into_u64();
-            write!(out, "StartxEndx {begin} {end}")?;
-            write_bytes(out, &expr.0)
-        }
-        RawLocListEntry::StartxLength {
-            begin,
-            length,
-            expr,
-        } => {
-            let begin = begin.0.into_u64();
-            write!(out, "StartxLength {begin} {length}")?;
-            write_bytes(out, &expr.0)
-        }
-        RawLocListEntry::OffsetPair { begin, end, expr } => {
-            write!(out, "OffsetPair {begin} {end}")?;
-            write_bytes(out, &expr.0)
-        }
-        RawLocListEntry::DefaultLocation { expr } => {
-            write!(out, "DefaultLocation")?;
-            write_bytes(out, &expr.0)
-        }
-        RawLocListEntry::StartEnd { begin, end, expr } => {
-            write!(out, "StartEnd {begin} {end}")?;
-            write_bytes(out, &expr.0)
-        }
-        RawLocListEntry::StartLength {
-            begin,
-            length,
-            expr,
-        } => {
-            write!(out, "StartLength {begin} {length}")?;
-            write_bytes(out, &expr.0)
-        }
-    }
-}
-
-fn write_locations<R: Reader, W: Write>(out: &mut W, locations: LocListIter<R>) -> io::Result<()> {
-    for answer in locations {
-        write!(out, ", ")?;
-        match answer {
-            Ok(location) => {
-                let begin = location.range.begin;
-                let end = location.range.end;
-                write!(out, "{begin} {end}")?;
-                write_bytes(out, &location.expr.0)?;
-            }
-            Err(error) => write_refusal(out, error)?,
-        }
-    }
-    Ok(())
+pub(crate) fn write_raw_locations<R: Reader>(call: &Call<'_, R>, out: &mut Vec<u8>) -> Outcome {
+    let raw = raw_of(call, call.encoding(1)?, call.offset_or_zero(4)?)?;
+    write!(out, "raw")?;
+    write_items(raw, out)
 }

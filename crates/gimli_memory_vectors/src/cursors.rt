@@ -1,11 +1,12 @@
 //! Walks of cursors, and of the reader of entries.
 
-use crate::lines::{write_entry, write_values};
 use crate::trial::Heap;
+use crate::units::write_values;
 use crate::walks::Walk;
-use gimli_base::{Abbreviations, Reader, ReaderOffset, Result as Answer};
+use gimli_base::{Abbreviations, Reader, ReaderOffset, Result};
 use gimli_units::{DebuggingInformationEntry, EntriesCursor, EntriesRaw};
-use std::io::{self, Write};
+use std::io::Write;
+use test_tables::{Outcome, Place, take_step, write_counted};
 
 /// A cursor, and the allocator that a clone of it is made with.
 #[derive(Drop)]
@@ -15,42 +16,25 @@ pub(crate) struct Cursor<'table, 'h, R: Reader> {
 }
 
 impl<'table, 'h, R: Reader> Walk for Cursor<'table, 'h, R> {
-    // `e`, `d` and `s` are the steps; `c` puts a clone in the cursor's place.
-    fn take(&mut self, letter: u8) -> Answer<bool> {
-        match letter {
-            b'e' => self.cursor.next_entry(),
-            b'd' => match self.cursor.next_dfs() {
-                Ok(entry) => Ok(entry.is_some()),
-                Err(error) => Err(error),
-            },
-            b's' => match self.cursor.next_sibling() {
-                Ok(entry) => Ok(entry.is_some()),
-                Err(error) => Err(error),
-            },
-            b'c' => {
-                self.cursor = self.cursor.try_clone(self.heap)?;
-                Ok(true)
-            }
-            _ => Ok(false),
+    // Besides the steps `c` puts a clone in the cursor's place.
+    fn take(&mut self, letter: u8) -> Result<bool> {
+        if letter != b'c' {
+            return take_step(&mut self.cursor, letter);
         }
+        self.cursor = self.cursor.try_clone(self.heap)?;
+        Ok(true)
     }
 
-    fn show(&self, out: &mut Vec<u8>) -> io::Result<()> {
-        let cursor = &self.cursor;
-        write_entry(out, cursor.current())?;
-        let offset = cursor.offset().0.into_u64();
-        let depth = cursor.depth();
-        let next_offset = cursor.next_offset().0.into_u64();
-        let next_depth = cursor.next_depth();
-        let reads = cursor.reads();
-        write!(
-            out,
-            " at {offset:x} {depth} > {next_offset:x} {next_depth} reads {reads}"
-        )
+    fn show(&self, out: &mut Vec<u8>) -> Outcome {
+        write_counted(self.cursor.current(), out)?;
+        Place::of(&self.cursor).write(out)?;
+        let reads = self.cursor.reads();
+        Ok(write!(out, " reads {reads}")?)
     }
 }
 
-/// A reader of entries with the entry that it fills, its table, and the allocator that a clone of the entry is made with.
+/// A reader of entries with the entry that it fills, its table, and the allocator that a clone of the entry
+/// is made with.
 #[derive(Drop)]
 pub(crate) struct Raw<'table, 'h, R: Reader> {
     pub(crate) raw: EntriesRaw<'table, R, Heap<'h>>,
@@ -61,7 +45,7 @@ pub(crate) struct Raw<'table, 'h, R: Reader> {
 
 impl<'table, 'h, R: Reader> Walk for Raw<'table, 'h, R> {
     // `x` reads an entry, a digit the attributes of that code; `c` puts a clone in the entry's place.
-    fn take(&mut self, letter: u8) -> Answer<bool> {
+    fn take(&mut self, letter: u8) -> Result<bool> {
         match letter {
             b'x' => self.raw.read_entry(&mut self.entry),
             b'c' => {
@@ -81,16 +65,18 @@ impl<'table, 'h, R: Reader> Walk for Raw<'table, 'h, R> {
         }
     }
 
-    fn show(&self, out: &mut Vec<u8>) -> io::Result<()> {
+    fn show(&self, out: &mut Vec<u8>) -> Outcome {
         let entry = &self.entry;
         if !entry.is_null() {
-            write_entry(out, Some(entry))?;
+            write_counted(Some(entry), out)?;
         }
-        let offset = entry.offset().0.into_u64();
-        let depth = entry.depth();
-        let next_offset = self.raw.next_offset().0.into_u64();
-        let next_depth = self.raw.next_depth();
-        write!(out, " at {offset:x} {depth} > {next_offset:x} {next_depth}")?;
-        write_values(out, entry.attrs())
+        let place = Place {
+            offset: entry.offset().0.into_u64(),
+            depth: entry.depth(),
+            next_offset: self.raw.next_offset().0.into_u64(),
+            next_depth: self.raw.next_depth(),
+        };
+        place.write(out)?;
+        write_values(entry.attrs(), out)
     }
 }

@@ -1,20 +1,17 @@
-//! Runs over units, range lists and location lists, and the unit of an address.
+//! Runs over range lists and location lists, and the unit of an address.
 
-use crate::runs::write_stop;
-use crate::trial::{Heap, Trial};
+use crate::runs::write_run;
+use crate::trial::Heap;
 use gimli_base::{
     DebugAddr, DebugAddrBase, Encoding, Format, LocationListsOffset, RangeListsOffset, Reader,
-    ReaderOffset, Result as Answer,
+    ReaderOffset,
 };
-use gimli_headers::{DebugInfo, DebugTypes};
 use gimli_lists::{
-    DebugAranges, DebugLoc, DebugLocLists, DebugRanges, DebugRngLists, LocationLists, Range,
-    RangeLists,
+    DebugAranges, DebugLoc, DebugLocLists, DebugRanges, DebugRngLists, LocationLists, RangeLists,
 };
-use gimli_units::UnitHeader;
-use gimli_walk::{Run, run_locations, run_ranges, run_type_units, run_units, unit_of_address};
-use std::io::{self, Write};
-use test_tables::{Case, write_refusal};
+use gimli_walk::{run_locations, run_ranges, unit_of_address};
+use std::io::Write;
+use test_tables::{Call, Outcome};
 
 // Lists of version 5 with addresses of 4 bytes.
 const ENCODING: Encoding = Encoding {
@@ -26,135 +23,54 @@ const ENCODING: Encoding = Encoding {
 // The base of addresses of a list.
 const BASE: u64 = 0x1000;
 
-/// Makes a call over one section, and writes what it answers. Answers whether the case has such a call.
-pub(crate) fn write_list<R: Reader>(
-    trial: Trial<'_>,
-    case: &Case,
-    section: &R,
-    out: &mut Vec<u8>,
-) -> io::Result<bool> {
-    match case.word(0) {
-        Some("units") => {
-            let section = DebugInfo::from(section.copy());
-            write_units(out, &run_units(&trial.heaps.failing, &section))?;
-        }
-        Some("type_units") => {
-            let section = DebugTypes::from(section.copy());
-            write_units(out, &run_type_units(&trial.heaps.failing, &section))?;
-        }
-        Some("ranges") => write_ranges(trial, section, out)?,
-        Some("locations") => write_locations(trial, section, out)?,
-        Some("unit_of_address") => write_unit_of(case, section, out)?,
-        _ => return Ok(false),
-    }
-    Ok(true)
-}
-
-// Writes the offset of each unit.
-fn write_units<R: Reader>(
-    out: &mut Vec<u8>,
-    run: &Run<Answer<UnitHeader<R>>, Heap<'_>>,
-) -> io::Result<()> {
-    for answer in &run.answers {
-        match answer {
-            Ok(unit) => {
-                let offset = unit.offset().0.into_u64();
-                write!(out, "unit {offset:x}")?;
-            }
-            Err(error) => write_refusal(out, *error)?,
-        }
-        writeln!(out)?;
-    }
-    write_stop(out, run.stopped)
-}
-
-// Writes the ends of a range.
-fn write_range(out: &mut Vec<u8>, range: &Range) -> io::Result<()> {
-    let begin = range.begin;
-    let end = range.end;
-    write!(out, "{begin:x} {end:x}")
-}
-
-// An empty table of addresses.
-fn no_addresses<R: Reader>(section: &R) -> DebugAddr<R> {
-    let mut end = section.copy();
+// An empty table of addresses, and its base.
+fn no_addresses<R: Reader>(
+    call: &Call<'_, R>,
+) -> Outcome<(DebugAddr<R>, DebugAddrBase<R::Offset>)> {
+    let mut end = call.section(0)?;
     end.empty();
-    DebugAddr::from(end)
+    Ok((DebugAddr::from(end), DebugAddrBase(R::Offset::from_u8(0))))
 }
 
-// Writes the ranges of a list, and each refusal.
-fn write_ranges<R: Reader>(trial: Trial<'_>, section: &R, out: &mut Vec<u8>) -> io::Result<()> {
-    let ranges = DebugRanges::from(section.copy());
-    let lists = RangeLists::new(ranges, DebugRngLists::from(section.copy()));
-    let zero = R::Offset::from_u8(0);
-    let (offset, addr_base) = (RangeListsOffset(zero), DebugAddrBase(zero));
-    let addr = no_addresses(section);
-    let run = match run_ranges(
-        &trial.heaps.failing,
-        &lists,
-        offset,
-        ENCODING,
-        BASE,
-        &addr,
-        addr_base,
-    ) {
-        Ok(run) => run,
-        Err(error) => return write_refusal(out, error),
-    };
-    for answer in &run.answers {
-        match answer {
-            Ok(range) => write_range(out, range)?,
-            Err(error) => write_refusal(out, *error)?,
-        }
-        writeln!(out)?;
-    }
-    write_stop(out, run.stopped)
+/// Writes the ranges of a list, and each refusal.
+pub(crate) fn write_ranges<R: Reader>(
+    call: &Call<'_, R>,
+    heap: Heap<'_>,
+    out: &mut Vec<u8>,
+) -> Outcome {
+    let ranges = DebugRanges::from(call.section(0)?);
+    let lists = RangeLists::new(ranges, DebugRngLists::from(call.section(0)?));
+    let offset = RangeListsOffset(R::Offset::from_u8(0));
+    let (addr, addr_base) = no_addresses(call)?;
+    let run = run_ranges(heap, &lists, offset, ENCODING, BASE, &addr, addr_base)?;
+    write_run(&run, out)
 }
 
-// Writes the locations of a list, each with the place of its expression, and each refusal.
-fn write_locations<R: Reader>(trial: Trial<'_>, section: &R, out: &mut Vec<u8>) -> io::Result<()> {
-    let loc = DebugLoc::from(section.copy());
-    let lists = LocationLists::new(loc, DebugLocLists::from(section.copy()));
-    let zero = R::Offset::from_u8(0);
-    let (offset, addr_base) = (LocationListsOffset(zero), DebugAddrBase(zero));
-    let addr = no_addresses(section);
-    let run = match run_locations(
-        &trial.heaps.failing,
-        &lists,
-        offset,
-        ENCODING,
-        BASE,
-        &addr,
-        addr_base,
-        false,
-    ) {
-        Ok(run) => run,
-        Err(error) => return write_refusal(out, error),
-    };
-    for answer in &run.answers {
-        match answer {
-            Ok(location) => {
-                write_range(out, &location.range)?;
-                let place = location.expr.0.offset_id().0;
-                write!(out, " {place}")?;
-            }
-            Err(error) => write_refusal(out, *error)?,
-        }
-        writeln!(out)?;
-    }
-    write_stop(out, run.stopped)
+/// Writes the locations of a list, each with the place of its expression, and each refusal.
+pub(crate) fn write_locations<R: Reader>(
+    call: &Call<'_, R>,
+    heap: Heap<'_>,
+    out: &mut Vec<u8>,
+) -> Outcome {
+    let loc = DebugLoc::from(call.section(0)?);
+    let lists = LocationLists::new(loc, DebugLocLists::from(call.section(0)?));
+    let offset = LocationListsOffset(R::Offset::from_u8(0));
+    let (addr, addr_base) = no_addresses(call)?;
+    let run = run_locations(
+        heap, &lists, offset, ENCODING, BASE, &addr, addr_base, false,
+    )?;
+    write_run(&run, out)
 }
 
-// Writes the offset of the unit of an address.
-fn write_unit_of<R: Reader>(case: &Case, section: &R, out: &mut Vec<u8>) -> io::Result<()> {
-    let aranges = DebugAranges::from(section.copy());
-    match unit_of_address(&aranges, case.number(1).unwrap_or(0)) {
-        Ok(Some(offset)) => {
+/// Writes the offset of the unit of an address.
+pub(crate) fn write_unit_of<R: Reader>(call: &Call<'_, R>, out: &mut Vec<u8>) -> Outcome {
+    let aranges = DebugAranges::from(call.section(0)?);
+    match unit_of_address(&aranges, call.number(1)?)? {
+        Some(offset) => {
             let offset = offset.0.into_u64();
-            write!(out, "unit {offset:x}")?;
+            writeln!(out, "unit {offset:x}")?;
         }
-        Ok(None) => write!(out, "none")?,
-        Err(error) => write_refusal(out, error)?,
+        None => writeln!(out, "none")?,
     }
-    writeln!(out)
+    Ok(())
 }

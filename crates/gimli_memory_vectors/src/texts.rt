@@ -1,14 +1,14 @@
 //! Texts.
 
-use crate::trial::{Call, Heap, Trial};
-use crate::wanted::Wanted;
+use crate::trial::{Heap, Trial};
 use failing::{Failing, Refusal};
+use gimli_base::Reader;
 use gimli_walk::{
     CursorStep, Mode, TreeStep, WriteFault, dump_text, find_text, run_words, walk_text,
 };
 use std::alloc::{AllocError, Global};
-use std::io::{self, Write};
-use test_tables::Case;
+use std::io::Write;
+use test_tables::{Call, Case, Outcome, is_answer};
 
 /// The steps of a cursor, and those of a tree, that a word gives.
 pub(crate) fn steps_of(
@@ -32,19 +32,13 @@ pub(crate) fn steps_of(
     Ok((steps, tree_steps))
 }
 
-/// A call that writes a text.
-#[derive(Drop)]
-pub(crate) struct Texts<'a> {
-    pub(crate) case: &'a Case,
-}
-
 // Writes the text that the words after the first name.
 fn write_text<W: Write>(
     alloc: Global,
     heap: Heap<'_>,
     case: &Case,
     out: &mut W,
-) -> io::Result<Result<u8, WriteFault>> {
+) -> Outcome<Result<u8, WriteFault>> {
     let info = case.section(0).unwrap_or(&[]);
     let abbrev = case.section(1).unwrap_or(&[]);
     let (steps, tree_steps) = steps_of(alloc, case.word(2))?;
@@ -61,7 +55,7 @@ fn write_text<W: Write>(
 }
 
 // Writes what the words after the first make the program write, and answers its status.
-fn write_words(trial: Trial<'_>, case: &Case, out: &mut Vec<u8>) -> io::Result<u8> {
+fn write_words(trial: Trial<'_>, case: &Case, out: &mut Vec<u8>) -> Outcome<u8> {
     let alloc = trial.alloc;
     let mut words = Vec::new(alloc);
     for word in case.words.iter().skip(1) {
@@ -84,30 +78,31 @@ fn write_words(trial: Trial<'_>, case: &Case, out: &mut Vec<u8>) -> io::Result<u
     Ok(status)
 }
 
-impl<'a> Call for Texts<'a> {
-    fn write(&self, trial: Trial<'_>, out: &mut Vec<u8>) -> io::Result<()> {
-        let status = if self.case.word(0) == Some("words") {
-            Ok(write_words(trial, self.case, out)?)
-        } else {
-            write_text(trial.alloc, &trial.heaps.failing, self.case, out)?
-        };
-        match status {
-            Ok(status) => writeln!(out, "status {status}"),
-            Err(WriteFault) => writeln!(out, "no status"),
-        }
+/// Writes a text, or what the words of the program write, and the status.
+pub(crate) fn write_status(case: &Case, trial: Trial<'_>, out: &mut Vec<u8>) -> Outcome {
+    let status = if case.word(0) == Some("words") {
+        Ok(write_words(trial, case, out)?)
+    } else {
+        write_text(trial.alloc, &trial.heaps.failing, case, out)?
+    };
+    match status {
+        Ok(status) => writeln!(out, "status {status}")?,
+        Err(WriteFault) => writeln!(out, "no status")?,
     }
+    Ok(())
 }
 
 /// Writes a text into each slice that is too short for it, and into one that is not, and writes what differs.
-pub(crate) fn write_short(alloc: Global, case: &Case, out: &mut Vec<u8>) -> io::Result<()> {
+pub(crate) fn write_short<R: Reader>(call: &Call<'_, R>, out: &mut Vec<u8>) -> Outcome {
+    let (alloc, case) = (call.alloc, call.case);
     let heap = Failing::new(alloc, Refusal::Never);
     let mut text = Vec::new(alloc);
     let status = write_text(alloc, &heap, case, &mut text)?;
     let mut whole = Vec::from_slice(alloc, &text)?;
     writeln!(whole, "status {}", status.unwrap_or(0xff))?;
-    let wanted = Wanted::new(alloc, &case.wide, case.word(0))?;
-    if whole.as_slice() != wanted.text.as_bytes() {
-        out.write_all(&whole)?;
+    let whole = str::from_utf8(&whole).unwrap_or("no text");
+    if !is_answer(call.wanted, whole) {
+        write!(out, "{whole}")?;
     }
     let mut space = Vec::from_slice(alloc, &text)?;
     for size in 0..=text.len() {
@@ -118,11 +113,8 @@ pub(crate) fn write_short(alloc: Global, case: &Case, out: &mut Vec<u8>) -> io::
         let answer = write_text(alloc, &heap, case, &mut left)?;
         let written = size.saturating_sub(left.len());
         let is_front = space.get(..written) == text.get(..written);
-        let wanted = if size < text.len() {
-            Err(WriteFault)
-        } else {
-            status
-        };
+        let is_short = size < text.len();
+        let wanted = if is_short { Err(WriteFault) } else { status };
         if answer != wanted || !is_front {
             writeln!(out, "{size} bytes: {answer:?}")?;
         }

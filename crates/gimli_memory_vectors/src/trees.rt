@@ -1,12 +1,11 @@
 //! Walks of trees.
 
-use crate::lines::{write_entry, write_outcome};
 use crate::trial::{Heap, Trial};
 use crate::walks::Walk;
-use gimli_base::{Reader, ReaderOffset, Result as Answer};
+use gimli_base::{Reader, ReaderOffset, Result};
 use gimli_units::{EntriesTree, EntriesTreeIter, EntriesTreeWalker};
-use std::io::{self, Write};
-use test_tables::write_refusal;
+use std::io::Write;
+use test_tables::{Outcome, write_counted, write_refusal};
 
 /// A tree, and the allocator that a clone of it is made with.
 #[derive(Drop)]
@@ -16,9 +15,9 @@ pub(crate) struct Tree<'table, 'h, R: Reader> {
 }
 
 impl<'table, 'h, R: Reader> Walk for Tree<'table, 'h, R> {
-    // `r` goes to the root, `n` to the next entry of depth 1, `m` to that of depth 2; `c` puts a clone in the tree's
-    // place.
-    fn take(&mut self, letter: u8) -> Answer<bool> {
+    // `r` goes to the root, `n` to the next entry of depth 1, `m` to that of depth 2; `c` puts a clone in the
+    // tree's place.
+    fn take(&mut self, letter: u8) -> Result<bool> {
         match letter {
             b'r' => {
                 self.tree.go_to_root()?;
@@ -34,22 +33,22 @@ impl<'table, 'h, R: Reader> Walk for Tree<'table, 'h, R> {
         }
     }
 
-    fn show(&self, out: &mut Vec<u8>) -> io::Result<()> {
+    fn show(&self, out: &mut Vec<u8>) -> Outcome {
         let entry = self.tree.entry();
         if !entry.is_null() {
-            write_entry(out, Some(entry))?;
+            write_counted(Some(entry), out)?;
         }
         let offset = entry.offset().0.into_u64();
         let depth = entry.depth();
         let next_depth = self.tree.next_depth();
         let reads = self.tree.reads();
-        write!(out, " at {offset:x} {depth} > {next_depth} reads {reads}")
+        Ok(write!(out, " at {offset:x} {depth} > {next_depth} reads {reads}")?)
     }
 }
 
 impl<'table, 'h, R: Reader> Walk for EntriesTreeWalker<'table, R, Heap<'h>> {
     // `r` asks for the root, `n` for the next node; `i` enters a node, and `o` leaves a list.
-    fn take(&mut self, letter: u8) -> Answer<bool> {
+    fn take(&mut self, letter: u8) -> Result<bool> {
         match letter {
             b'r' => {
                 self.root()?;
@@ -62,28 +61,28 @@ impl<'table, 'h, R: Reader> Walk for EntriesTreeWalker<'table, R, Heap<'h>> {
         }
     }
 
-    fn show(&self, out: &mut Vec<u8>) -> io::Result<()> {
-        write_entry(out, self.entry())?;
+    fn show(&self, out: &mut Vec<u8>) -> Outcome {
+        write_counted(self.entry(), out)?;
         let lists = self.entered();
         let reads = self.reads();
-        write!(out, " in {lists} reads {reads}")
+        Ok(write!(out, " in {lists} reads {reads}")?)
     }
 }
 
-// Writes the next child of a list, which it lends, or that there is none, or a refusal; after those a list has no
-// child any more. Answers whether there was a child.
+// Writes the next child of a list, which it lends, or that there is none, or a refusal; after those a list
+// has no child any more. Answers whether there was a child.
 fn write_child<R: Reader>(
     list: &mut EntriesTreeIter<'_, '_, R, Heap<'_>>,
     out: &mut Vec<u8>,
-) -> io::Result<bool> {
+) -> Outcome<bool> {
     match list.next() {
         Ok(Some(child)) => {
-            write_outcome(out, Ok(true))?;
-            write_entry(out, Some(child.entry()))?;
+            write!(out, "yes")?;
+            write_counted(Some(child.entry()), out)?;
             writeln!(out)?;
             return Ok(true);
         }
-        Ok(None) => write_outcome(out, Ok(false))?,
+        Ok(None) => write!(out, "no")?,
         Err(error) => write_refusal(out, error)?,
     }
     writeln!(out)?;
@@ -93,17 +92,18 @@ fn write_child<R: Reader>(
     Ok(false)
 }
 
-/// Writes the root of a tree and its children, as the tree lends them. Where memory is refused, the tree begins anew.
+/// Writes the root of a tree and its children, as the tree lends them. Where memory is refused, the tree
+/// begins anew.
 pub(crate) fn write_nodes<R: Reader>(
     trial: Trial<'_>,
     tree: &mut EntriesTree<'_, R, Heap<'_>>,
     out: &mut Vec<u8>,
-) -> io::Result<()> {
+) -> Outcome {
     for _ in 0..2u8 {
         match tree.root() {
             Ok(root) => {
                 write!(out, "root")?;
-                write_entry(out, Some(root.entry()))?;
+                write_counted(Some(root.entry()), out)?;
                 writeln!(out)?;
                 let mut list = root.children();
                 for _ in 0..u64::MAX {

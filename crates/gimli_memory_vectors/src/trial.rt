@@ -1,9 +1,12 @@
 //! A call whose requests for memory are refused, one after the other.
 
+use crate::calls::write_call;
 use crate::wanted::Wanted;
 use failing::{Failing, Refusal};
+use gimli_base::Reader;
 use std::alloc::Global;
 use std::io::{self, Write};
+use test_tables::{Call, Outcome};
 
 /// The allocator of what is tried.
 pub(crate) type Heap<'h> = &'h Failing<Global>;
@@ -23,52 +26,55 @@ pub(crate) struct Trial<'h> {
     pub(crate) number: u64,
 }
 
-/// A call that is tried.
-pub(crate) trait Call {
-    /// Makes the call, and writes what it answers.
-    fn write(&self, trial: Trial<'_>, out: &mut Vec<u8>) -> io::Result<()>;
-}
-
 // More requests than any call of a table makes.
 const MANY: u64 = 1000;
 
-/// Makes a call with each of its requests refused in turn, alone and with all after it, and writes what differs.
-pub(crate) fn try_each<C: Call>(
-    alloc: Global,
-    call: &C,
-    wanted: &Wanted,
-    out: &mut Vec<u8>,
-) -> io::Result<()> {
+/// Makes a call with each of its requests refused in turn, alone and with all after it, and writes what
+/// differs.
+pub(crate) fn try_each<R: Reader>(call: &Call<'_, R>, out: &mut Vec<u8>) -> Outcome {
+    let name = call.name();
+    let wanted = Wanted::new(call.alloc, call.wanted, name)?;
     for number in 1..MANY {
-        let alone = wanted.alone
-            && try_refusal(alloc, call, wanted, (number, Refusal::Nth(number)), out)?;
-        let all = try_refusal(alloc, call, wanted, (number, Refusal::From(number)), out)?;
+        let alone = wanted.alone && try_refusal(call, &wanted, Refusal::Nth(number), out)?;
+        let all = try_refusal(call, &wanted, Refusal::From(number), out)?;
         if !alone && !all {
             return Ok(());
         }
     }
-    writeln!(out, "  no end of its requests")
+    Ok(writeln!(out, "  no end of its requests")?)
+}
+
+// Writes what a call answers, with requests from a number on refused.
+fn answer<R: Reader>(call: &Call<'_, R>, trial: Trial<'_>) -> Outcome<Vec<u8>> {
+    let mut found = Vec::new(call.alloc);
+    if let Err(stop) = write_call(call, trial, &mut found) {
+        stop.write(&mut found)?;
+    }
+    Ok(found)
 }
 
 // Makes a call with a request refused, and where it was makes it again. Answers whether it was.
-fn try_refusal<C: Call>(
-    alloc: Global,
-    call: &C,
+fn try_refusal<R: Reader>(
+    call: &Call<'_, R>,
     wanted: &Wanted,
-    (number, refusal): (u64, Refusal),
+    refusal: Refusal,
     out: &mut Vec<u8>,
-) -> io::Result<bool> {
+) -> Outcome<bool> {
+    let alloc = call.alloc;
     let heaps = Heaps {
         failing: Failing::new(alloc, refusal),
         ample: Failing::new(alloc, Refusal::Never),
+    };
+    let number = match refusal {
+        Refusal::Nth(number) | Refusal::From(number) => number,
+        Refusal::Never => 0,
     };
     let trial = Trial {
         alloc,
         heaps: &heaps,
         number,
     };
-    let mut first = Vec::new(alloc);
-    call.write(trial, &mut first)?;
+    let first = answer(call, trial)?;
     let asked = heaps.failing.requests();
     let is_refused = number <= asked;
     let mut second = Vec::new(alloc);
@@ -78,7 +84,7 @@ fn try_refusal<C: Call>(
             Refusal::From(_) => asked.saturating_add(1),
             _ => u64::MAX,
         };
-        call.write(Trial { number, ..trial }, &mut second)?;
+        second = answer(call, Trial { number, ..trial })?;
     }
     judge(wanted, (number, refusal), asked, &first, &second, out)?;
     Ok(is_refused)

@@ -1,126 +1,134 @@
 //! Calls over a unit and its table.
 
 use crate::cursors::{Cursor, Raw};
-use crate::lines::{write_entry, write_outcome, write_values};
 use crate::runs::{write_cursor_run, write_tree_run};
 use crate::trees::{Tree, write_nodes};
 use crate::trial::{Heap, Trial};
 use crate::walks::write_walk;
 use gimli_base::{Abbreviations, Reader, ReaderOffset};
 use gimli_headers::first_false_sibling;
-use gimli_units::{DebuggingInformationEntry, UnitHeader, UnitOffset};
-use std::io::{self, Write};
-use test_tables::{Case, write_refusal};
+use gimli_units::{Attribute, AttributeValue, DebuggingInformationEntry, UnitHeader, UnitOffset};
+use std::io::Write;
+use test_tables::{Call, Outcome, Stop, write_counted};
 
-/// A unit and its table, and the words of a case.
+/// A unit and its table, and the call of a case.
 #[derive(Drop)]
-pub(crate) struct Stage<'s, 'h, R: Reader> {
+pub(crate) struct Stage<'s, 'c, 'h, R: Reader> {
+    pub(crate) call: &'s Call<'c, R>,
     pub(crate) trial: Trial<'h>,
-    pub(crate) case: &'s Case,
-    pub(crate) unit: &'s UnitHeader<R>,
-    pub(crate) table: &'s Abbreviations<Heap<'h>>,
+    pub(crate) unit: UnitHeader<R>,
+    pub(crate) table: Abbreviations<Heap<'h>>,
     /// The offset that is the first word after the call, or none where that is no number.
     pub(crate) start: Option<UnitOffset<R::Offset>>,
     /// The letters that are this word.
-    pub(crate) letters: &'s [u8],
+    pub(crate) letters: &'c [u8],
 }
 
-impl<'s, 'h, R: Reader> Stage<'s, 'h, R> {
+impl<'s, 'c, 'h, R: Reader> Stage<'s, 'c, 'h, R> {
     /// Makes the call of the case, and writes what it answers.
-    pub(crate) fn write(&self, out: &mut Vec<u8>) -> io::Result<()> {
-        match self.case.word(0) {
-            Some("entry") => self.write_entry(out),
-            Some("check") => self.write_check(out),
-            Some("raw") => self.write_raw(out),
-            Some("cursor") => self.write_cursor(&self.trial.heaps.failing, true, out),
-            Some("plain") => self.write_cursor(&self.trial.heaps.failing, false, out),
-            Some("clone") => self.write_cursor(&self.trial.heaps.ample, true, out),
-            Some("run_cursor") => write_cursor_run(self, true, out),
-            Some("run_plain") => write_cursor_run(self, false, out),
-            Some("run_tree") => write_tree_run(self, out),
-            Some("clone_tree") => self.write_tree(&self.trial.heaps.ample, out),
-            _ => self.write_tree(&self.trial.heaps.failing, out),
+    pub(crate) fn write(&self, out: &mut Vec<u8>) -> Outcome {
+        let heaps = self.trial.heaps;
+        match self.call.name() {
+            "entry" => self.write_entry(out),
+            "check" => self.write_check(out),
+            "raw" => self.write_raw(out),
+            "cursor" => self.write_cursor(&heaps.failing, true, out),
+            "plain" => self.write_cursor(&heaps.failing, false, out),
+            "clone" => self.write_cursor(&heaps.ample, true, out),
+            "run_cursor" => write_cursor_run(self, true, out),
+            "run_plain" => write_cursor_run(self, false, out),
+            "run_tree" => write_tree_run(self, out),
+            "clone_tree" => self.write_tree(&heaps.ample, out),
+            _ => self.write_tree(&heaps.failing, out),
         }
     }
 
     // Writes the entry at an offset.
-    fn write_entry(&self, out: &mut Vec<u8>) -> io::Result<()> {
+    fn write_entry(&self, out: &mut Vec<u8>) -> Outcome {
         let Some(offset) = self.start else {
-            return writeln!(out, "no offset");
+            return Err(Stop::Lacks("no offset"));
         };
-        match self
-            .unit
-            .entry(&self.trial.heaps.failing, self.table, offset)
-        {
-            Ok(entry) => {
-                write_outcome(out, Ok(true))?;
-                write_entry(out, Some(&entry))?;
-                write_values(out, entry.attrs())?;
-            }
-            Err(error) => write_refusal(out, error)?,
-        }
-        writeln!(out)
+        let heap = &self.trial.heaps.failing;
+        let entry = self.unit.entry(heap, &self.table, offset)?;
+        write!(out, "yes")?;
+        write_counted(Some(&entry), out)?;
+        write_values(entry.attrs(), out)?;
+        Ok(writeln!(out)?)
     }
 
     // Writes the first entry whose sibling reference is false.
-    fn write_check(&self, out: &mut Vec<u8>) -> io::Result<()> {
-        match first_false_sibling(&self.trial.heaps.failing, self.unit, self.table) {
-            Ok(None) => writeln!(out, "honest"),
-            Ok(Some(offset)) => {
+    fn write_check(&self, out: &mut Vec<u8>) -> Outcome {
+        let heap = &self.trial.heaps.failing;
+        match first_false_sibling(heap, &self.unit, &self.table)? {
+            None => writeln!(out, "honest")?,
+            Some(offset) => {
                 let offset = offset.0.into_u64();
-                writeln!(out, "false {offset:x}")
-            }
-            Err(error) => {
-                write_refusal(out, error)?;
-                writeln!(out)
+                writeln!(out, "false {offset:x}")?;
             }
         }
+        Ok(())
     }
 
     // Writes what is read one after the other.
-    fn write_raw(&self, out: &mut Vec<u8>) -> io::Result<()> {
+    fn write_raw(&self, out: &mut Vec<u8>) -> Outcome {
         let heap = &self.trial.heaps.failing;
-        match self.unit.entries_raw(self.table, None) {
-            Ok(raw) => {
-                let mut walk = Raw {
-                    raw,
-                    entry: DebuggingInformationEntry::null(heap),
-                    table: self.table,
-                    heap,
-                };
-                write_walk(self.trial, &mut walk, self.letters, out)
-            }
-            Err(error) => write_refusal(out, error),
-        }
+        let mut walk = Raw {
+            raw: self.unit.entries_raw(&self.table, None)?,
+            entry: DebuggingInformationEntry::null(heap),
+            table: &self.table,
+            heap,
+        };
+        Ok(write_walk(self.trial, &mut walk, self.letters, out)?)
     }
 
     // Writes the steps of a cursor that is made with an allocator, and cloned with the one that refuses.
-    fn write_cursor(&self, made: Heap<'h>, follows: bool, out: &mut Vec<u8>) -> io::Result<()> {
+    fn write_cursor(&self, made: Heap<'h>, follows: bool, out: &mut Vec<u8>) -> Outcome {
         let mut walk = Cursor {
             cursor: if follows {
-                self.unit.entries(made, self.table)
+                self.unit.entries(made, &self.table)
             } else {
-                self.unit.entries_plain(made, self.table)
+                self.unit.entries_plain(made, &self.table)
             },
             heap: &self.trial.heaps.failing,
         };
-        write_walk(self.trial, &mut walk, self.letters, out)
+        Ok(write_walk(self.trial, &mut walk, self.letters, out)?)
     }
 
-    // Writes the steps of a tree that is made with an allocator, and cloned with the one that refuses; or what it
-    // lends; or those of its walker.
-    fn write_tree(&self, made: Heap<'h>, out: &mut Vec<u8>) -> io::Result<()> {
+    // Writes the steps of a tree that is made with an allocator, and cloned with the one that refuses; or
+    // what it lends; or those of its walker.
+    fn write_tree(&self, made: Heap<'h>, out: &mut Vec<u8>) -> Outcome {
         let heap = &self.trial.heaps.failing;
-        match (
-            self.unit.entries_tree(made, self.table, None),
-            self.case.word(0),
-        ) {
-            (Ok(mut tree), Some("nodes")) => write_nodes(self.trial, &mut tree, out),
-            (Ok(tree), Some("walker")) => {
-                write_walk(self.trial, &mut tree.walk(heap), self.letters, out)
+        let mut tree = self.unit.entries_tree(made, &self.table, None)?;
+        match self.call.name() {
+            "nodes" => write_nodes(self.trial, &mut tree, out),
+            "walker" => {
+                let mut walk = tree.walk(heap);
+                Ok(write_walk(self.trial, &mut walk, self.letters, out)?)
             }
-            (Ok(tree), _) => write_walk(self.trial, &mut Tree { tree, heap }, self.letters, out),
-            (Err(error), _) => write_refusal(out, error),
+            _ => {
+                let mut walk = Tree { tree, heap };
+                Ok(write_walk(self.trial, &mut walk, self.letters, out)?)
+            }
         }
     }
+}
+
+/// Writes the values of attributes of one byte, and of references.
+pub(crate) fn write_values<R: Reader>(attributes: &[Attribute<R>], out: &mut Vec<u8>) -> Outcome {
+    write!(out, " has")?;
+    for attribute in attributes {
+        match attribute.raw_value() {
+            AttributeValue::Data1(byte) => write!(out, " {byte:x}")?,
+            AttributeValue::UnitRef(offset) => {
+                let offset = offset.0.into_u64();
+                write!(out, " to {offset:x}")?;
+            }
+            AttributeValue::String(text) => {
+                let length = text.len().into_u64();
+                write!(out, " text {length}")?;
+            }
+            _ => write!(out, " other")?,
+        }
+    }
+    Ok(())
 }

@@ -2,33 +2,18 @@
 
 use std::alloc::{AllocError, Global};
 
-// Of each call: how it tells that memory was refused; whether the case itself makes the call again, so that more may be
-// asked for; and whether a request is refused alone too: the words of the program ask for less room where room for the
-// steps is refused, and go on with that.
-const MARKS: [(&str, &str, bool, bool); 12] = [
-    ("words", "error 24\nstatus 1", true, false),
-    ("text", "error 24\nstatus 1", false, true),
-    ("units", "stopped", false, true),
-    ("type_units", "stopped", false, true),
-    ("ranges", "stopped", false, true),
-    ("locations", "stopped", false, true),
-    ("run_cursor", "stopped", false, true),
-    ("run_plain", "stopped", false, true),
-    ("run_tree", "stopped", false, true),
-    ("table", "refused 24", false, true),
-    ("entry", "refused 24", false, true),
-    ("check", "refused 24", false, true),
-];
-
-// What `MARKS` says of a call. One that it does not name answers the refusal, goes on, and is refused alone too.
-fn mark_of(call: Option<&str>) -> (&'static str, bool, bool) {
-    let call = call.unwrap_or("");
-    for (name, words, goes_on, alone) in &MARKS {
-        if *name == call {
-            return (words, *goes_on, *alone);
-        }
+// Of a call: how it tells that memory was refused; whether the case itself makes the call again, so that
+// more may be asked for; and whether a request is refused alone too: the words of the program ask for less
+// room where room for the steps is refused, and go on with that.
+fn mark_of(call: &str) -> (&'static str, bool, bool) {
+    match call {
+        "words" => ("error 24\nstatus 1", true, false),
+        "text" => ("error 24\nstatus 1", false, true),
+        "units" | "type_units" | "ranges" | "locations" => ("stopped", false, true),
+        "run_cursor" | "run_plain" | "run_tree" => ("stopped", false, true),
+        "table" | "entry" | "check" => ("refused 24", false, true),
+        _ => ("refused 24", true, true),
     }
-    ("refused 24", true, true)
 }
 
 /// The answer of a case: all lines of the call, and what it says of its requests for memory.
@@ -36,8 +21,8 @@ fn mark_of(call: Option<&str>) -> (&'static str, bool, bool) {
 pub(crate) struct Wanted {
     /// The lines, each with its end.
     pub(crate) text: String,
-    /// What is told where each request is refused: `0` where there are none, and `..` for the usual words, and for any
-    /// that follow.
+    /// What is told where each request is refused: `0` where there are none, and `..` for the usual words,
+    /// and for any that follow.
     pub(crate) asks: String,
     /// The usual words, which stand after whole lines.
     pub(crate) words: String,
@@ -48,12 +33,9 @@ pub(crate) struct Wanted {
 }
 
 impl Wanted {
-    /// The answer of a call that a table writes: lines joined by `; `, and after `asks ` what is told of each request.
-    pub(crate) fn new(
-        alloc: Global,
-        answer: &str,
-        call: Option<&str>,
-    ) -> Result<Wanted, AllocError> {
+    /// The answer of a call that a table writes: lines joined by `; `, and after `asks ` what is told of
+    /// each request.
+    pub(crate) fn new(alloc: Global, answer: &str, call: &str) -> Result<Wanted, AllocError> {
         let (lines, asks) = answer.split_once("asks ").unwrap_or((answer, ".."));
         let mut text = String::new(alloc);
         for line in lines.split("; ") {
@@ -74,8 +56,8 @@ impl Wanted {
         })
     }
 
-    /// What is told where the request of a number is refused, and whether so many are made at least; or none where
-    /// so many are not made.
+    /// What is told where the request of a number is refused, and whether so many are made at least; or
+    /// none where so many are not made.
     pub(crate) fn told_at(&self, number: u64) -> Option<(&str, bool)> {
         let mut left = number;
         for told in self.asks.split(", ") {
@@ -105,8 +87,8 @@ impl Wanted {
         }
     }
 
-    /// Whether a text is that of a refused call: whole lines from the front, what is told, and after that nothing, or
-    /// the lines that the call answers when it is made again.
+    /// Whether a text is that of a refused call: whole lines from the front, what is told, and after that
+    /// nothing, or the lines that the call answers when it is made again.
     pub(crate) fn is_cut(&self, told: &str, found: &str, alone: bool) -> bool {
         let Some((front, rest)) = found.split_once(told) else {
             return false;

@@ -5,4 +5,4 @@ mod error;
 mod newtypes;
 mod offset;
 mod readers;
-mod sections;
+pub(crate) mod sections;

@@ -3,28 +3,40 @@
 use crate::values::{write_bytes, write_value};
 use gimli_base::{
     Abbreviations, AttributeSpecification, DW_FORM_implicit_const, DebugAbbrev, DebugAbbrevOffset,
-    DebugStr, DwAt, DwForm, Encoding, Error, LittleEndian, Reader, ReaderOffset,
+    DebugStr, DwAt, DwForm, Encoding, Error, LittleEndian, Reader, ReaderOffset, Result,
 };
-use gimli_units::{Attribute, AttributeValue, EntriesRaw, UnitOffset};
+use gimli_units::{Attribute, EntriesRaw, UnitOffset};
 use std::alloc::Global;
-use std::io::{self, Write};
-use test_tables::{Case, write_refusal};
+use std::io::Write;
+use test_tables::{Call, Outcome, Stop, write_refusal};
 
-/// A table without declarations.
-pub(crate) fn empty_table(alloc: Global) -> Option<Abbreviations<Global>> {
-    DebugAbbrev::new(&[0], LittleEndian)
-        .abbreviations(alloc, DebugAbbrevOffset(0))
-        .ok()
+/// A reader of entries.
+pub(crate) type Raw<'abbrev, R> = EntriesRaw<'abbrev, R, Global>;
+
+/// The bytes of attributes, how they are read, and a table without declarations.
+#[derive(Drop)]
+pub(crate) struct Input<R: Reader> {
+    pub(crate) reader: R,
+    encoding: Encoding,
+    table: Abbreviations<Global>,
 }
 
-/// A reader of the attributes in an input, which begins at the offset 0.
-pub(crate) fn raw_over<'abbrev, R: Reader>(
-    input: &R,
-    encoding: Encoding,
-    table: &'abbrev Abbreviations<Global>,
-) -> EntriesRaw<'abbrev, R, Global> {
-    let zero = UnitOffset(R::Offset::from_u8(0));
-    EntriesRaw::new(input.copy(), encoding, table, zero)
+impl<R: Reader> Input<R> {
+    /// The first section of a case, whose encoding begins at an index of the words.
+    pub(crate) fn new(call: &Call<'_, R>, index: usize) -> Outcome<Input<R>> {
+        let section = DebugAbbrev::new(&[0], LittleEndian);
+        Ok(Input {
+            reader: call.section(0)?,
+            encoding: call.encoding(index)?,
+            table: section.abbreviations(call.alloc, DebugAbbrevOffset(0))?,
+        })
+    }
+
+    /// A reader of the attributes, which begins at the offset 0.
+    pub(crate) fn raw(&self) -> Raw<'_, R> {
+        let zero = UnitOffset(R::Offset::from_u8(0));
+        EntriesRaw::new(self.reader.copy(), self.encoding, &self.table, zero)
+    }
 }
 
 /// A code of 16 bits, from a word.
@@ -42,54 +54,44 @@ pub(crate) fn specification(
     constant: &str,
 ) -> Option<AttributeSpecification> {
     let (name, form) = (DwAt(name), DwForm(form));
-    match (form, constant) {
-        (DW_FORM_implicit_const, _) => {
+    match form {
+        DW_FORM_implicit_const => {
             let constant = constant.parse::<i64>().ok()?;
             Some(AttributeSpecification::new(name, form, Some(constant)))
         }
-        (_, "-") => Some(AttributeSpecification::new(name, form, None)),
-        _ => None,
+        _ => Some(AttributeSpecification::new(name, form, None)),
     }
 }
 
 // The declaration that the words after the call give.
-fn parse_specification(case: &Case) -> Option<AttributeSpecification> {
-    let name = parse_code(case.word(1)?)?;
-    let form = parse_code(case.word(2)?)?;
-    specification(name, form, case.word(3)?)
+fn specification_of<R: Reader>(call: &Call<'_, R>) -> Option<AttributeSpecification> {
+    let name = parse_code(call.case.word(1)?)?;
+    let form = parse_code(call.case.word(2)?)?;
+    specification(name, form, call.case.word(3)?)
 }
 
 /// Writes what reading an attribute answers, and then what passing it does.
-pub(crate) fn write_attribute<R: Reader>(
-    out: &mut Vec<u8>,
-    alloc: Global,
-    case: &Case,
-    sections: &[R],
-    inline: bool,
-) -> io::Result<()> {
-    let (Some(specification), Some(encoding)) = (parse_specification(case), case.encoding(4)) else {
-        return write!(out, "no case");
+pub(crate) fn write_attribute<R: Reader>(call: &Call<'_, R>, out: &mut Vec<u8>) -> Outcome {
+    let input = Input::new(call, 4)?;
+    let Some(specification) = specification_of(call) else {
+        return Err(Stop::Lacks("no case"));
     };
-    let (Some(input), Some(table)) = (sections.first(), empty_table(alloc)) else {
-        return write!(out, "no case");
-    };
-    let mut raw = raw_over(input, encoding, &table);
-    write_read(out, alloc, &mut raw, specification, inline)?;
+    let mut raw = input.raw();
+    match read_by(&mut raw, specification, call.name() == "inline") {
+        Ok(attribute) => write_shown(call.alloc, &attribute, specification, out)?,
+        Err(error) => write_refusal(out, error)?,
+    }
+    write_next(&raw, out)?;
     write!(out, "skip ")?;
-    write_passed(
-        out,
-        &mut raw_over(input, encoding, &table),
-        input,
-        &[specification],
-    )
+    write_passed(&mut input.raw(), &input.reader, &[specification], out)
 }
 
 /// Reads an attribute by either call.
 pub(crate) fn read_by<R: Reader>(
-    raw: &mut EntriesRaw<'_, R, Global>,
+    raw: &mut Raw<'_, R>,
     specification: AttributeSpecification,
     inline: bool,
-) -> gimli_base::Result<Attribute<R>> {
+) -> Result<Attribute<R>> {
     if inline {
         raw.read_attribute_inline(specification)
     } else {
@@ -97,248 +99,198 @@ pub(crate) fn read_by<R: Reader>(
     }
 }
 
-// Writes what reading an attribute answers, and where it ends.
-fn write_read<R: Reader>(
-    out: &mut Vec<u8>,
-    alloc: Global,
-    raw: &mut EntriesRaw<'_, R, Global>,
-    specification: AttributeSpecification,
-    inline: bool,
-) -> io::Result<()> {
-    match read_by(raw, specification, inline) {
-        Ok(attribute) => {
-            write_declared(out, &attribute, specification)?;
-            write_shown(out, alloc, &attribute)?;
-        }
-        Err(error) => write_refusal(out, error)?,
-    }
-    write_next(out, raw)
-}
-
-// Writes the name and the form of an attribute where they are not those that are declared.
-fn write_declared<R: Reader>(
-    out: &mut Vec<u8>,
-    attribute: &Attribute<R>,
-    specification: AttributeSpecification,
-) -> io::Result<()> {
-    let (name, form) = (attribute.name(), attribute.form());
-    if name == specification.name() && form == specification.form() {
-        return Ok(());
-    }
-    write!(out, "declared {name:?} {form:?} ")
-}
-
 /// Writes the offset of what is read next, and ends the line.
-pub(crate) fn write_next<R: Reader>(
-    out: &mut Vec<u8>,
-    raw: &EntriesRaw<'_, R, Global>,
-) -> io::Result<()> {
+pub(crate) fn write_next<R: Reader>(raw: &Raw<'_, R>, out: &mut Vec<u8>) -> Outcome {
     let next = raw.next_offset().0.into_u64();
-    writeln!(out, " next {next}")
+    Ok(writeln!(out, " next {next}")?)
 }
 
-/// Writes what passing attributes answers, and where it ends.
+/// Writes what passing attributes answers, a refusal of missing bytes without its place, which may be any
+/// of the input's or its end; and where it ends.
 pub(crate) fn write_passed<R: Reader>(
-    out: &mut Vec<u8>,
-    raw: &mut EntriesRaw<'_, R, Global>,
+    raw: &mut Raw<'_, R>,
     input: &R,
     specifications: &[AttributeSpecification],
-) -> io::Result<()> {
-    if let Err(error) = raw.skip_attributes(specifications) {
-        write_refused_pass(out, input, error)?;
-        write!(out, " ")?;
+    out: &mut Vec<u8>,
+) -> Outcome {
+    match raw.skip_attributes(specifications) {
+        Ok(()) => {}
+        Err(Error::UnexpectedEof(place)) if input.lookup_offset_id(place).is_some() => {
+            write!(out, "refused 1 ")?;
+        }
+        Err(error) => {
+            write_refusal(out, error)?;
+            write!(out, " ")?;
+        }
     }
     let next = raw.next_offset().0.into_u64();
-    writeln!(out, "next {next}")
+    Ok(writeln!(out, "next {next}")?)
 }
 
-// Writes a refusal, that of missing bytes without its place, which may be any of the input's, or its end.
-fn write_refused_pass<R: Reader>(out: &mut Vec<u8>, input: &R, error: Error) -> io::Result<()> {
-    match error {
-        Error::UnexpectedEof(place) if input.lookup_offset_id(place).is_some() => {
-            write!(out, "refused 1")
-        }
-        _ => write_refusal(out, error),
-    }
-}
-
-// Writes an attribute: the value that its form shows, that of its name where it is another, and the conversions.
+// Writes an attribute: its name and form where they are not those that are declared, the value that its
+// form shows, that of its name where it is another, and the conversions.
 fn write_shown<R: Reader>(
-    out: &mut Vec<u8>,
     alloc: Global,
     attribute: &Attribute<R>,
-) -> io::Result<()> {
-    let mut raw = Vec::new(alloc);
-    write_value(&mut raw, &attribute.raw_value())?;
-    let mut normal = Vec::new(alloc);
-    write_value(&mut normal, &attribute.value())?;
-    out.write_all(&raw)?;
-    if normal != raw {
-        write!(out, " value ")?;
-        out.write_all(&normal)?;
+    specification: AttributeSpecification,
+    out: &mut Vec<u8>,
+) -> Outcome {
+    let (name, form) = (attribute.name(), attribute.form());
+    if name != specification.name() || form != specification.form() {
+        write!(out, "declared {name:?} {form:?} ")?;
     }
-    write_both_conversions(out, alloc, attribute)
+    let mut raw = Vec::new(alloc);
+    write_value(&attribute.raw_value(), &mut raw)?;
+    let mut normal = Vec::new(alloc);
+    write_value(&attribute.value(), &mut normal)?;
+    write_either((&raw, &normal), " value ", out)?;
+    write_conversions(alloc, attribute, out)
 }
 
-// Writes the conversions of an attribute, and those of its value where they are others.
-fn write_both_conversions<R: Reader>(
-    out: &mut Vec<u8>,
-    alloc: Global,
-    attribute: &Attribute<R>,
-) -> io::Result<()> {
-    let mut first = Vec::new(alloc);
-    write_conversions(&mut first, attribute)?;
-    let mut second = Vec::new(alloc);
-    write_conversions_of_value(&mut second, &attribute.raw_value())?;
-    write_either(out, &first, &second)
-}
-
-// Writes what an attribute answers, and what its value does where it is another.
-fn write_either(out: &mut Vec<u8>, first: &[u8], second: &[u8]) -> io::Result<()> {
+// Writes the first answer, and the second where it is another.
+fn write_either((first, second): (&[u8], &[u8]), name: &str, out: &mut Vec<u8>) -> Outcome {
     out.write_all(first)?;
     if first != second {
-        write!(out, " but of the value")?;
+        write!(out, "{name}")?;
         out.write_all(second)?;
     }
     Ok(())
 }
 
-// Writes the conversions of an attribute that there are.
-fn write_conversions<R: Reader>(out: &mut Vec<u8>, attribute: &Attribute<R>) -> io::Result<()> {
-    write_number(out, "u8", attribute.u8_value().map(u64::from))?;
-    write_number(out, "u16", attribute.u16_value().map(u64::from))?;
-    write_number(out, "udata", attribute.udata_value())?;
-    if let Some(number) = attribute.sdata_value() {
-        write!(out, " sdata {number}")?;
-    }
-    write_number(
-        out,
-        "offset",
-        attribute.offset_value().map(|offset| offset.into_u64()),
-    )?;
-    match attribute.exprloc_value() {
-        Some(expression) => write_expression(out, &expression.0),
-        None => Ok(()),
-    }
-}
-
-// Writes the conversions of a value that there are.
-fn write_conversions_of_value<R: Reader>(
+// Writes the conversions of an attribute that there are, and those of its value where they are others.
+fn write_conversions<R: Reader>(
+    alloc: Global,
+    attribute: &Attribute<R>,
     out: &mut Vec<u8>,
-    value: &AttributeValue<R>,
-) -> io::Result<()> {
-    write_number(out, "u8", value.u8_value().map(u64::from))?;
-    write_number(out, "u16", value.u16_value().map(u64::from))?;
-    write_number(out, "udata", value.udata_value())?;
-    if let Some(number) = value.sdata_value() {
-        write!(out, " sdata {number}")?;
-    }
-    write_number(
-        out,
-        "offset",
-        value.offset_value().map(|offset| offset.into_u64()),
-    )?;
-    match value.exprloc_value() {
-        Some(expression) => write_expression(out, &expression.0),
-        None => Ok(()),
-    }
+) -> Outcome {
+    let value = attribute.raw_value();
+    let (own, other) = (attribute.u8_value(), value.u8_value());
+    write_number("u8", (own.map(i128::from), other.map(i128::from)), out)?;
+    let (own, other) = (attribute.u16_value(), value.u16_value());
+    write_number("u16", (own.map(i128::from), other.map(i128::from)), out)?;
+    let (own, other) = (attribute.udata_value(), value.udata_value());
+    write_number("udata", (own.map(i128::from), other.map(i128::from)), out)?;
+    let (own, other) = (attribute.sdata_value(), value.sdata_value());
+    write_number("sdata", (own.map(i128::from), other.map(i128::from)), out)?;
+    let own = attribute
+        .offset_value()
+        .map(|offset| i128::from(offset.into_u64()));
+    let other = value
+        .offset_value()
+        .map(|offset| i128::from(offset.into_u64()));
+    write_number("offset", (own, other), out)?;
+    let own = attribute.exprloc_value().map(|expression| expression.0);
+    let other = value.exprloc_value().map(|expression| expression.0);
+    write_reader(alloc, (" exprloc ", ""), (own, other), out)
 }
 
-// Writes the bytes of an expression after their name.
-fn write_expression<R: Reader>(out: &mut Vec<u8>, bytes: &R) -> io::Result<()> {
-    write!(out, " exprloc ")?;
-    write_bytes(out, bytes)
+// Writes a number after its name, if there is one, and that of the value where it is another.
+fn write_number(
+    name: &str,
+    (own, other): (Option<i128>, Option<i128>),
+    out: &mut Vec<u8>,
+) -> Outcome {
+    if let Some(number) = own {
+        write!(out, " {name} {number}")?;
+    }
+    if own != other {
+        write!(out, " but of the value {other:?}")?;
+    }
+    Ok(())
 }
 
-// Writes a number after its name, if there is one.
-fn write_number(out: &mut Vec<u8>, name: &str, number: Option<u64>) -> io::Result<()> {
-    match number {
-        Some(number) => write!(out, " {name} {number}"),
-        None => Ok(()),
+// Writes the bytes that an attribute has after a first word, or a second word where it has none; and those
+// of its value where they are others.
+fn write_reader<R: Reader>(
+    alloc: Global,
+    words: (&str, &str),
+    (own, other): (Option<R>, Option<R>),
+    out: &mut Vec<u8>,
+) -> Outcome {
+    let own = text_of(alloc, words, own)?;
+    let other = text_of(alloc, words, other)?;
+    write_either((&own, &other), " but of the value ", out)
+}
+
+// The bytes of a reader after a first word, or a second word where there is none.
+fn text_of<R: Reader>(
+    alloc: Global,
+    (some, none): (&str, &str),
+    reader: Option<R>,
+) -> Outcome<Vec<u8>> {
+    let mut text = Vec::new(alloc);
+    match reader {
+        Some(reader) => {
+            write!(text, "{some}")?;
+            write_bytes(&reader, &mut text)?;
+        }
+        None => write!(text, "{none}")?,
     }
+    Ok(text)
 }
 
 /// Writes the debug text of a value as its name makes it, or of a refusal.
-pub(crate) fn write_debug<R: Reader>(
-    out: &mut Vec<u8>,
-    alloc: Global,
-    case: &Case,
-    sections: &[R],
-) -> io::Result<()> {
-    let (Some(specification), Some(encoding)) = (parse_specification(case), case.encoding(4)) else {
-        return write!(out, "no case");
+pub(crate) fn write_debug<R: Reader>(call: &Call<'_, R>, out: &mut Vec<u8>) -> Outcome {
+    let input = Input::new(call, 4)?;
+    let Some(specification) = specification_of(call) else {
+        return Err(Stop::Lacks("no case"));
     };
-    let (Some(input), Some(table)) = (sections.first(), empty_table(alloc)) else {
-        return write!(out, "no case");
-    };
-    let mut raw = raw_over(input, encoding, &table);
+    let mut raw = input.raw();
     match raw.read_attribute(specification) {
         Ok(attribute) => {
             let value = attribute.value();
-            write!(out, "{value:?}")
+            write!(out, "{value:?}")?;
         }
-        Err(error) => write!(out, "{error:?}"),
+        Err(error) => write!(out, "{error:?}")?,
     }
+    Ok(())
 }
 
 /// Writes the number of bytes that a form has under an encoding, if the bytes do not tell it.
-pub(crate) fn write_size(out: &mut Vec<u8>, case: &Case) -> io::Result<()> {
-    let (Some(specification), Some(encoding)) = (parse_specification(case), case.encoding(4)) else {
-        return write!(out, "no case");
+pub(crate) fn write_size<R: Reader>(call: &Call<'_, R>, out: &mut Vec<u8>) -> Outcome {
+    let encoding = call.encoding(4)?;
+    let Some(specification) = specification_of(call) else {
+        return Err(Stop::Lacks("no case"));
     };
     match specification.size(encoding) {
-        Some(size) => write!(out, "{size}"),
-        None => write!(out, "none"),
-    }
-}
-
-/// Writes the text that an attribute stands for, the text without a supplementary file, and the text with one.
-pub(crate) fn write_texts<R: Reader>(
-    out: &mut Vec<u8>,
-    alloc: Global,
-    case: &Case,
-    sections: &[R],
-) -> io::Result<()> {
-    let (Some(specification), Some(encoding)) = (parse_specification(case), case.encoding(4)) else {
-        return write!(out, "no case");
-    };
-    let (Some(input), Some(table)) = (sections.first(), empty_table(alloc)) else {
-        return write!(out, "no case");
-    };
-    let (Some(own), Some(other)) = (sections.get(1), sections.get(2)) else {
-        return write!(out, "no case");
-    };
-    let (own, other) = (DebugStr::from(own.copy()), DebugStr::from(other.copy()));
-    match raw_over(input, encoding, &table).read_attribute(specification) {
-        Ok(attribute) => write_both_texts(out, alloc, &attribute, (&own, &other)),
-        Err(error) => write_refusal(out, error),
-    }
-}
-
-// Writes the texts of an attribute, and those of its value where they are others.
-fn write_both_texts<R: Reader>(
-    out: &mut Vec<u8>,
-    alloc: Global,
-    attribute: &Attribute<R>,
-    (own, other): (&DebugStr<R>, &DebugStr<R>),
-) -> io::Result<()> {
-    let mut first = Vec::new(alloc);
-    write_text(&mut first, attribute.string_value(own))?;
-    write_text(&mut first, attribute.string_value_sup(own, None))?;
-    write_text(&mut first, attribute.string_value_sup(own, Some(other)))?;
-    let value = attribute.raw_value();
-    let mut second = Vec::new(alloc);
-    write_text(&mut second, value.string_value(own))?;
-    write_text(&mut second, value.string_value_sup(own, None))?;
-    write_text(&mut second, value.string_value_sup(own, Some(other)))?;
-    write_either(out, &first, &second)
-}
-
-// Writes a text in a line of its own.
-fn write_text<R: Reader>(out: &mut Vec<u8>, text: Option<R>) -> io::Result<()> {
-    match text {
-        Some(text) => write_bytes(out, &text)?,
+        Some(size) => write!(out, "{size}")?,
         None => write!(out, "none")?,
     }
-    writeln!(out)
+    Ok(())
+}
+
+/// Writes the text that an attribute stands for, the text without a supplementary file, and the text with
+/// one; and those of its value where they are others.
+pub(crate) fn write_texts<R: Reader>(call: &Call<'_, R>, out: &mut Vec<u8>) -> Outcome {
+    let input = Input::new(call, 4)?;
+    let Some(specification) = specification_of(call) else {
+        return Err(Stop::Lacks("no case"));
+    };
+    let mut raw = input.raw();
+    let attribute = raw.read_attribute(specification)?;
+    let value = attribute.raw_value();
+    let own = DebugStr::from(call.section(1)?);
+    let other = DebugStr::from(call.section(2)?);
+    let text = (attribute.string_value(&own), value.string_value(&own));
+    write_text(call.alloc, text, out)?;
+    let text = (
+        attribute.string_value_sup(&own, None),
+        value.string_value_sup(&own, None),
+    );
+    write_text(call.alloc, text, out)?;
+    let text = (
+        attribute.string_value_sup(&own, Some(&other)),
+        value.string_value_sup(&own, Some(&other)),
+    );
+    write_text(call.alloc, text, out)
+}
+
+// Writes the text of an attribute, and that of its value where it is another, in a line of its own.
+fn write_text<R: Reader>(
+    alloc: Global,
+    texts: (Option<R>, Option<R>),
+    out: &mut Vec<u8>,
+) -> Outcome {
+    write_reader(alloc, ("", "none"), texts, out)?;
+    Ok(writeln!(out)?)
 }

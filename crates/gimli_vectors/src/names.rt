@@ -1,47 +1,34 @@
 //! What many names make of the same bytes.
 
-use crate::attributes::{empty_table, parse_code, raw_over, specification};
+use crate::attributes::{Input, parse_code, specification};
 use crate::values::write_value;
-use gimli_base::{Abbreviations, Encoding, Reader};
-use std::alloc::Global;
-use std::io::{self, Write};
-use test_tables::{Case, write_refusal};
+use gimli_base::{AttributeSpecification, Reader};
+use std::io::Write;
+use test_tables::{Call, Outcome, Stop, write_refusal};
 
-// A form, and the bytes that are read under each name.
-#[derive(Drop)]
-struct Given<'a, R: Reader> {
-    input: &'a R,
-    form: u16,
-    encoding: Encoding,
-    table: &'a Abbreviations<Global>,
-    // whether the value is that of the name, or else that of the form
-    normal: bool,
-}
-
-/// Writes the value that the first name gives, and that of each other name whose value is another.
-pub(crate) fn write_names<R: Reader>(
-    out: &mut Vec<u8>,
-    alloc: Global,
-    case: &Case,
-    sections: &[R],
-    normal: bool,
-) -> io::Result<()> {
-    let (Some(form), Some(encoding)) = (case.word(1).and_then(parse_code), case.encoding(2)) else {
-        return write!(out, "no case");
-    };
-    let (Some(input), Some(table)) = (sections.first(), empty_table(alloc)) else {
-        return write!(out, "no case");
-    };
-    let given = Given {
-        input,
-        form,
-        encoding,
-        table: &table,
-        normal,
-    };
-    let mut first = Vec::new(alloc);
-    for word in case.words.iter().skip(5) {
-        write_range(out, alloc, &given, word, &mut first)?;
+/// Writes the value that the first name gives, and that of each other name whose value is another; the
+/// value is that of the name, or else that of the form.
+pub(crate) fn write_names<R: Reader>(call: &Call<'_, R>, out: &mut Vec<u8>) -> Outcome {
+    let normal = call.name() == "names";
+    let input = Input::new(call, 2)?;
+    let form = call.case.word(1).and_then(parse_code).unwrap_or(0);
+    let mut first = Vec::new(call.alloc);
+    for word in call.case.words.iter().skip(5) {
+        let (low, high) = parse_range(word).ok_or(Stop::Lacks("no name"))?;
+        for name in low..=high {
+            let mut found = Vec::new(call.alloc);
+            let Some(specification) = specification(name, form, "-") else {
+                return Err(Stop::Lacks("no case"));
+            };
+            write_read(&input, specification, normal, &mut found)?;
+            if first.is_empty() {
+                out.write_all(&found)?;
+                first = found;
+            } else if found != first {
+                write!(out, "\n{name:x} ")?;
+                out.write_all(&found)?;
+            }
+        }
     }
     Ok(())
 }
@@ -52,44 +39,16 @@ fn parse_range(word: &str) -> Option<(u16, u16)> {
     Some((parse_code(low)?, parse_code(high)?))
 }
 
-// Writes the value of each name of a word that is not the first value. Where there was none, the first is written.
-fn write_range<R: Reader>(
+// Writes the value of an attribute.
+fn write_read<R: Reader>(
+    input: &Input<R>,
+    specification: AttributeSpecification,
+    normal: bool,
     out: &mut Vec<u8>,
-    alloc: Global,
-    given: &Given<'_, R>,
-    word: &str,
-    first: &mut Vec<u8>,
-) -> io::Result<()> {
-    let Some((low, high)) = parse_range(word) else {
-        return write!(out, "no name");
-    };
-    for name in low..=high {
-        let mut found = Vec::new(alloc);
-        write_value_of_name(&mut found, given, name)?;
-        if first.is_empty() {
-            out.write_all(&found)?;
-            *first = found;
-        } else if found != *first {
-            write!(out, "\n{name:x} ")?;
-            out.write_all(&found)?;
-        }
-    }
-    Ok(())
-}
-
-// Writes the value that is read under a name.
-fn write_value_of_name<R: Reader>(
-    out: &mut Vec<u8>,
-    given: &Given<'_, R>,
-    name: u16,
-) -> io::Result<()> {
-    let Some(specification) = specification(name, given.form, "-") else {
-        return write!(out, "no case");
-    };
-    let mut raw = raw_over(given.input, given.encoding, given.table);
-    match raw.read_attribute(specification) {
-        Ok(attribute) if given.normal => write_value(out, &attribute.value()),
-        Ok(attribute) => write_value(out, &attribute.raw_value()),
-        Err(error) => write_refusal(out, error),
+) -> Outcome {
+    match input.raw().read_attribute(specification) {
+        Ok(attribute) if normal => write_value(&attribute.value(), out),
+        Ok(attribute) => write_value(&attribute.raw_value(), out),
+        Err(error) => Ok(write_refusal(out, error)?),
     }
 }

@@ -2,62 +2,46 @@
 
 use gimli_base::{Reader, ReaderOffset};
 use gimli_units::{Attribute, AttributeValue};
-use std::io::{self, Write};
+use std::io::Write;
+use test_tables::{Outcome, hex_of};
 
 /// Writes the bytes of a reader: the place of the first, and all in hexadecimal, or `-` where there are none.
-pub(crate) fn write_bytes<R: Reader>(out: &mut Vec<u8>, reader: &R) -> io::Result<()> {
-    let place = reader.offset_id().0;
-    write!(out, "{place}:")?;
-    if reader.is_empty() {
-        return write!(out, "-");
-    }
-    let mut rest = reader.copy();
-    for _ in 0..reader.len().into_u64() {
-        match rest.read_u8() {
-            Ok(byte) => write!(out, "{byte:02x}")?,
-            Err(_) => return write!(out, "??"),
+pub(crate) fn write_bytes<R: Reader>(reader: &R, out: &mut Vec<u8>) -> Outcome {
+    hex_of(out, reader, ":")
+}
+
+// Writes the name of a value that is bytes, and these.
+fn write_named<R: Reader>(name: &str, reader: &R, out: &mut Vec<u8>) -> Outcome {
+    write!(out, "{name} ")?;
+    write_bytes(reader, out)
+}
+
+/// Writes a value: the name of its variant, and what it holds.
+pub(crate) fn write_value<R: Reader>(value: &AttributeValue<R>, out: &mut Vec<u8>) -> Outcome {
+    match value {
+        AttributeValue::Block(bytes) => return write_named("Block", bytes, out),
+        AttributeValue::String(bytes) => return write_named("String", bytes, out),
+        AttributeValue::Exprloc(expression) => return write_named("Exprloc", &expression.0, out),
+        AttributeValue::Data16(number) => write!(out, "Data16 {number}")?,
+        AttributeValue::Sdata(number) => write!(out, "Sdata {number}")?,
+        AttributeValue::Flag(holds) => write!(out, "Flag {holds}")?,
+        AttributeValue::DebugAddrIndexOffset(index, offset) => {
+            let index = index.0.into_u64();
+            write!(out, "DebugAddrIndexOffset {index} {offset}")?;
+        }
+        _ => {
+            let (name, number) = number_of(value);
+            write!(out, "{name} {number}")?;
         }
     }
     Ok(())
 }
 
-// Writes the name of a value that is bytes, and these.
-fn write_named<R: Reader>(out: &mut Vec<u8>, name: &str, reader: &R) -> io::Result<()> {
-    write!(out, "{name} ")?;
-    write_bytes(out, reader)
-}
-
-/// Writes a value: the name of its variant, and what it holds.
-pub(crate) fn write_value<R: Reader>(
-    out: &mut Vec<u8>,
-    value: &AttributeValue<R>,
-) -> io::Result<()> {
-    match value {
-        AttributeValue::Block(bytes) => write_named(out, "Block", bytes),
-        AttributeValue::String(bytes) => write_named(out, "String", bytes),
-        AttributeValue::Exprloc(expression) => write_named(out, "Exprloc", &expression.0),
-        AttributeValue::Data16(number) => write!(out, "Data16 {number}"),
-        AttributeValue::Sdata(number) => write!(out, "Sdata {number}"),
-        AttributeValue::Flag(holds) => write!(out, "Flag {holds}"),
-        AttributeValue::DebugAddrIndexOffset(index, offset) => {
-            let index = index.0.into_u64();
-            write!(out, "DebugAddrIndexOffset {index} {offset}")
-        }
-        _ => {
-            let (name, number) = number_of(value);
-            write!(out, "{name} {number}")
-        }
-    }
-}
-
 /// Writes an attribute: name, form, and the value that its form shows.
-pub(crate) fn write_parts<R: Reader>(
-    out: &mut Vec<u8>,
-    attribute: &Attribute<R>,
-) -> io::Result<()> {
+pub(crate) fn write_parts<R: Reader>(attribute: &Attribute<R>, out: &mut Vec<u8>) -> Outcome {
     let (name, form) = (attribute.name().0, attribute.form().0);
     write!(out, "{name:x}:{form:x} ")?;
-    write_value(out, &attribute.raw_value())
+    write_value(&attribute.raw_value(), out)
 }
 
 // The name of a value's variant, and its number.

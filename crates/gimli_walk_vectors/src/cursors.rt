@@ -1,192 +1,131 @@
 //! The answers of cursors.
 
-use crate::cursor_lines::{
-    Place, place_of, write_beginning, write_next, write_reads, write_text_line, write_whole_line,
-};
-use crate::sections::{Sections, start_of};
-use crate::steps::parse_steps;
-use gimli_base::{Abbreviations, Reader, ReaderOffset, Result as Answer};
-use gimli_units::{EntriesCursor, UnitHeader};
-use gimli_walk::{CursorAnswer, CursorStep, Run, run_cursor, run_cursor_plain};
+use crate::runs::{write_another, write_stop};
+use crate::units::{first_unit, parse_steps, write_status};
+use gimli_base::{Reader, ReaderOffset, Result};
+use gimli_units::{DebuggingInformationEntry, EntriesCursor, UnitOffset};
+use gimli_walk::{CursorAnswer, Run, run_cursor, run_cursor_plain};
 use std::alloc::Global;
-use std::io::{self, Write};
-use test_tables::{Case, write_refusal};
+use std::io::Write;
+use test_tables::{Call, Outcome, Place, Stop, take_step, write_counted, write_outcome};
 
 type Cursor<'table, R> = EntriesCursor<'table, R, Global>;
 
-// Takes a step.
-fn take<R: Reader>(cursor: &mut Cursor<'_, R>, step: CursorStep) -> Answer<bool> {
-    match step {
-        CursorStep::NextEntry => cursor.next_entry(),
-        CursorStep::NextDfs => match cursor.next_dfs() {
-            Ok(entry) => Ok(entry.is_some()),
-            Err(error) => Err(error),
-        },
-        CursorStep::NextSibling => match cursor.next_sibling() {
-            Ok(entry) => Ok(entry.is_some()),
-            Err(error) => Err(error),
-        },
-    }
-}
-
-/// Writes what a walk's text says of each step, and after ` > ` what is read next, and the number of reads; then the
-/// status.
-pub(crate) fn write_cursor<R: Reader, W: Write>(
-    alloc: Global,
-    case: &Case,
-    sections: &Sections<R>,
-    follows: bool,
-    out: &mut W,
-) -> io::Result<()> {
-    let Some(steps) = parse_steps(alloc, case.word(1)) else {
-        return writeln!(out, "no steps");
-    };
-    match sections.first_unit(alloc) {
-        Ok(Some((unit, table))) => {
-            let mut cursor = if follows {
-                unit.entries(alloc, &table)
-            } else {
-                unit.entries_plain(alloc, &table)
-            };
-            let is_refused = write_text_lines(&mut cursor, &steps, out)?;
-            let status = u8::from(is_refused);
-            writeln!(out, "status {status}")
-        }
-        Ok(None) => writeln!(out, "no unit\nstatus 1"),
-        Err(error) => {
-            let number = error.number();
-            writeln!(out, "error {number}\nstatus 1")
-        }
-    }
+/// Writes what a walk's text says of each step, and after ` > ` what is read next, and the number of reads;
+/// then the status.
+pub(crate) fn write_cursor<R: Reader>(call: &Call<'_, R>, out: &mut Vec<u8>) -> Outcome {
+    let walked = walk(call, out);
+    write_status(walked, out)
 }
 
 // Writes a line for each step, and answers whether one was refused.
-fn write_text_lines<R: Reader, W: Write>(
-    cursor: &mut Cursor<'_, R>,
-    steps: &[CursorStep],
-    out: &mut W,
-) -> io::Result<bool> {
+fn walk<R: Reader>(call: &Call<'_, R>, out: &mut Vec<u8>) -> Outcome<bool> {
+    let (unit, table) = first_unit(call)?;
+    let mut cursor = match call.name() {
+        "cursor" => unit.entries(call.alloc, &table),
+        _ => unit.entries_plain(call.alloc, &table),
+    };
     let mut is_refused = false;
-    for step in steps {
-        let outcome = take(cursor, *step);
-        is_refused = is_refused || outcome.is_err();
-        let place = place_of(cursor);
-        write_text_line(out, &outcome, cursor.current(), place)?;
-        write_next(out, place)?;
-        write_reads(out, cursor.reads())?;
+    for letter in call.case.word(1).unwrap_or("").as_bytes() {
+        match take_step(&mut cursor, *letter) {
+            Ok(true) => write!(out, "yes")?,
+            Ok(false) => write!(out, "no")?,
+            Err(error) => {
+                is_refused = true;
+                write!(out, "error {}", error.number())?;
+            }
+        }
+        write_text_line(&cursor, out)?;
     }
     Ok(is_refused)
 }
 
-// A cursor at the start that a case gives.
-fn cursor_at<'table, R: Reader>(
-    alloc: Global,
-    case: &Case,
-    unit: &UnitHeader<R>,
-    table: &'table Abbreviations<Global>,
-    follows: bool,
-) -> Answer<Cursor<'table, R>> {
-    match (start_of(case, 1)?, follows) {
-        (None, true) => Ok(unit.entries(alloc, table)),
-        (None, false) => Ok(unit.entries_plain(alloc, table)),
-        (Some(offset), true) => unit.entries_at_offset(alloc, table, offset),
-        (Some(offset), false) => unit.entries_plain_at_offset(alloc, table, offset),
-    }
-}
-
-/// Writes where a cursor stands at a start, and what it shows after each step.
-pub(crate) fn write_cursor_at<R: Reader, W: Write>(
-    alloc: Global,
-    case: &Case,
-    sections: &Sections<R>,
-    follows: bool,
-    out: &mut W,
-) -> io::Result<()> {
-    let Some(steps) = parse_steps(alloc, case.word(2)) else {
-        return writeln!(out, "no steps");
+// Writes the current entry as the text of a walk does, what is read next, and the number of reads.
+fn write_text_line<R: Reader>(cursor: &Cursor<'_, R>, out: &mut Vec<u8>) -> Outcome {
+    let place = Place::of(cursor);
+    let (tag, flag) = match cursor.current() {
+        Some(entry) => (entry.tag().0, u8::from(entry.has_children())),
+        None => (0, 0),
     };
-    match sections.first_unit(alloc) {
-        Ok(Some((unit, table))) => match cursor_at(alloc, case, &unit, &table, follows) {
-            Ok(mut cursor) => write_whole_lines(&mut cursor, &steps, out),
-            Err(error) => write_refusal(out, error),
-        },
-        Ok(None) => writeln!(out, "no unit"),
-        Err(error) => write_refusal(out, error),
-    }
+    let (offset, depth) = (place.offset, place.depth);
+    write!(out, " {offset:x} {depth} {tag:x} {flag}")?;
+    place.write_next(out)?;
+    Ok(writeln!(out, " reads {}", cursor.reads())?)
 }
 
-// Writes where a cursor stands, and a line for each step.
-fn write_whole_lines<R: Reader, W: Write>(
-    cursor: &mut Cursor<'_, R>,
-    steps: &[CursorStep],
-    out: &mut W,
-) -> io::Result<()> {
-    write_beginning(out, cursor)?;
-    for step in steps {
-        let outcome = take(cursor, *step);
-        let place = place_of(cursor);
-        write_whole_line(out, outcome, cursor.current(), place)?;
-        write_reads(out, cursor.reads())?;
-    }
-    Ok(())
-}
-
-/// Writes what the run of a cursor from a start holds.
-pub(crate) fn write_cursor_run<R: Reader, W: Write>(
-    alloc: Global,
-    case: &Case,
-    sections: &Sections<R>,
-    follows: bool,
-    out: &mut W,
-) -> io::Result<()> {
-    let Some(steps) = parse_steps(alloc, case.word(2)) else {
-        return writeln!(out, "no steps");
+/// Writes where a cursor stands at a start, and what it shows after each step; and what the run over the
+/// same steps holds, where that is another.
+pub(crate) fn write_cursor_at<R: Reader>(call: &Call<'_, R>, out: &mut Vec<u8>) -> Outcome {
+    let (unit, table) = first_unit(call)?;
+    let (alloc, letters) = (call.alloc, call.case.word(2).unwrap_or(""));
+    let steps = parse_steps(alloc, letters)?;
+    let start = call.offset(1)?.map(UnitOffset);
+    let follows = call.name() == "cursor_at";
+    let cursor = match (start, follows) {
+        (None, true) => Ok(unit.entries(alloc, &table)),
+        (None, false) => Ok(unit.entries_plain(alloc, &table)),
+        (Some(offset), true) => unit.entries_at_offset(alloc, &table, offset),
+        (Some(offset), false) => unit.entries_plain_at_offset(alloc, &table, offset),
     };
-    match sections.first_unit(alloc) {
-        Ok(Some((unit, table))) => {
-            match run_at(alloc, case, &unit, &table, (follows, &steps)) {
-                Ok(run) => write_held(out, &run),
-                Err(error) => write_refusal(out, error),
-            }
-        }
-        Ok(None) => writeln!(out, "no unit"),
-        Err(error) => write_refusal(out, error),
-    }
-}
-
-// The run over steps, with references followed or not.
-fn run_at<R: Reader>(
-    alloc: Global,
-    case: &Case,
-    unit: &UnitHeader<R>,
-    table: &Abbreviations<Global>,
-    (follows, steps): (bool, &[CursorStep]),
-) -> Answer<Run<CursorAnswer<R, Global>, Global>> {
-    let start = start_of(case, 1)?;
-    if follows {
-        run_cursor(alloc, unit, table, start, steps)
+    let run = if follows {
+        run_cursor(alloc, &unit, &table, start, &steps)
     } else {
-        run_cursor_plain(alloc, unit, table, start, steps)
+        run_cursor_plain(alloc, &unit, &table, start, &steps)
+    };
+    match (cursor, run) {
+        (Ok(mut cursor), Ok(run)) => write_both(call, &mut cursor, &run, out),
+        (Err(error), Err(other)) if error == other => Err(Stop::Refused(error)),
+        _ => Err(Stop::Lacks("another run")),
     }
 }
 
-// Writes a line for each answer of a run.
-fn write_held<R: Reader, W: Write>(
-    out: &mut W,
+// Writes where a cursor stands and a line for each step, and the lines of a run where they are others.
+fn write_both<R: Reader>(
+    call: &Call<'_, R>,
+    cursor: &mut Cursor<'_, R>,
     run: &Run<CursorAnswer<R, Global>, Global>,
-) -> io::Result<()> {
-    for answer in &run.answers {
-        let place = Place {
-            offset: answer.offset.0.into_u64(),
-            depth: answer.depth,
-            next_offset: answer.next_offset.0.into_u64(),
-            next_depth: answer.next_depth,
-        };
-        write_whole_line(out, answer.outcome, answer.current.as_ref(), place)?;
-        writeln!(out)?;
+    out: &mut Vec<u8>,
+) -> Outcome {
+    let word = if cursor.follows() { "follows" } else { "plain" };
+    write!(out, "{word}")?;
+    Place::of(cursor).write(out)?;
+    writeln!(out, " reads {}", cursor.reads())?;
+    let mut answers = run.answers.iter();
+    for letter in call.case.word(2).unwrap_or("").as_bytes() {
+        let mut line = Vec::new(call.alloc);
+        let outcome = take_step(cursor, *letter);
+        write_line(outcome, cursor.current(), Place::of(cursor), &mut line)?;
+        out.write_all(&line)?;
+        let mut held = Vec::new(call.alloc);
+        if let Some(answer) = answers.next() {
+            let place = place_of(answer);
+            write_line(answer.outcome, answer.current.as_ref(), place, &mut held)?;
+        }
+        write_another(&line, &held, out)?;
+        writeln!(out, " reads {}", cursor.reads())?;
     }
-    if run.stopped {
-        writeln!(out, "stopped")?;
+    write_stop(run.stopped || answers.next().is_some(), out)
+}
+
+// Writes an outcome with all that a refusal carries, the current entry with the number of its attributes,
+// and the place.
+fn write_line<R: Reader>(
+    outcome: Result<bool>,
+    current: Option<&DebuggingInformationEntry<R, Global>>,
+    place: Place,
+    out: &mut Vec<u8>,
+) -> Outcome {
+    write_outcome(outcome, out)?;
+    write_counted(current, out)?;
+    place.write(out)
+}
+
+// Where a cursor stood in a run.
+fn place_of<R: Reader>(answer: &CursorAnswer<R, Global>) -> Place {
+    Place {
+        offset: answer.offset.0.into_u64(),
+        depth: answer.depth,
+        next_offset: answer.next_offset.0.into_u64(),
+        next_depth: answer.next_depth,
     }
-    Ok(())
 }

@@ -2,18 +2,19 @@
 
 use gimli_walk::run_words;
 use std::fs;
-use std::io::{self, Write};
-use test_tables::Case;
+use std::io::Write;
+use test_tables::{Case, Outcome};
 
-/// Writes what a word of the program says of the files `NAME.info` and `NAME.abbrev`, and then the status. The words of the
-/// case are that word and `NAME`, and the files lie in a folder. The lines of `check` are written; those of another word are
-/// compared with `NAME.WORD`, and what is written is whether they are the same, or else from which line on they are others.
-pub(crate) fn write_file<W: Write>(
+/// Writes what a word of the program says of the files `NAME.info` and `NAME.abbrev`, and then the status.
+/// The words of the case are that word and `NAME`, and the files lie in a folder. The lines of `check` are
+/// written; those of another word are compared with `NAME.WORD`, and what is written is whether they are
+/// the same, or else from which line on they are others.
+pub(crate) fn write_file(
     rt: &HostRuntime,
     folder: &str,
     case: &Case,
-    out: &mut W,
-) -> io::Result<()> {
+    out: &mut Vec<u8>,
+) -> Outcome {
     let alloc = rt.alloc();
     let word = case.word(1).unwrap_or("");
     let name = case.word(2).unwrap_or("");
@@ -29,13 +30,13 @@ pub(crate) fn write_file<W: Write>(
         let wanted = format!(in alloc; "{folder}{name}.{word}")?;
         write_difference(&fs::read(rt, &wanted)?, &found, out)?;
     }
-    write!(out, "status {status}\n")
+    Ok(writeln!(out, "status {status}")?)
 }
 
 // Writes whether two texts are the same, or else which line is the first that they do not share.
-fn write_difference<W: Write>(wanted: &[u8], found: &[u8], out: &mut W) -> io::Result<()> {
+fn write_difference(wanted: &[u8], found: &[u8], out: &mut Vec<u8>) -> Outcome {
     if wanted == found {
-        return write!(out, "its lines\n");
+        return Ok(writeln!(out, "its lines")?);
     }
     let mut line = 1_u64;
     for (byte, other) in found.iter().zip(wanted) {
@@ -46,5 +47,5 @@ fn write_difference<W: Write>(wanted: &[u8], found: &[u8], out: &mut W) -> io::R
             line = line.saturating_add(1);
         }
     }
-    write!(out, "other lines, from line {line}\n")
+    Ok(writeln!(out, "other lines, from line {line}")?)
 }

@@ -1,88 +1,77 @@
 //! Tries tables of walks: what cursors, trees, runs and the words of the program answer.
 #![tactic(auto)]
 
-mod cursor_lines;
 mod cursors;
 mod entries;
 mod files;
 mod lists;
-mod readers;
-mod sections;
-mod steps;
+mod runs;
 mod texts;
 mod trees;
 mod units;
 
+use crate::cursors::{write_cursor, write_cursor_at};
+use crate::entries::{write_entries, write_entry_at, write_raw};
 use crate::files::write_file;
-use crate::readers::try_readers;
-use crate::texts::try_text;
-use std::io::{self, BufWriter, Write};
-use std::{env, fs};
-use test_tables::{Case, Names, Tally, parse_case};
+use crate::lists::{write_locations, write_ranges};
+use crate::runs::write_run;
+use crate::texts::{check_text, write_text};
+use crate::trees::{write_tree, write_tree_at};
+use gimli_base::Reader;
+use gimli_headers::{DebugInfo, DebugTypes};
+use gimli_walk::{run_type_units, run_units};
+use std::{env, io};
+use test_tables::{Call, Outcome, Program, Stop, try_tables};
 
 fn main(rt: HostRuntime) -> io::Result<()> {
-    let mut out = BufWriter::new(rt.alloc(), rt.stdout())?;
+    // the files that rows name lie beside the tables
+    let mut folder = "";
     for name in env::args(&rt)?.skip(1) {
-        // the other words are files that the rows of a table name
-        if !name.as_str().ends_with(".txt") {
-            continue;
+        if name.as_str().starts_with("data/") {
+            folder = "data/";
         }
-        let text = fs::read_to_string(&rt, &name)?;
-        let folder = match name.as_str().split_once("/") {
-            Some(_) => "data/",
-            None => "",
-        };
-        let tally = try_lines(&rt, folder, &text, &mut out)?;
-        tally.write(&mut out, &name)?;
     }
-    out.flush()
+    try_tables(&rt, &Walks { rt: &rt, folder })
 }
 
-// Tries the case of each line.
-fn try_lines<W: Write>(
-    rt: &HostRuntime,
-    folder: &str,
-    text: &str,
-    out: &mut W,
-) -> io::Result<Tally> {
-    let mut names = Names::new(rt.alloc());
-    let mut tally = Tally::default();
-    for line in text.lines() {
-        if line.is_empty() || line.starts_with("#") || names.take_line(line) {
-            continue;
-        }
-        tally.cases = tally.cases.saturating_add(1);
-        match parse_case(rt.alloc(), &names, line) {
-            Some(case) => try_case(rt, folder, line, &case, &mut tally, out)?,
-            None => {
-                tally.differ = tally.differ.saturating_add(1);
-                writeln!(out, "no case: {line}")?;
+// The program, and the folder of the files that rows name.
+#[derive(Drop)]
+struct Walks<'a> {
+    rt: &'a HostRuntime,
+    folder: &'a str,
+}
+
+impl<'a> Program for Walks<'a> {
+    fn answer<R: Reader + PartialEq>(&self, call: &Call<'_, R>, out: &mut Vec<u8>) -> Outcome {
+        match call.name() {
+            "file" => write_file(self.rt, self.folder, call.case, out),
+            "rows" | "words" => write_text(call.alloc, call.case, out),
+            "cursor" | "plain" => {
+                write_cursor(call, out)?;
+                check_text(call.alloc, call.case, out)
             }
+            "tree" => {
+                write_tree(call, out)?;
+                check_text(call.alloc, call.case, out)
+            }
+            "cursor_at" | "plain_at" => write_cursor_at(call, out),
+            "tree_at" => write_tree_at(call, out),
+            _ => write_of_sections(call, out),
         }
     }
-    Ok(tally)
 }
 
-// Tries a case: what is written of files, what is written of sections, and what each reader answers.
-fn try_case<W: Write>(
-    rt: &HostRuntime,
-    folder: &str,
-    line: &str,
-    case: &Case,
-    tally: &mut Tally,
-    out: &mut W,
-) -> io::Result<()> {
-    match case.word(0) {
-        Some("file") => {
-            let mut found = Vec::new(rt.alloc());
-            write_file(rt, folder, case, &mut found)?;
-            tally.compare(out, line, &case.wide, &found)
-        }
-        Some("rows" | "words") => try_text(rt.alloc(), line, case, tally, out),
-        Some("cursor" | "plain" | "tree") => {
-            try_text(rt.alloc(), line, case, tally, out)?;
-            try_readers(rt.alloc(), line, case, tally, out)
-        }
-        _ => try_readers(rt.alloc(), line, case, tally, out),
+// Writes what a call that takes no steps answers.
+fn write_of_sections<R: Reader>(call: &Call<'_, R>, out: &mut Vec<u8>) -> Outcome {
+    let first = call.section(0)?;
+    match call.name() {
+        "raw" => write_raw(call, out),
+        "entries" => write_entries(call, out),
+        "entry" => write_entry_at(call, out),
+        "units" => write_run(&run_units(call.alloc, &DebugInfo::from(first)), out),
+        "type_units" => write_run(&run_type_units(call.alloc, &DebugTypes::from(first)), out),
+        "ranges" => write_ranges(call, out),
+        "locations" | "locations_dwo" => write_locations(call, out),
+        _ => Err(Stop::Lacks("no such call")),
     }
 }

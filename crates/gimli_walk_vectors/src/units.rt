@@ -1,67 +1,62 @@
-//! Runs over the units of a section.
+//! The first unit of a pair of sections, and steps as letters.
 
-use crate::sections::Sections;
-use gimli_base::{Reader, ReaderOffset, Result as Answer};
-use gimli_headers::{DebugInfo, DebugTypes};
-use gimli_units::{UnitHeader, UnitType};
-use gimli_walk::{Run, run_type_units, run_units};
+use gimli_base::{Abbreviations, DebugAbbrev, Reader};
+use gimli_headers::DebugInfo;
+use gimli_units::UnitHeader;
+use gimli_walk::{CursorStep, TreeStep};
 use std::alloc::Global;
-use std::io::{self, Write};
-use test_tables::write_refusal;
+use std::io::Write;
+use test_tables::{Call, Outcome, Stop};
 
-/// Writes the units of `.debug_info`, and the refusal that ends them.
-pub(crate) fn write_units<R: Reader, W: Write>(
-    alloc: Global,
-    sections: &Sections<R>,
-    out: &mut W,
-) -> io::Result<()> {
-    let info = DebugInfo::from(sections.first.copy());
-    write_run(out, &run_units(alloc, &info))
+/// The first unit of the first section, with its table of the second.
+pub(crate) fn first_unit<R: Reader>(
+    call: &Call<'_, R>,
+) -> Outcome<(UnitHeader<R>, Abbreviations<Global>)> {
+    let mut units = DebugInfo::from(call.section(0)?).units();
+    let unit = units.next()?.ok_or(Stop::Lacks("no unit"))?;
+    let section = DebugAbbrev::from(call.second_or_end()?);
+    let table = unit.abbreviations(call.alloc, &section)?;
+    Ok((unit, table))
 }
 
-/// Writes the units of `.debug_types`, and the refusal that ends them.
-pub(crate) fn write_type_units<R: Reader, W: Write>(
-    alloc: Global,
-    sections: &Sections<R>,
-    out: &mut W,
-) -> io::Result<()> {
-    let types = DebugTypes::from(sections.first.copy());
-    write_run(out, &run_type_units(alloc, &types))
-}
-
-// Writes a line for each answer.
-fn write_run<R: Reader, W: Write>(
-    out: &mut W,
-    run: &Run<Answer<UnitHeader<R>>, Global>,
-) -> io::Result<()> {
-    for answer in &run.answers {
-        match answer {
-            Ok(unit) => write_unit(out, unit)?,
-            Err(error) => write_refusal(out, *error)?,
-        }
-        writeln!(out)?;
+/// The steps of a cursor that letters give.
+pub(crate) fn parse_steps(alloc: Global, letters: &str) -> Outcome<Vec<CursorStep>> {
+    let mut steps = Vec::new(alloc);
+    for letter in letters.as_bytes() {
+        let step = match letter {
+            b'e' => CursorStep::NextEntry,
+            b'd' => CursorStep::NextDfs,
+            b's' => CursorStep::NextSibling,
+            _ => return Err(Stop::Lacks("no steps")),
+        };
+        steps.push(step)?;
     }
-    if run.stopped {
-        writeln!(out, "stopped")?;
+    Ok(steps)
+}
+
+/// The steps of a tree that letters give.
+pub(crate) fn parse_tree_steps(alloc: Global, letters: &str) -> Outcome<Vec<TreeStep>> {
+    let mut steps = Vec::new(alloc);
+    for letter in letters.as_bytes() {
+        let step = match letter {
+            b'r' => TreeStep::Root,
+            b'n' => TreeStep::Next,
+            b'i' => TreeStep::Enter,
+            b'o' => TreeStep::Leave,
+            _ => return Err(Stop::Lacks("no steps")),
+        };
+        steps.push(step)?;
+    }
+    Ok(steps)
+}
+
+/// Writes the status of a walk as its text has it: whether a step was refused, or why there was none.
+pub(crate) fn write_status(walked: Outcome<bool>, out: &mut Vec<u8>) -> Outcome {
+    match walked {
+        Ok(is_refused) => writeln!(out, "status {}", u8::from(is_refused))?,
+        Err(Stop::Refused(error)) => writeln!(out, "error {}\nstatus 1", error.number())?,
+        Err(Stop::Lacks(what)) => writeln!(out, "{what}\nstatus 1")?,
+        Err(stop) => return Err(stop),
     }
     Ok(())
-}
-
-// Writes a unit: its offset, that of its abbreviations, and the signature and the offset of its type, if it is a type
-// unit.
-fn write_unit<R: Reader, W: Write>(out: &mut W, unit: &UnitHeader<R>) -> io::Result<()> {
-    let offset = unit.offset().0.into_u64();
-    let table = unit.debug_abbrev_offset().0.into_u64();
-    write!(out, "unit {offset:x} {table:x}")?;
-    match unit.type_() {
-        UnitType::TypeUnit {
-            type_signature,
-            type_offset,
-        } => {
-            let signature = type_signature.0;
-            let at = type_offset.0.into_u64();
-            write!(out, " type {signature:x} {at:x}")
-        }
-        _ => Ok(()),
-    }
 }

@@ -42,8 +42,8 @@ impl Names {
         None
     }
 
-    /// The bytes of a text: words of pairs of hexadecimal digits, `PAIRS*COUNT` for bytes that come several times, and
-    /// `$NAME` for those of a name.
+    /// The bytes of a text: words of pairs of hexadecimal digits, `PAIRS*COUNT` for bytes that come several
+    /// times, and `$NAME` for those of a name.
     pub fn parse(&self, text: &str) -> Option<Vec<u8>> {
         let mut bytes = Vec::new(self.alloc);
         for word in text.split_ascii_whitespace() {

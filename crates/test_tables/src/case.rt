@@ -2,7 +2,8 @@
 
 use crate::bytes::Names;
 use gimli_base::{Encoding, Format, RunTimeEndian};
-use std::alloc::Global;
+use std::alloc::{AllocError, Global};
+use std::io;
 
 /// The byte orders in which a case is tried.
 #[derive(Clone, Copy, Debug, PartialEq, Eq)]
@@ -71,14 +72,32 @@ impl Case {
         })
     }
 
+    // The case of the words from an index on, with other bytes, whose answers are not known.
+    pub(crate) fn behind(&self, alloc: Global, index: usize, bytes: &[u8]) -> io::Result<Case> {
+        let mut words = Vec::new(alloc);
+        for word in self.words.iter().skip(index) {
+            words.push(String::from_str(alloc, word)?)?;
+        }
+        let mut sections = Vec::new(alloc);
+        sections.push(Vec::from_slice(alloc, bytes)?)?;
+        Ok(Case {
+            order: self.order,
+            words,
+            sections,
+            wide: String::new(alloc),
+            narrow: String::new(alloc),
+        })
+    }
+
     /// The bytes of the section at an index.
     pub fn section(&self, index: usize) -> Option<&[u8]> {
         Some(self.sections.get(index)?.as_slice())
     }
 }
 
-/// The case of a line `ORDER CALL WORDS : BYTES : BYTES = ANSWER | ANSWER`: the order is `big` or `each`, and left out where
-/// the lowest byte comes first; the second answer is that of 32 bits, and left out where it is the first.
+/// The case of a line `ORDER CALL WORDS : BYTES : BYTES = ANSWER | ANSWER`: the order is `big` or `each`,
+/// and left out where the lowest byte comes first; the second answer is that of 32 bits, and left out where
+/// it is the first.
 pub fn parse_case(alloc: Global, names: &Names, line: &str) -> Option<Case> {
     let (call, answer) = line.split_once(" =")?;
     let (wide, narrow) = answer.split_once(" | ").unwrap_or((answer, answer));

@@ -3,8 +3,8 @@
 use gimli_base::Error;
 use std::io::{self, Write};
 
-/// Writes a refusal: `refused`, its number, and what it carries, if it carries something: a place, a version, an offset, a
-/// size or a code in decimal digits.
+/// Writes a refusal: `refused`, its number, and what it carries, if it carries something: a place, a
+/// version, an offset, a size or a code in decimal digits.
 pub fn write_refusal<W: Write>(out: &mut W, error: Error) -> io::Result<()> {
     let number = error.number();
     write!(out, "refused {number}")?;

@@ -12,8 +12,8 @@ pub struct Tally {
 }
 
 impl Tally {
-    /// Compares an answer with that of a case, and writes both with the case's line where they differ. What was written in
-    /// several lines stands in a table after `; `.
+    /// Compares an answer with that of a case, and writes both with the case's line where they differ. What
+    /// was written in several lines stands in a table after `; `.
     pub fn compare<W: Write>(
         &mut self,
         out: &mut W,
@@ -36,8 +36,8 @@ impl Tally {
     }
 }
 
-// Whether the lines of an answer are those that are wanted.
-fn is_answer(wanted: &str, found: &str) -> bool {
+/// Whether the lines of an answer are those that are wanted.
+pub fn is_answer(wanted: &str, found: &str) -> bool {
     let mut lines = found.lines();
     if wanted.is_empty() {
         return lines.next().is_none();
