@@ -268,21 +268,31 @@ pub(crate) fn write_texts<R: Reader>(call: &Call<'_, R>, out: &mut Vec<u8>) -> O
     };
     let mut raw = input.raw();
     let attribute = raw.read_attribute(specification)?;
-    let value = attribute.raw_value();
     let own = DebugStr::from(call.section(1)?);
     let other = DebugStr::from(call.section(2)?);
-    let text = (attribute.string_value(&own), value.string_value(&own));
-    write_text(call.alloc, text, out)?;
+    write_each_text(call.alloc, &attribute, (&own, &other), out)
+}
+
+// Writes the text that an attribute stands for by its own section, by that and no other, and by both.
+fn write_each_text<R: Reader>(
+    alloc: Global,
+    attribute: &Attribute<R>,
+    (own, other): (&DebugStr<R>, &DebugStr<R>),
+    out: &mut Vec<u8>,
+) -> Outcome {
+    let value = attribute.raw_value();
+    let text = (attribute.string_value(own), value.string_value(own));
+    write_text(alloc, text, out)?;
     let text = (
-        attribute.string_value_sup(&own, None),
-        value.string_value_sup(&own, None),
+        attribute.string_value_sup(own, None),
+        value.string_value_sup(own, None),
     );
-    write_text(call.alloc, text, out)?;
+    write_text(alloc, text, out)?;
     let text = (
-        attribute.string_value_sup(&own, Some(&other)),
-        value.string_value_sup(&own, Some(&other)),
+        attribute.string_value_sup(own, Some(other)),
+        value.string_value_sup(own, Some(other)),
     );
-    write_text(call.alloc, text, out)
+    write_text(alloc, text, out)
 }
 
 // Writes the text of an attribute, and that of its value where it is another, in a line of its own.
