@@ -117,7 +117,8 @@ impl<'s, 'c, 'h, R: Reader> Stage<'s, 'c, 'h, R> {
 pub(crate) fn write_values<R: Reader>(attributes: &[Attribute<R>], out: &mut Vec<u8>) -> Outcome {
     write!(out, " has")?;
     for attribute in attributes {
-        match attribute.raw_value() {
+        let value = attribute.raw_value();
+        match &value {
             AttributeValue::Data1(byte) => write!(out, " {byte:x}")?,
             AttributeValue::UnitRef(offset) => {
                 let offset = offset.0.into_u64();
