@@ -67,6 +67,7 @@ pub(crate) fn write_cursor_at<R: Reader>(call: &Call<'_, R>, out: &mut Vec<u8>) 
         (Some(offset), true) => unit.entries_at_offset(alloc, &table, offset),
         (Some(offset), false) => unit.entries_plain_at_offset(alloc, &table, offset),
     };
+    let start = call.offset(1)?.map(UnitOffset);
     let run = if follows {
         run_cursor(alloc, &unit, &table, start, &steps)
     } else {
