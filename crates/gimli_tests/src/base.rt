@@ -5,4 +5,4 @@ mod error;
 mod newtypes;
 mod offset;
 mod readers;
-pub(crate) mod sections;
+mod sections;

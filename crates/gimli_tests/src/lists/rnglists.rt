@@ -1,13 +1,14 @@
 //! Range lists, and the header of their section.
 
-use crate::base::sections::holds;
-use crate::samples::{Part, encoding, end_at, next_of, part, whole};
+use crate::lists::samples::{Part, encoding, end_at_first, part, whole};
+use crate::samples::next_of;
 use gimli_base::{
-    DebugAddr, DebugAddrBase, DebugAddrIndex, EndianSlice, Format, LittleEndian, RangeListsOffset,
-    Reader, ReaderOffset, Result, Section, SectionId,
+    DebugAddr, DebugAddrBase, DebugAddrIndex, Encoding, EndianSlice, Error, Format, LittleEndian,
+    RangeListsOffset, Reader, ReaderOffset, ReaderOffsetId, Result, Section, SectionId,
 };
 use gimli_lists::{
-    DebugRanges, DebugRngLists, ListsHeader, Range, RangeLists, RawRngListEntry, RngListIter,
+    DebugRanges, DebugRngLists, ListsHeader, Range, RangeLists, RawRngListEntry, RawRngListIter,
+    RngListIter,
 };
 use std::process::Abort;
 use std::test::Fail;
@@ -31,7 +32,12 @@ fn ranges_of<R: Reader>(lists: &RangeLists<R>, none: R) -> Result<RngListIter<R>
     let zero = R::Offset::from_u8(0);
     let (begin, base) = (RangeListsOffset(zero), DebugAddrBase(zero));
     let table = DebugAddr::from(none);
-    lists.ranges(begin, encoding(4, 4), 0x0100_0000, &table, base)
+    let encoding = Encoding {
+        format: Format::Dwarf32,
+        version: 4,
+        address_size: 4,
+    };
+    lists.ranges(begin, encoding, 0x0100_0000, &table, base)
 }
 
 // The next entry as it is written.
@@ -66,7 +72,7 @@ fn tries_conversions<R: Reader>(rt: &impl Abort, ranges: &mut RngListIter<R>) {
     let missing = RawRngListEntry::BaseAddressx {
         addr: DebugAddrIndex(R::Offset::from_u8(0)),
     };
-    assert!(rt; converted(ranges, missing) == Err(end_at(100)));
+    assert!(rt; converted(ranges, missing) == Err(end_at_first()));
     tries_last(rt, ranges);
 }
 
@@ -79,21 +85,22 @@ fn tries_last<R: Reader>(rt: &impl Abort, ranges: &mut RngListIter<R>) {
 
 #[test]
 fn converts_entries_one_by_one(rt: HostRuntime) {
-    let of_parts = lists_of(part(&PAIRS, LittleEndian));
-    let mut ranges = ranges_of(&of_parts, part(b"", LittleEndian)).expect(&rt, "no list");
+    let of_parts = lists_of(part(&PAIRS));
+    let mut ranges = ranges_of(&of_parts, part(b"")).expect(&rt, "no list");
     tries_conversions(&rt, &mut ranges);
-    let of_wholes = lists_of(whole(&rt, &PAIRS, LittleEndian)).copy();
-    let mut ranges = ranges_of(&of_wholes, whole(&rt, b"", LittleEndian)).expect(&rt, "no list");
+    let of_wholes = lists_of(whole(&rt, &PAIRS)).copy();
+    let mut ranges = ranges_of(&of_wholes, whole(&rt, b"")).expect(&rt, "no list");
     tries_conversions(&rt, &mut ranges);
 }
 
 // Nothing is left after a refusal, by the call and by the iterator.
 #[test]
 fn entries_end_behind_a_refusal(rt: HostRuntime) {
-    let lists = lists_of(part(&PAIRS[..20], LittleEndian));
+    let lists = lists_of(part(&PAIRS[..20]));
     let entries = lists.raw_ranges(RangeListsOffset(16), encoding(4, 4));
     let mut entries = entries.expect(&rt, "no list");
-    assert!(rt; entries.next().err() == Some(end_at(120)));
+    let wanted = Error::UnexpectedEof(ReaderOffsetId(120));
+    assert!(rt; entries.next().err() == Some(wanted));
     assert!(rt; matches!(entries.next(), Ok(None)));
     assert!(rt; next_of(&mut entries).is_none());
 }
@@ -132,18 +139,8 @@ fn sections_are_kept_and_replaced(rt: HostRuntime) -> std::result::Result<(), Fa
     tries_slices(&rt, &of_both.copy(), &[4], &[3]);
     tries_slices(&rt, &same, &[1, 2], &[3]);
     tries_slices(&rt, &RangeLists::default(), &[], &[]);
-    holds(
-        &rt,
-        same.debug_ranges(),
-        SectionId::DebugRanges,
-        (&[1, 2], 0),
-    );
-    holds(
-        &rt,
-        same.debug_rnglists(),
-        SectionId::DebugRngLists,
-        (&[3], 0),
-    );
+    assert!(rt; (<DebugRanges<Part<'_>>>::id()) == SectionId::DebugRanges);
+    assert!(rt; (<DebugRngLists<Part<'_>>>::id()) == SectionId::DebugRngLists);
     let text = format!(in rt.alloc(); "{:?}", RangeListsOffset(7_usize))?;
     assert!(rt; text.as_str() == "RangeListsOffset(7)");
     Ok(())

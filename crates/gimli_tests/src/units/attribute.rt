@@ -1,17 +1,16 @@
-use crate::samples::{Part, part};
-use crate::units::samples::reads;
-use gimli_base::{DebugAddrIndex, LittleEndian};
+use crate::units::samples::{Input, input, reads};
+use gimli_base::{DebugAddrIndex, DwAt, DwForm, EndianSlice, LittleEndian};
 use gimli_units::{Attribute, AttributeValue, UnitOffset};
 use std::alloc::Global;
 use std::process::Abort;
 use std::test::Fail;
 
 // One value of each kind, in pairs that differ in what the kind holds.
-fn pairs<'a>() -> [(AttributeValue<Part<'a>>, AttributeValue<Part<'a>>); 4] {
+fn pairs<'a>() -> [(AttributeValue<Input<'a>>, AttributeValue<Input<'a>>); 4] {
     [
         (
-            AttributeValue::String(part(b"foo", LittleEndian)),
-            AttributeValue::String(part(b"fop", LittleEndian)),
+            AttributeValue::String(input(b"foo")),
+            AttributeValue::String(input(b"fop")),
         ),
         (AttributeValue::Data1(5), AttributeValue::Data1(6)),
         (
@@ -28,8 +27,8 @@ fn pairs<'a>() -> [(AttributeValue<Part<'a>>, AttributeValue<Part<'a>>); 4] {
 // Tries that a value is equal to what is copied from it, and not to another.
 fn tries_equality(
     rt: &impl Abort,
-    first: AttributeValue<Part<'_>>,
-    other: AttributeValue<Part<'_>>,
+    first: AttributeValue<Input<'_>>,
+    other: AttributeValue<Input<'_>>,
 ) -> Result<(), Fail> {
     let copied = first;
     assert!(rt; copied == first);
@@ -56,8 +55,8 @@ fn attribute<'a>(
     alloc: Global,
     declared: (u16, u16),
     bytes: &'a [u8],
-) -> Result<Attribute<Part<'a>>, Fail> {
-    Ok(reads(rt, alloc, declared, part(bytes, LittleEndian))?)
+) -> Result<Attribute<Input<'a>>, Fail> {
+    Ok(reads(rt, alloc, declared, EndianSlice::new(bytes, LittleEndian))?)
 }
 
 #[test]
@@ -78,5 +77,14 @@ fn attributes_are_equal_where_all_parts_are(rt: HostRuntime) -> Result<(), Fail>
     for other in others {
         assert_ne!(rt; other, first);
     }
+    Ok(())
+}
+
+#[test]
+fn shows_its_parts(rt: HostRuntime) -> Result<(), Fail> {
+    let shown = attribute(&rt, rt.alloc(), (0x3b, 0x0b), &[5])?;
+    assert!(rt; (shown.name(), shown.form()) == (DwAt(0x3b), DwForm(0x0b)));
+    assert!(rt; shown.raw_value() == AttributeValue::Data1(5));
+    assert!(rt; shown.value() == AttributeValue::Udata(5));
     Ok(())
 }

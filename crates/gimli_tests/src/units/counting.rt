@@ -75,8 +75,8 @@ impl<'a> Reader for Counting<'a> {
     ghost end_fits = { Prim.search rules };
 }
 
-// How often a reader skips where it passes forms with the bytes that stand before an empty block. The block
-// is a part of the reader after them, so it has the count.
+// How often a reader skips where it passes forms with the bytes that stand before an empty block. The block is a part
+// of the reader after them, so it has the count.
 fn skips_of(
     rt: &impl Abort,
     alloc: Global,

@@ -1,7 +1,7 @@
-use crate::samples::{NESTED_STRINGS, Part, TABLE_NESTED_STRINGS, part, table_of, unit_of};
-use crate::units::samples::{raw_of, read_entry};
-use gimli_base::{DwTag, LittleEndian, Reader, ReaderOffset};
-use gimli_units::{DebuggingInformationEntry, UnitOffset};
+use crate::samples::{NESTED_STRINGS, TABLE_NESTED_STRINGS, table_of, unit_of};
+use crate::units::samples::{Input, input, raw_of, read_entry};
+use gimli_base::{DwTag, Reader, ReaderOffset};
+use gimli_units::{DebuggingInformationEntry, EntriesRaw, UnitOffset};
 use std::alloc::Global;
 use std::process::Abort;
 use std::test::Fail;
@@ -20,9 +20,9 @@ fn parts<R: Reader>(entry: &Entry<R>) -> (DwTag, bool, usize, u64, isize) {
 }
 
 // The second of the nested strings, which has an attribute.
-fn second(rt: &impl Abort, alloc: Global) -> Result<Entry<Part<'static>>, Fail> {
+fn second(rt: &impl Abort, alloc: Global) -> Result<Entry<Input<'static>>, Fail> {
     let table = table_of(alloc, &TABLE_NESTED_STRINGS)?;
-    let unit = unit_of(rt, part(&NESTED_STRINGS, LittleEndian));
+    let unit = unit_of(rt, input(&NESTED_STRINGS));
     let mut raw = raw_of(&unit, &table)?;
     let mut entry = Entry::null(alloc);
     for _ in 0..2 {
@@ -33,7 +33,7 @@ fn second(rt: &impl Abort, alloc: Global) -> Result<Entry<Part<'static>>, Fail> 
 
 #[test]
 fn a_null_has_no_part(rt: HostRuntime) {
-    let entry = Entry::<Part<'_>>::null(rt.alloc());
+    let entry = Entry::<Input<'_>>::null(rt.alloc());
     assert!(rt; entry.is_null());
     assert!(rt; parts(&entry) == (DwTag(0), false, 0, 0, 0));
 }
@@ -73,4 +73,44 @@ fn becomes_a_null_where_it_stands(rt: HostRuntime) -> Result<(), Fail> {
     assert!(rt; entry.is_null());
     assert!(rt; parts(&entry) == (DwTag(0), false, 0, 0x10, 1));
     Ok(())
+}
+
+#[test]
+fn a_clone_has_equal_parts(rt: HostRuntime) -> Result<(), Fail> {
+    let entry = second(&rt, rt.alloc())?;
+    let clone = entry.try_clone(rt.alloc())?;
+    assert!(rt; parts(&clone) == parts(&entry));
+    assert!(rt; clone.attrs() == entry.attrs());
+    let null = Entry::<Input<'_>>::null(rt.alloc());
+    assert!(rt; null.try_clone(rt.alloc())?.is_null());
+    Ok(())
+}
+
+// The offset and the depth of what is read next.
+fn next_of<R: Reader>(raw: &EntriesRaw<'_, R, Global>) -> (u64, isize) {
+    (raw.next_offset().0.into_u64(), raw.next_depth())
+}
+
+// Tries a copy of a reader after its first entry.
+fn tries_copied_reader<R: Reader>(
+    rt: &impl Abort,
+    raw: &mut EntriesRaw<'_, R, Global>,
+    entry: &mut Entry<R>,
+) -> Result<(), Fail> {
+    read_entry(raw, entry)?;
+    let mut copy = raw.copy();
+    assert!(rt; next_of(&copy) == (0x10, 1));
+    read_entry(&mut copy, entry)?;
+    assert!(rt; next_of(&copy).0 == 0x15);
+    assert!(rt; next_of(raw).0 == 0x10);
+    Ok(())
+}
+
+#[test]
+fn a_copied_reader_goes_its_own_way(rt: HostRuntime) -> Result<(), Fail> {
+    let table = table_of(rt.alloc(), &TABLE_NESTED_STRINGS)?;
+    let unit = unit_of(&rt, input(&NESTED_STRINGS));
+    let mut raw = raw_of(&unit, &table)?;
+    let mut entry = Entry::null(rt.alloc());
+    tries_copied_reader(&rt, &mut raw, &mut entry)
 }

@@ -1,8 +1,8 @@
-use crate::samples::{Part, part, table_of};
-use crate::units::samples::{pass, raw_over, read, specification};
+use crate::samples::table_of;
+use crate::units::samples::{Input, pass, raw_over, read, specification};
 use gimli_base::{
-    Abbreviations, AttributeSpecification, DwForm, Error, LittleEndian, Reader, ReaderOffset,
-    Result,
+    Abbreviations, AttributeSpecification, DwForm, EndianSlice, Error, LittleEndian, Reader,
+    ReaderOffset, Result,
 };
 use std::alloc::Global;
 use std::process::Abort;
@@ -28,7 +28,7 @@ fn passes<R: Reader>(
 }
 
 // Tries a code that is no form, directly and through indirect.
-fn tries_unknown_form(rt: &impl Abort, table: &Abbreviations<Global>, form: u16, code: Part<'_>) {
+fn tries_unknown_form(rt: &impl Abort, table: &Abbreviations<Global>, form: u16, code: Input<'_>) {
     let refused = Some(Error::UnknownForm(DwForm(form)));
     for declared in [form, 0x16] {
         let given = specification(rt, 0x2000, declared);
@@ -38,12 +38,11 @@ fn tries_unknown_form(rt: &impl Abort, table: &Abbreviations<Global>, form: u16,
     }
 }
 
-// Tries each code that is no form; the LEB128 numbers of all codes stand one after the other, three bytes
-// each.
+// Tries each code that is no form; the LEB128 numbers of all codes stand one after the other, three bytes each.
 fn tries_unknown_forms(
     rt: &impl Abort,
     table: &Abbreviations<Global>,
-    codes: Part<'_>,
+    codes: Input<'_>,
 ) -> std::result::Result<(), Fail> {
     let mut rest = codes;
     for form in 0..=0xffff {
@@ -67,5 +66,23 @@ fn refuses_each_code_that_is_no_form(rt: HostRuntime) -> std::result::Result<(),
         codes.extend_from_slice(&[low | 0x80, middle | 0x80, high >> 6])?;
     }
     let table = table_of(rt.alloc(), &[0])?;
-    tries_unknown_forms(&rt, &table, part(&codes, LittleEndian))
+    tries_unknown_forms(&rt, &table, EndianSlice::new(&codes, LittleEndian))
+}
+
+#[test]
+fn passes_many_attributes(rt: HostRuntime) -> std::result::Result<(), Fail> {
+    let mut given = Vec::new(rt.alloc());
+    let mut zeros = Vec::new(rt.alloc());
+    for _ in 0..10_000 {
+        given.push(specification(&rt, 0x2000, 0x0b))?;
+        zeros.push(0)?;
+    }
+    let table = table_of(rt.alloc(), &[0])?;
+    let mut input = EndianSlice::new(&zeros, LittleEndian);
+    assert!(rt; passes(&table, &given, input) == Ok(10_000));
+    // one byte less
+    input.truncate(9_999)?;
+    let refused = passes(&table, &given, input).err();
+    assert!(rt; matches!(refused, Some(Error::UnexpectedEof(_))));
+    Ok(())
 }

@@ -1,16 +1,11 @@
 ghost use Rattle.std.specs.Prelude.{None};
 
 use crate::samples::TABLE_NESTED_STRINGS;
+use crate::walk::samples::THREE_NESTED;
 use gimli_walk::run_words;
 use std::alloc::Global;
 use std::io::{Error, ErrorKind, Write};
 use std::process::Abort;
-
-// A unit of three entries, each below the one before it, and the three nulls that close their lists.
-const THREE_NESTED: [u8; 29] = [
-    0x19, 0x00, 0x00, 0x00, 0x04, 0x00, 0x00, 0x00, 0x00, 0x00, 0x04, 0x01, 0x66, 0x6f, 0x6f, 0x00,
-    0x01, 0x66, 0x6f, 0x6f, 0x00, 0x01, 0x66, 0x6f, 0x6f, 0x00, 0x00, 0x00, 0x00,
-];
 
 // What a file of this name holds, if it can be read.
 fn file(alloc: Global, name: &str) -> Option<Vec<u8>> {
