@@ -73,10 +73,15 @@ pub(crate) fn write_cursor_at<R: Reader>(call: &Call<'_, R>, out: &mut Vec<u8>) 
     } else {
         run_cursor_plain(alloc, &unit, &table, start, &steps)
     };
-    match (cursor, run) {
-        (Ok(mut cursor), Ok(run)) => write_both(call, &mut cursor, &run, out),
-        (Err(error), Err(other)) if error == other => Err(Stop::Refused(error)),
-        _ => Err(Stop::Lacks("another run")),
+    match cursor {
+        Ok(mut cursor) => match run {
+            Ok(run) => write_both(call, &mut cursor, &run, out),
+            Err(_) => Err(Stop::Lacks("another run")),
+        },
+        Err(error) => match run {
+            Err(other) if error == other => Err(Stop::Refused(error)),
+            _ => Err(Stop::Lacks("another run")),
+        },
     }
 }
 

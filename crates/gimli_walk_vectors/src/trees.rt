@@ -49,12 +49,17 @@ pub(crate) fn write_tree_at<R: Reader>(call: &Call<'_, R>, out: &mut Vec<u8>) ->
     let letters = call.case.word(2).unwrap_or("");
     let steps = parse_tree_steps(call.alloc, letters)?;
     let start = call.offset(1)?.map(UnitOffset);
-    let tree = unit.entries_tree(call.alloc, &table, start);
+    let run = run_tree(call.alloc, &unit, &table, start, &steps);
     let start = call.offset(1)?.map(UnitOffset);
-    match (tree, run_tree(call.alloc, &unit, &table, start, &steps)) {
-        (Ok(mut tree), Ok(run)) => write_both(call.alloc, &mut tree, &run, &steps, out),
-        (Err(error), Err(other)) if error == other => Err(Stop::Refused(error)),
-        _ => Err(Stop::Lacks("another run")),
+    match unit.entries_tree(call.alloc, &table, start) {
+        Ok(mut tree) => match run {
+            Ok(run) => write_both(call.alloc, &mut tree, &run, &steps, out),
+            Err(_) => Err(Stop::Lacks("another run")),
+        },
+        Err(error) => match run {
+            Err(other) if error == other => Err(Stop::Refused(error)),
+            _ => Err(Stop::Lacks("another run")),
+        },
     }
 }
 
