@@ -24,14 +24,17 @@ use std::{env, io};
 use test_tables::{Call, Outcome, Program, Stop, try_tables};
 
 fn main(rt: HostRuntime) -> io::Result<()> {
-    // the files that rows name lie beside the tables
-    let mut folder = "";
+    let mut is_above = false;
     for name in env::args(&rt)?.skip(1) {
-        if name.as_str().starts_with("data/") {
-            folder = "data/";
-        }
+        is_above = is_above || name.as_str().starts_with("data/");
     }
+    let folder = folder_of(is_above);
     try_tables(&rt, &Walks { rt: &rt, folder })
+}
+
+// The folder of the files that rows name, which lie beside the tables.
+fn folder_of(is_above: bool) -> &'static str {
+    if is_above { "data/" } else { "" }
 }
 
 // The program, and the folder of the files that rows name.
