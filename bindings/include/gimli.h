@@ -186,14 +186,14 @@ uint32_t gimli_unit(const gimli_sections_t *sections, uint64_t offset, gimli_uni
    MORE: the buffer is full, and there is more. END: none is left. ROW_REFUSED: what stands at the
    place was refused.
    TOO_DEEP, or REFUSED of the unit, of its abbreviations or of the place's offset: no row, and
-   the place is as it was. Where memory was refused, the rows that were written are right too, and
-   the next call goes on. */
+   the place is as it was. Memory is asked for the abbreviations alone. */
 uint32_t gimli_rows(const gimli_sections_t *sections, uint64_t unit, gimli_place_t *place, gimli_row_t *rows, size_t room,
                     size_t *count);
 
 /* The same with the attributes of each row, one row's after those of the row before. Rows are
    written as long as there is room for them and space for all their attributes. MORE with
-   filled->wanted not 0: the next row wants so much space. */
+   filled->wanted not 0: the next row wants so much space. Memory is asked for the attributes of a
+   row too: where it was refused, the rows that were written are right, and the next call goes on. */
 uint32_t gimli_entries(const gimli_sections_t *sections, uint64_t unit, gimli_place_t *place, gimli_entry_t *rows, size_t room,
                        gimli_attr_t *attrs, size_t space, gimli_filled_t *filled);
 

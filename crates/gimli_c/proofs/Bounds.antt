@@ -99,7 +99,7 @@ module _ (limit : ℕ) (u : UnitView) (t : Table) (place : GimliPlace) (old : Li
         rows = refl;
         behind = refl;
         whole =
-            λ _ _. (omega arith, rw (le-ltb (length old) 0 (omega arith)) refl);
+            λ _. (omega arith, rw (le-ltb (length old) 0 (omega arith)) refl);
       })
 
   module _ (apart : place.offset ≡ whole_length u → ⊥) where
@@ -158,7 +158,7 @@ module _ (limit : ℕ) (u : UnitView) (place : GimliPlace) (old : List GimliRow)
     rows = refl;
     behind = first_at limit u.encoding declared (whole_length u) place.depth
         (cut (place.offset - header_size u) u.entries) place here refl;
-    whole = λ h _. absurd (h refl);
+    whole = λ h. absurd (h refl);
   }
 
   none_stopped : (stop : ℕ) → ToldRows (Err stop) place old place old 0 memory_refused

@@ -22,7 +22,7 @@ use Rattle.gimli_units.proofs.RowSteps.{then_row, ahead_ended, ahead_refused, ah
 use Rattle.gimli_units.proofs.RowChain.{AreRows, exist_rows}
 use Rattle.gimli_c.specs.declared.rows.GimliRow.{GimliRow}
 use Rattle.gimli_c.specs.declared.rows.GimliPlace.{GimliPlace}
-use Rattle.gimli_c.specs.Status.{more, end, row_refused, memory_refused, row_memory_refused}
+use Rattle.gimli_c.specs.Status.{more, end, row_refused, memory_refused}
 use Rattle.gimli_c.specs.Fronts.{told_row, ahead_of, first_place, status_at, Filled}
 
 -- these rows before others
@@ -179,8 +179,7 @@ filled_if : (taken : List Row) (left : Ahead) (old new : List GimliRow) (place :
     (n status : ℕ)
     → length taken ≡ n → new ≡ map told_row taken ++ drop n old → place
     ≡ first_place left.rows left.stop left.stop_depth
-    → ((status ≡ memory_refused → ⊥) → (status ≡ row_memory_refused → ⊥)
-    → (n ≡ min (length old) (n + length left.rows))
+    → ((status ≡ memory_refused → ⊥) → (n ≡ min (length old) (n + length left.rows))
     × (status ≡ status_at (length old) (n + length left.rows) left.refusal))
     → Filled (before_rows taken left) old place new n status
 filled_if taken left old new place n status count rows behind whole =
@@ -210,7 +209,7 @@ module _ (limit : ℕ) (base : ℤ) (start now : RawPlace) (old new : List Gimli
       let refusal : left.refusal ≡ None = ap (λ (a : Ahead). a.refusal) is in
       rw f.ahead (filled_if f.taken left old new place n end f.count f.rows
       (first_ahead limit base now place offset depth)
-      (λ _ _. (
+      (λ _. (
         omega (arith, rows, f.room),
         rw (refusal) (at_end (length old) (n + length left.rows) (omega (arith, rows, f.room))),
       )))
@@ -224,7 +223,7 @@ module _ (limit : ℕ) (base : ℤ) (start now : RawPlace) (old new : List Gimli
       let left = ahead_of limit base now in
       rw f.ahead (filled_if f.taken left old new place n more f.count f.rows
       (first_ahead limit base now place offset depth)
-      (λ _ _. (
+      (λ _. (
         omega (arith, f.room, full),
         at_more (length old) (n + length left.rows) left.refusal (omega (arith, full))
             (λ is. let k = some_left limit base now some is in omega (arith, k, f.room)),
@@ -233,16 +232,15 @@ module _ (limit : ℕ) (base : ℤ) (start now : RawPlace) (old new : List Gimli
   -- a refusal ends the rows
   pub filled_refused : (e : Error) → Front limit base start now old new n
       → (length now.rest.bytes ≡ 0 → ⊥) → n < length old
-      → ((row_refused e ≡ row_memory_refused → ⊥) → Err e
-      ≡ entry_at limit now.encoding (found now.abbreviations) now.rest)
+      → Err e ≡ entry_at limit now.encoding (found now.abbreviations) now.rest
       → place.offset ≡ next_offset_of now → place.depth ≡ base +ℤ now.depth
       → Filled (ahead_of limit base start) old place new n (row_refused e)
   filled_refused e f some room read offset depth =
       let left = ahead_of limit base now in
       rw f.ahead (filled_if f.taken left old new place n (row_refused e) f.count f.rows
       (first_ahead limit base now place offset depth)
-      (λ _ other. whole (ahead_refused (entry_at limit now.encoding (found now.abbreviations))
-      now.end (base +ℤ now.depth) now.rest e some (read other))))
+      (λ _. whole (ahead_refused (entry_at limit now.encoding (found now.abbreviations))
+      now.end (base +ℤ now.depth) now.rest e some read)))
     where
       whole : ahead_of limit base now ≡ no_row (Some e) (next_offset_of now) (base +ℤ now.depth)
           → (n ≡ min (length old) (n + length (ahead_of limit base now).rows))

@@ -18,7 +18,6 @@ use Rattle.gimli_c.specs.declared.sections.GimliSections.{GimliSections}
 use Rattle.gimli_c.specs.declared.rows.GimliPlace.{GimliPlace}
 use Rattle.gimli_c.specs.Units.{units_id, units_view, abbreviations_view}
 use Rattle.gimli_c.specs.Status.{more, end, too_deep, refused, row_refused, memory_refused}
-use Rattle.gimli_c.specs.Status.{row_memory_refused}
 
 abbrev pub told_row : Row → GimliRow
 told_row r = record {
@@ -91,12 +90,12 @@ status_at room count None = if nat_lt room count then more else end
 status_at room count (Some e) = if nat_lt count room then row_refused e else more
 
 -- Rows from the front of those ahead are written, the rest stays as it was, and the place is after
--- them. They are all, or as many as there is room for, unless memory was refused.
+-- them. They are all, or as many as there is room for, unless memory was refused for the table.
 pub record Filled (ahead : Ahead) (old : List GimliRow) (place : GimliPlace) (new : List GimliRow)
     (count status : ℕ) : Type 0 where
   pub rows : new ≡ map told_row (take count ahead.rows) ++ drop count old
   pub behind : place ≡ first_place (drop count ahead.rows) ahead.stop ahead.stop_depth
-  pub whole : (status ≡ memory_refused → ⊥) → (status ≡ row_memory_refused → ⊥)
+  pub whole : (status ≡ memory_refused → ⊥)
       → (count ≡ min (length old) (length ahead.rows))
       × (status ≡ status_at (length old) (length ahead.rows) ahead.refusal)
 

@@ -60,8 +60,8 @@ pub extern "C" fn gimli_unit(sections: &GimliSections<'_>, offset: u64, unit: &m
 ///
 /// Status 0: `rows` is full, and there is more. Status 1: the unit ends after the rows. Status 2:
 /// the depth of the place is out of range. From 512 on: what is read after the rows was refused.
-/// Any other: the unit, its abbreviations or the place's offset was refused. 280 and 536 say that
-/// memory was refused; then the place is after the rows, too.
+/// Any other: the unit, its abbreviations or the place's offset was refused. 280 says that memory
+/// was refused for the abbreviations.
 #[unsafe(no_mangle)]
 pub extern "C" fn gimli_rows(
     alloc: Global,
@@ -93,6 +93,7 @@ pub extern "C" fn gimli_rows(
 /// The same with the attributes of each row in `attrs`; `filled` says how many of each were
 /// written. A row whose attributes have no space left is not written, nor are those after it, and
 /// the place is at it; the status is then 0, and `filled.wanted` is the number of its attributes.
+/// 536 says that memory was refused for the attributes of a row; the place is then after the rows.
 #[unsafe(no_mangle)]
 pub extern "C" fn gimli_entries(
     alloc: Global,

@@ -108,7 +108,8 @@ returns g c =
     elim c.if-is_empty.branch [
       | then-is_empty w ↦
           let none : length p.rest.bytes ≡ 0 = c.is_empty-2.ensures.0 w.if-is_empty.true in
-          rw (c.ended-2.ensures, c.wrote-2.ensures, w.status-is) (entries_ended limit c.args.base c.args.entries.now p c.args.rows.now
+          rw (c.ended-2.ensures, c.wrote-2.ensures, w.status-is)
+          (entries_ended limit c.args.base c.args.entries.now p c.args.rows.now
           c.rows.rows c.args.attrs.now c.rows.attrs c.place_of.result c.rows.count c.rows.used
           f offset depth none)
       | else-is_empty w ↦
@@ -119,7 +120,8 @@ returns g c =
                 absurd (some (v.is_empty.ensures.0 (cc)))
             | else-rows-test v ↦ omega (arith, v.rows-test.false, c.rows.auto.rows)
           ] in
-          rw (c.ended-2.ensures, c.wrote-2.ensures, w.status-is) (entries_full limit c.args.base c.args.entries.now p c.args.rows.now
+          rw (c.ended-2.ensures, c.wrote-2.ensures, w.status-is)
+          (entries_full limit c.args.base c.args.entries.now p c.args.rows.now
           c.rows.rows c.args.attrs.now c.rows.attrs c.place_of.result c.rows.count c.rows.used
           f offset depth some full)
     ]

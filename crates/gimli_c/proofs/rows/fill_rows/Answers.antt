@@ -31,7 +31,7 @@ returns-in-Err g c =
     rw c.row_refused.ensures (filled_refused g.R.Offset.ReaderOffset.limit c.args.base
     c.args.entries.now c.rows.entries c.args.rows.now c.rows.rows c.place_of-place.result
     c.rows.count c.in-Err.error
-    f some room (λ _. c.in-Err.ensures.refused) c.place_of-place.ensures.offset depth)
+    f some room c.in-Err.ensures.refused c.place_of-place.ensures.offset depth)
 
 pub rows-preserved : goal.rows-preserved
 rows-preserved g c =
