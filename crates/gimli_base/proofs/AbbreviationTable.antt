@@ -9,7 +9,7 @@ use Rattle.std.specs.BTreeMap.{is_at}
 use Rattle.std.specs.Map.{lookup}
 use Rattle.std.proofs.lemmas.Bool.Decides.{eqb_tells}
 use Rattle.gimli_base.specs.Abbreviations.{Declaration}
-use Rattle.gimli_base.specs.Table.{found}
+use Rattle.gimli_base.specs.Table.{codes_of}
 
 abbrev find_in : List (ℕ × Declaration) → ℕ → Option Declaration
 find_in others code = lookup (is_at (nat_cmp code)) others
@@ -26,9 +26,9 @@ pub found-insert : (dense : List Declaration) (others others' : List (ℕ × Dec
     (d : Declaration)
     → in_dense dense d.code ≡ false
     → ((q : ℕ) → find_in others' q ≡ cond (is_at (nat_cmp d.code) q) (Some d) (find_in others q))
-    → (code : ℕ) → found (record { dense = dense; others = others' }) code
-    ≡ (if d.code == code then Some d else found (record { dense = dense; others = others }) code)
-unfolding found
+    → (code : ℕ) → codes_of (record { dense = dense; others = others' }) code
+    ≡ (if d.code == code then Some d else codes_of (record { dense = dense; others = others }) code)
+unfolding codes_of
 found-insert dense others others' d out updates code =
     elim (eqb_tells d.code code) [
       | inl e ↦ rw (e.0, ← e.1, out)
@@ -63,9 +63,9 @@ pushed_at dense d false code r is = refl
 -- the declaration of the next code
 pub found-push : (dense : List Declaration) (others : List (ℕ × Declaration)) (d : Declaration)
     → d.code ≡ length dense + 1
-    → (code : ℕ) → found (record { dense = dense ++ d ∷ []; others = others }) code
-    ≡ (if d.code == code then Some d else found (record { dense = dense; others = others }) code)
-unfolding found
+    → (code : ℕ) → codes_of (record { dense = dense ++ d ∷ []; others = others }) code
+    ≡ (if d.code == code then Some d else codes_of (record { dense = dense; others = others }) code)
+unfolding codes_of
 found-push dense others d is code =
     elim (eqb_tells d.code code) [
       | inl e ↦
@@ -92,8 +92,8 @@ unused dense code r false is none = refl
 
 -- where nothing is found, the code is not of the dense part
 pub not_inside : (dense : List Declaration) (others : List (ℕ × Declaration)) (code : ℕ)
-    → found (record { dense = dense; others = others }) code ≡ None → in_dense dense code ≡ false
-unfolding found
+    → codes_of (record { dense = dense; others = others }) code ≡ None → in_dense dense code ≡ false
+unfolding codes_of
 not_inside dense others code none = unused dense code _ (in_dense dense code) refl none
 
 pub none_of : {X : Type 0} (r : Option (Bor X)) → false ≡ is_some r → option_copied r ≡ None

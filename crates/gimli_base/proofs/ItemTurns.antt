@@ -7,7 +7,7 @@ use Rattle.gimli_base.specs.declared.error.Error.{Error}
 use Rattle.gimli_base.specs.View.{View}
 use Rattle.gimli_base.specs.Reading.{Reads, eof}
 use Rattle.gimli_base.specs.Chain.{then_others, chain_within, chain}
-use Rattle.gimli_base.specs.Items.{Items, item_of_read, items_at, whole}
+use Rattle.gimli_base.specs.Items.{Items, item_of_read, items_at, all_items}
 use Rattle.gimli_base.specs.View.{IsLater}
 use Rattle.gimli_base.proofs.Later.{LeavesLater, IsLater-trans, ok_leaves_later}
 use Rattle.gimli_base.proofs.Later.{err_leaves_later}
@@ -94,34 +94,34 @@ pub items_end : {A : Type 0}
 items_end next all xs v w s h =
     ended next all xs v (Ok w) s (λ n. within_first next s.cut_short n v (Ok (None, w)) h)
 
-before-later : {A : Type 0} → (a : A) (v : View) (r : Items A) → LeavesLater 0 v (whole r)
-    → LeavesLater 0 v (whole (before (a ∷ []) r))
+before-later : {A : Type 0} → (a : A) (v : View) (r : Items A) → LeavesLater 0 v (all_items r)
+    → LeavesLater 0 v (all_items (before (a ∷ []) r))
 before-later {A} a v r h = cases r.ending h
   where
     cases : (ending : Result View Error)
-        → LeavesLater 0 v (whole (record { items = r.items; ending = ending }))
-        → LeavesLater 0 v (whole (record { items = a ∷ r.items; ending = ending }))
+        → LeavesLater 0 v (all_items (record { items = r.items; ending = ending }))
+        → LeavesLater 0 v (all_items (record { items = a ∷ r.items; ending = ending }))
     cases (Ok w) k = ok_leaves_later 0 v (a ∷ r.items, w) (k r.items w refl)
     cases (Err e) k = err_leaves_later {A = List A} 0 v e
 
 within-later : {A : Type 0} → (next : View → Reads (Option A)) (before : View)
     → ((v : View) → LeavesLater 0 v (next v)) → (n : ℕ) (v : View)
-    → LeavesLater 0 v (whole (items_within next (Err (eof before)) n v))
+    → LeavesLater 0 v (all_items (items_within next (Err (eof before)) n v))
 unfolding chain_within
 within-later {A} next before h zero v = err_leaves_later {A = List A} 0 v _
 within-later {A} next before h (suc n) v =
     cases (next v) (h v) (λ u. within-later next before h n u)
   where
     cases : (r : Reads (Option A)) → LeavesLater 0 v r
-        → ((u : View) → LeavesLater 0 u (whole (items_within next (Err (eof before)) n u)))
+        → ((u : View) → LeavesLater 0 u (all_items (items_within next (Err (eof before)) n u)))
         → LeavesLater 0 v
-        (whole (then_others (item_of_read r) (items_within next (Err (eof before)) n)))
+        (all_items (then_others (item_of_read r) (items_within next (Err (eof before)) n)))
     cases (Err e) k others = err_leaves_later {A = List A} 0 v e
     cases (Ok p) k others = item p.0 (k p.0 p.1 refl)
       where
         item : (o : Option A) → IsLater 0 v p.1
             → LeavesLater 0 v
-            (whole
+            (all_items
             (then_others (item_of_read (Ok (o, p.1))) (items_within next (Err (eof before)) n)))
         item None l = ok_leaves_later 0 v ([], p.1) l
         item (Some a) l = before-later a v (items_within next (Err (eof before)) n p.1)
@@ -130,6 +130,6 @@ within-later {A} next before h (suc n) v =
 -- where each item leaves a later view, so do all
 pub whole-later : {A : Type 0} → (next : View → Reads (Option A))
     → ((v : View) → LeavesLater 0 v (next v)) → (v : View)
-    → LeavesLater 0 v (whole (items_at next v))
+    → LeavesLater 0 v (all_items (items_at next v))
 unfolding items_at chain
 whole-later next h v = within-later next v h (suc (length v.bytes)) v

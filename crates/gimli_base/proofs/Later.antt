@@ -13,8 +13,9 @@ use Rattle.gimli_base.specs.declared.error.Error.TheVariants.{UnknownReservedLen
 use Rattle.gimli_base.specs.declared.common.Format.{Format}
 use Rattle.gimli_base.specs.declared.common.Format.TheVariants.{Dwarf32, Dwarf64}
 use Rattle.gimli_base.specs.Offset.{offset_of}
-use Rattle.gimli_base.specs.View.{View, cut, front, ended, IsLater}
-use Rattle.gimli_base.specs.Reading.{Reads, ◌>>=◌, made, eof, byte_at, skip_at, split_at, bytes_at}
+use Rattle.gimli_base.specs.View.{View, cut, front, end_of_view, IsLater}
+use Rattle.gimli_base.specs.Reading.{Reads, ◌>>=◌, map_read, eof, byte_at, skip_at, split_at}
+use Rattle.gimli_base.specs.Reading.{bytes_at}
 use Rattle.gimli_base.specs.Reading.{uint_at, number, as_offset, offset_at, word_size_of}
 use Rattle.gimli_base.specs.Reading.{uleb_within, uleb_at, uleb16_at, sleb_within, sleb_at, find_at}
 use Rattle.gimli_base.specs.Reading.{text_at, address_at, address_size_at, is_size, sized_offset_at}
@@ -80,7 +81,7 @@ then_leaves_later a b v (Ok p) f h k x w e = IsLater-trans a b v p.1 w (h p.0 p.
 then_leaves_later {B = B} a b v (Err e) f h k x w is = err_leaves_later {A = B} (a + b) v e x w is
 
 pub made_leaves_later : {A B : Type 0} → (a : ℕ) (v : View) (f : A → B) (r : Reads A)
-    → LeavesLater a v r → LeavesLater a v (made f r)
+    → LeavesLater a v r → LeavesLater a v (map_read f r)
 made_leaves_later a v f (Ok p) h = ok_leaves_later a v (f p.0, p.1) (h p.0 p.1 refl)
 made_leaves_later {B = B} a v f (Err e) h = err_leaves_later {A = B} a v e
 
@@ -193,8 +194,8 @@ skip_leb_at-later v = cases (position (λ b. nat_lt b 128) v.bytes) refl
   where
     cases : (o : Option ℕ) → position (λ b. nat_lt b 128) v.bytes ≡ o
         → LeavesLater {A = Unit {0}} 1 v
-        (elim o [ Some n ↦ Ok (tt, cut (n + 1) v) | None ↦ Err (eof (ended v)) ])
-    cases None is = err_leaves_later {A = Unit {0}} 1 v (eof (ended v))
+        (elim o [ Some n ↦ Ok (tt, cut (n + 1) v) | None ↦ Err (eof (end_of_view v)) ])
+    cases None is = err_leaves_later {A = Unit {0}} 1 v (eof (end_of_view v))
     cases (Some n) is =
         let inside : n < length v.bytes = (position-Some (λ b. nat_lt b 128) v.bytes n 0 is).0 in
         ok_leaves_later {A = Unit {0}} 1 v (tt, cut (n + 1) v)
@@ -210,7 +211,7 @@ unfolding text_at
 text_at-later v =
     let cases : (r : Result ℕ Error)
     → LeavesLater 1 v
-    (elim r [ Ok n ↦ split_at n v >>= (λ p. made (λ _. p.0) (byte_at p.1)) | Err e ↦ Err e ]) =
+    (elim r [ Ok n ↦ split_at n v >>= (λ p. map_read (λ _. p.0) (byte_at p.1)) | Err e ↦ Err e ]) =
     elim [
       | Ok n ↦ weaker_leaves_later (n + 1) 1 v _ (omega arith)
           (then_leaves_later n 1 v (split_at n v) _ (split_at-later n v)
@@ -233,7 +234,7 @@ LeavesPastField v r =
 
 past_field : (v : View) (format : Format) (r : Reads ℕ)
     → LeavesLater (initial_length_size_of format) v r
-    → LeavesPastField v (made (λ n. (n, format)) r)
+    → LeavesPastField v (map_read (λ n. (n, format)) r)
 past_field v format (Ok q) h p w e =
     let same : ◌≡◌ {A = (ℕ × Format) × View} (p, w) ((q.0, format), q.1) = cc in
     let P : (ℕ × Format) × View → Type 0 = λ x. IsLater (initial_length_size_of x.0.1) v x.1 in
@@ -245,18 +246,18 @@ unfolding initial_length_at
 initial_length_at-later limit v = begin (uint_at 4 v) (uint_at-later 4 v)
   where
     short : (q : ℕ × View) → IsLater 4 v q.1
-        → LeavesPastField v (made (λ n. (n, Dwarf32)) (as_offset limit (Ok q)))
+        → LeavesPastField v (map_read (λ n. (n, Dwarf32)) (as_offset limit (Ok q)))
     short q l = past_field v Dwarf32 _ (as_offset-later 4 limit v (Ok q) (ok_leaves_later 4 v q l))
 
     long : (q : ℕ × View) → IsLater 4 v q.1
-        → LeavesPastField v (made (λ n. (n, Dwarf64)) (offset_at limit Dwarf64 q.1))
+        → LeavesPastField v (map_read (λ n. (n, Dwarf64)) (offset_at limit Dwarf64 q.1))
     long q l = past_field v Dwarf64 _
         (λ x w e. IsLater-trans 4 8 v q.1 w l (offset_at-later limit Dwarf64 q.1 x w e))
 
     either : (q : ℕ × View) → IsLater 4 v q.1 → (s t : Bool)
         → LeavesPastField v
-        (if s then made (λ n. (n, Dwarf32)) (as_offset limit (Ok q))
-        else if t then made (λ n. (n, Dwarf64)) (offset_at limit Dwarf64 q.1)
+        (if s then map_read (λ n. (n, Dwarf32)) (as_offset limit (Ok q))
+        else if t then map_read (λ n. (n, Dwarf64)) (offset_at limit Dwarf64 q.1)
         else Err UnknownReservedLength)
     either q l true t = short q l
     either q l false true = long q l
@@ -265,8 +266,8 @@ initial_length_at-later limit v = begin (uint_at 4 v) (uint_at-later 4 v)
     begin : (r : Reads ℕ) → LeavesLater 4 v r
         → LeavesPastField v
         (r >>= λ p. if nat_lt p.0 0xffff_fff0
-        then made (λ n. (n, Dwarf32)) (as_offset limit (Ok p))
-        else if p.0 == 0xffff_ffff then made (λ n. (n, Dwarf64)) (offset_at limit Dwarf64 p.1)
+        then map_read (λ n. (n, Dwarf32)) (as_offset limit (Ok p))
+        else if p.0 == 0xffff_ffff then map_read (λ n. (n, Dwarf64)) (offset_at limit Dwarf64 p.1)
         else Err UnknownReservedLength)
     begin (Ok q) h = either q (h q.0 q.1 refl) (nat_lt q.0 0xffff_fff0) (q.0 == 0xffff_ffff)
     begin (Err e) h = λ p w is. absurd (cc)

@@ -11,8 +11,9 @@ use Rattle.gimli_base.specs.declared.error.Error.TheVariants.{UnexpectedEof, Bad
 use Rattle.gimli_base.specs.declared.error.Error.TheVariants.{BadSignedLeb128}
 use Rattle.gimli_base.specs.declared.common.Format.{Format}
 use Rattle.gimli_base.specs.Offset.{offset_of}
-use Rattle.gimli_base.specs.View.{View, cut, ended}
-use Rattle.gimli_base.specs.Reading.{Reads, ◌>>=◌, made, eof, byte_at, skip_at, split_at, bytes_at}
+use Rattle.gimli_base.specs.View.{View, cut, end_of_view}
+use Rattle.gimli_base.specs.Reading.{Reads, ◌>>=◌, map_read, eof, byte_at, skip_at, split_at}
+use Rattle.gimli_base.specs.Reading.{bytes_at}
 use Rattle.gimli_base.specs.Reading.{uint_at, as_offset, uint_offset_at, offset_at, word_size_of}
 use Rattle.gimli_base.specs.Reading.{sized_offset_at, address_at, text_at, uleb_within, uleb_at}
 use Rattle.gimli_base.specs.Reading.{uleb16_at, sleb_within, sleb_at, skip_leb_at, PassesAs}
@@ -79,7 +80,7 @@ skip_at-none v = rw (le-leb 0 (length v.bytes) (omega arith), add-zero) refl
 
 -- what was made into another value was read
 pub made_read : {A B : Type 0} → (f : A → B) (r : Reads A) (b : B) (w : View)
-    → ◌≡◌ {A = Reads B} (Ok (b, w)) (made f r) → (a : A) × (◌≡◌ {A = Reads A} (Ok (a, w)) r)
+    → ◌≡◌ {A = Reads B} (Ok (b, w)) (map_read f r) → (a : A) × (◌≡◌ {A = Reads A} (Ok (a, w)) r)
 made_read {B = B} f (Ok p) b w h =
     let same : ◌≡◌ {A = B × View} (b, w) (f p.0, p.1) = cc in
     (p.0, ap (λ (q : B × View). Ok (p.0, q.1)) same)
@@ -121,11 +122,11 @@ pass_turn : (t : Bool) (o : Option ℕ) (big : Bool) (place x : ℕ) (xs : List 
     → ◌≡◌ {A = Reads (Unit {0})}
     (elim (if t then Some 0 else option_map (λ k. 1 + k) o) [
       | Some n ↦ Ok (tt, cut (n + 1) (record { big = big; place = place; bytes = x ∷ xs }))
-      | None ↦ Err (eof (ended (record { big = big; place = place; bytes = x ∷ xs })))
+      | None ↦ Err (eof (end_of_view (record { big = big; place = place; bytes = x ∷ xs })))
     ])
     (if t then Ok (tt, record { big = big; place = place + 1; bytes = xs }) else elim o [
       | Some n ↦ Ok (tt, cut (n + 1) (record { big = big; place = place + 1; bytes = xs }))
-      | None ↦ Err (eof (ended (record { big = big; place = place + 1; bytes = xs })))
+      | None ↦ Err (eof (end_of_view (record { big = big; place = place + 1; bytes = xs })))
     ])
 pass_turn true o big place x xs = refl
 pass_turn false (Some n) big place x xs =
@@ -148,7 +149,7 @@ step_of big place (x ∷ xs) =
     let n : ℕ = prefix_len (λ b. not (nat_lt b 128)) xs in
     let f : Option ℕ → Reads (Unit {0}) = λ o. elim o [
       | Some n ↦ Ok (tt, cut (n + 1) (record { big = big; place = place; bytes = x ∷ xs }))
-      | None ↦ Err (eof (ended (record { big = big; place = place; bytes = x ∷ xs })))
+      | None ↦ Err (eof (end_of_view (record { big = big; place = place; bytes = x ∷ xs })))
     ] in
     rw some (ap f (first_of_all (nat_lt x 128) n x xs) ∙ pass_turn (nat_lt x 128) o big place x xs)
 
@@ -189,7 +190,7 @@ module _ (a : ℕ) (w : View) (others : View → Reads ℕ)
     (same : (u : View) → PassesAs (skip_leb_at u) (others u)) where
   uleb_turn : (t : Bool) (p : ℕ × View)
       → ◌≡◌ {A = Reads ℕ} (Ok (a, w))
-      (if t then Ok p else made (λ m. p.0 - 128 + 128 * m) (others p.1))
+      (if t then Ok p else map_read (λ m. p.0 - 128 + 128 * m) (others p.1))
       → ◌≡◌ {A = Reads (Unit {0})} (if t then Ok (tt, p.1) else skip_leb_at p.1) (Ok (tt, w))
   uleb_turn true p e =
       let is : ◌≡◌ {A = ℕ × View} (a, w) p = cc in
@@ -200,7 +201,7 @@ module _ (a : ℕ) (w : View) (others : View → Reads ℕ)
 
   uleb_passed : (r : Reads ℕ)
       → ◌≡◌ {A = Reads ℕ} (Ok (a, w))
-      (r >>= λ p. if nat_lt p.0 128 then Ok p else made (λ m. p.0 - 128 + 128 * m) (others p.1))
+      (r >>= λ p. if nat_lt p.0 128 then Ok p else map_read (λ m. p.0 - 128 + 128 * m) (others p.1))
       → ◌≡◌ {A = Reads (Unit {0})}
       (r >>= λ p. if nat_lt p.0 128 then Ok (tt, p.1) else skip_leb_at p.1) (Ok (tt, w))
   uleb_passed (Ok p) e = uleb_turn (nat_lt p.0 128) p e
@@ -253,7 +254,7 @@ module _ (a : ℤ) (w : View) (others : View → Reads ℤ)
   sleb_turn : (s t : Bool) (p : ℕ × View) → nat_lt p.0 64 ≡ s → nat_lt p.0 128 ≡ t
       → ◌≡◌ {A = Reads ℤ} (Ok (a, w))
       (if s then Ok (pos p.0, p.1) else if t then Ok (pos p.0 -ℤ pos 128, p.1)
-      else made (λ z. pos (p.0 - 128) +ℤ (pos 128 *ℤ z)) (others p.1))
+      else map_read (λ z. pos (p.0 - 128) +ℤ (pos 128 *ℤ z)) (others p.1))
       → ◌≡◌ {A = Reads (Unit {0})} (if nat_lt p.0 128 then Ok (tt, p.1) else skip_leb_at p.1)
       (Ok (tt, w))
   sleb_turn true t p low last e =
@@ -269,7 +270,7 @@ module _ (a : ℤ) (w : View) (others : View → Reads ℤ)
       → ◌≡◌ {A = Reads ℤ} (Ok (a, w))
       (r >>= λ p. if nat_lt p.0 64 then Ok (pos p.0, p.1)
       else if nat_lt p.0 128 then Ok (pos p.0 -ℤ pos 128, p.1)
-      else made (λ z. pos (p.0 - 128) +ℤ (pos 128 *ℤ z)) (others p.1))
+      else map_read (λ z. pos (p.0 - 128) +ℤ (pos 128 *ℤ z)) (others p.1))
       → ◌≡◌ {A = Reads (Unit {0})}
       (r >>= λ p. if nat_lt p.0 128 then Ok (tt, p.1) else skip_leb_at p.1) (Ok (tt, w))
   sleb_passed (Ok p) e = sleb_turn (nat_lt p.0 64) (nat_lt p.0 128) p refl refl e

@@ -10,7 +10,7 @@ use borrow.Author.Differences.{up, down}
 use Rattle.gimli_base.specs.declared.error.Error.{Error}
 use Rattle.gimli_base.specs.declared.error.Error.TheVariants.{BadSignedLeb128}
 use Rattle.gimli_base.specs.View.{View}
-use Rattle.gimli_base.specs.Reading.{Reads, made, byte_at, sleb_within}
+use Rattle.gimli_base.specs.Reading.{Reads, map_read, byte_at, sleb_within}
 use Rattle.gimli_base.proofs.LebTurns.{not_below, made_same, turn_refused, turn_last, turn_more}
 use Rattle.gimli_base.proofs.LebTurns.{scale_fits}
 
@@ -22,7 +22,7 @@ sleb_ended (suc n) v e h = rw (← h) refl
 
 -- another byte has bits in front of the rest
 sleb_next : (n : ℕ) (v : View) (b : ℕ) (w : View) → Ok (b, w) ≡ byte_at v → 128 ≤ b
-    → sleb_within (suc n) v ≡ made (λ z. pos (b - 128) +ℤ (pos 128 *ℤ z)) (sleb_within n w)
+    → sleb_within (suc n) v ≡ map_read (λ z. pos (b - 128) +ℤ (pos 128 *ℤ z)) (sleb_within n w)
 unfolding sleb_within
 sleb_next n v b w h le = rw (← h) (not_below b 64 _ _ (omega arith) ∙ not_below b 128 _ _ le)
 
@@ -45,10 +45,10 @@ module _ (b : ℕ) (z : ℤ) (below : b < 128) (low : b < 64 → z ≡ pos b)
   sleb_two v w x a y h more k e =
       sym
       (sleb_next 8 v a w h more
-      ∙ ap (made (λ z. pos (a - 128) +ℤ (pos 128 *ℤ z))) (sleb_last 7 w x k) ∙ rw e refl)
+      ∙ ap (map_read (λ z. pos (a - 128) +ℤ (pos 128 *ℤ z))) (sleb_last 7 w x k) ∙ rw e refl)
 
 -- no bits are in front of the first byte
-pub sleb_first : (r : Reads ℤ) → r ≡ made (λ z. pos 0 +ℤ (pos 1 *ℤ z)) r
+pub sleb_first : (r : Reads ℤ) → r ≡ map_read (λ z. pos 0 +ℤ (pos 1 *ℤ z)) r
 sleb_first r = made_same (λ z. pos 0 +ℤ (pos 1 *ℤ z)) r (λ z. omega (arith, ints))
 
 -- bits after bits
@@ -114,48 +114,49 @@ sleb_over v b w h some_bit some_other = rw (← h) (search (rules, tests))
 
 -- a turn of the loop: n bytes may come and one, and the number is a and s times theirs
 module _ (all v : View) (a s i : ℕ)
-    (so_far : sleb_within 9 all ≡ made (λ z. pos a +ℤ (pos s *ℤ z)) (sleb_within (9 - i) v)) where
-  -- no byte is left
-  pub sleb_turn_ended : (e : Error) → Err e ≡ byte_at v → Err e ≡ sleb_within 9 all
-  sleb_turn_ended e h = turn_refused _ _ _ so_far e (sleb_ended (9 - i) v e h)
+    (so_far : sleb_within 9 all ≡ map_read (λ z. pos a +ℤ (pos s *ℤ z)) (sleb_within (9 - i) v))
+  where
+    -- no byte is left
+    pub sleb_turn_ended : (e : Error) → Err e ≡ byte_at v → Err e ≡ sleb_within 9 all
+    sleb_turn_ended e h = turn_refused _ _ _ so_far e (sleb_ended (9 - i) v e h)
 
-  -- the byte is the last
-  pub sleb_turn_last : (b : ℕ) (z y : ℤ) (w : View) → b < 128 → (b < 64 → z ≡ pos b)
-      → (64 ≤ b → z ≡ pos b -ℤ pos 128)
-      → i < 9 → Ok (b, w) ≡ byte_at v → y ≡ pos a +ℤ (pos s *ℤ z) → Ok (y, w) ≡ sleb_within 9 all
-  sleb_turn_last b z y w below low high lt h is =
-      let n : 9 - i ≡ suc (8 - i) = omega arith in
-      turn_last _ _ _ so_far z y w (rw n (sleb_last b z below low high (8 - i) v w h)) (sym is)
+    -- the byte is the last
+    pub sleb_turn_last : (b : ℕ) (z y : ℤ) (w : View) → b < 128 → (b < 64 → z ≡ pos b)
+        → (64 ≤ b → z ≡ pos b -ℤ pos 128)
+        → i < 9 → Ok (b, w) ≡ byte_at v → y ≡ pos a +ℤ (pos s *ℤ z) → Ok (y, w) ≡ sleb_within 9 all
+    sleb_turn_last b z y w below low high lt h is =
+        let n : 9 - i ≡ suc (8 - i) = omega arith in
+        turn_last _ _ _ so_far z y w (rw n (sleb_last b z below low high (8 - i) v w h)) (sym is)
 
-  -- the byte has bits in front of more
-  pub sleb_turn_more : (b m : ℕ) (w : View) → i < 9 → m ≡ b - 128 → Ok (b, w) ≡ byte_at v → 128 ≤ b
-      → sleb_within 9 all ≡ made (λ z. pos (a + m * s) +ℤ (pos (s * 128) *ℤ z))
-      (sleb_within (9 - (i + 1)) w)
-  sleb_turn_more b m w lt e h high =
-      let n : 9 - i ≡ suc (9 - (i + 1)) = omega arith in
-      let at : sleb_within (9 - i) v
-      ≡ made (λ z. pos (b - 128) +ℤ (pos 128 *ℤ z)) (sleb_within (9 - (i + 1)) w) =
-      rw n (sleb_next (9 - (i + 1)) v b w h high) in
-      turn_more _ _ _ so_far _ _ _ at (rw e (behind_bits a (b - 128) s))
+    -- the byte has bits in front of more
+    pub sleb_turn_more : (b m : ℕ) (w : View) → i < 9 → m ≡ b - 128 → Ok (b, w) ≡ byte_at v → 128 ≤ b
+        → sleb_within 9 all ≡ map_read (λ z. pos (a + m * s) +ℤ (pos (s * 128) *ℤ z))
+        (sleb_within (9 - (i + 1)) w)
+    sleb_turn_more b m w lt e h high =
+        let n : 9 - i ≡ suc (9 - (i + 1)) = omega arith in
+        let at : sleb_within (9 - i) v
+        ≡ map_read (λ z. pos (b - 128) +ℤ (pos 128 *ℤ z)) (sleb_within (9 - (i + 1)) w) =
+        rw n (sleb_next (9 - (i + 1)) v b w h high) in
+        turn_more _ _ _ so_far _ _ _ at (rw e (behind_bits a (b - 128) s))
 
-  -- the byte is the tenth, and the number is not negative
-  pub sleb_turn_zero : (b : ℕ) (w : View) (y : ℤ) → 9 ≤ i → Ok (b, w) ≡ byte_at v → b ≡ 0
-      → y ≡ pos a → Ok (y, w) ≡ sleb_within 9 all
-  sleb_turn_zero b w y le h sign is =
-      let n : 9 - i ≡ 0 = omega arith in
-      turn_last _ _ _ so_far (pos 0) y w (rw n (sleb_zero v b w h sign)) (omega (arith, ints))
+    -- the byte is the tenth, and the number is not negative
+    pub sleb_turn_zero : (b : ℕ) (w : View) (y : ℤ) → 9 ≤ i → Ok (b, w) ≡ byte_at v → b ≡ 0
+        → y ≡ pos a → Ok (y, w) ≡ sleb_within 9 all
+    sleb_turn_zero b w y le h sign is =
+        let n : 9 - i ≡ 0 = omega arith in
+        turn_last _ _ _ so_far (pos 0) y w (rw n (sleb_zero v b w h sign)) (omega (arith, ints))
 
-  -- the byte is the tenth, and the number is negative
-  pub sleb_turn_ones : (b : ℕ) (w : View) (y : ℤ) → 9 ≤ i → Ok (b, w) ≡ byte_at v → b ≡ 127
-      → y ≡ pos a -ℤ pos s → Ok (y, w) ≡ sleb_within 9 all
-  sleb_turn_ones b w y le h sign is =
-      let n : 9 - i ≡ 0 = omega arith in
-      turn_last _ _ _ so_far (pos 0 -ℤ pos 1) y w (rw n (sleb_ones v b w h sign))
-      (omega (arith, ints))
+    -- the byte is the tenth, and the number is negative
+    pub sleb_turn_ones : (b : ℕ) (w : View) (y : ℤ) → 9 ≤ i → Ok (b, w) ≡ byte_at v → b ≡ 127
+        → y ≡ pos a -ℤ pos s → Ok (y, w) ≡ sleb_within 9 all
+    sleb_turn_ones b w y le h sign is =
+        let n : 9 - i ≡ 0 = omega arith in
+        turn_last _ _ _ so_far (pos 0 -ℤ pos 1) y w (rw n (sleb_ones v b w h sign))
+        (omega (arith, ints))
 
-  -- the byte is the tenth, and is refused
-  pub sleb_turn_over : (b : ℕ) (w : View) → 9 ≤ i → Ok (b, w) ≡ byte_at v → ¬ (b ≡ 0) → ¬ (b ≡ 127)
-      → Err BadSignedLeb128 ≡ sleb_within 9 all
-  sleb_turn_over b w le h some_bit some_other =
-      let n : 9 - i ≡ 0 = omega arith in
-      turn_refused _ _ _ so_far BadSignedLeb128 (rw n (sleb_over v b w h some_bit some_other))
+    -- the byte is the tenth, and is refused
+    pub sleb_turn_over : (b : ℕ) (w : View) → 9 ≤ i → Ok (b, w) ≡ byte_at v → ¬ (b ≡ 0) → ¬ (b ≡ 127)
+        → Err BadSignedLeb128 ≡ sleb_within 9 all
+    sleb_turn_over b w le h some_bit some_other =
+        let n : 9 - i ≡ 0 = omega arith in
+        turn_refused _ _ _ so_far BadSignedLeb128 (rw n (sleb_over v b w h some_bit some_other))

@@ -12,7 +12,7 @@ use Rattle.gimli_base.proofs.ItemTurns.{ItemsSoFar, items_within, items_begin, i
 use Rattle.gimli_base.proofs.ItemTurns.{items_refused, items_end}
 use Rattle.gimli_base.specs.Abbreviations.{Declaration, declaration_of, repeats, map_of}
 use Rattle.gimli_base.specs.Abbreviations.{declaration_at, declarations_at}
-use Rattle.gimli_base.specs.Table.{Table, found}
+use Rattle.gimli_base.specs.Table.{Table, codes_of}
 use Rattle.gimli_base.proofs.AbbreviationMap.{declaration_of-last, repeats-again, repeats-new}
 
 -- the table has the declarations that were read so far, none twice
@@ -20,7 +20,7 @@ pub record TableSoFar (all : Items Declaration) (t : Table) (v : View) : Type 0 
   pub declared : List Declaration
   pub read : ItemsSoFar declaration_at all declared v
   pub apart : repeats declared ≡ false
-  pub same : (code : ℕ) → found t code ≡ declaration_of declared code
+  pub same : (code : ℕ) → codes_of t code ≡ declaration_of declared code
 
 none_found : (t : Bool) (i : ℕ)
     → ◌≡◌ {A = Option Declaration} (if t then slice_get [] i else None) None
@@ -29,7 +29,7 @@ none_found true (suc i) = refl
 none_found false i = refl
 
 pub table_begin : (v : View) → TableSoFar (declarations_at v) (record { dense = []; others = [] }) v
-unfolding declarations_at found
+unfolding declarations_at codes_of
 table_begin v =
     record {
       declared = [];
@@ -41,8 +41,8 @@ table_begin v =
 pub table_more : (all : Items Declaration) (t t' : Table) (v : View) (d : Declaration) (w : View)
     → TableSoFar all t v
     → Ok (Some d, w) ≡ declaration_at v → length w.bytes < length v.bytes
-    → found t d.code ≡ None
-    → ((code : ℕ) → found t' code ≡ (if d.code == code then Some d else found t code))
+    → codes_of t d.code ≡ None
+    → ((code : ℕ) → codes_of t' code ≡ (if d.code == code then Some d else codes_of t code))
     → TableSoFar all t' w
 table_more all t t' v d w s h lt none adds =
     let none' : declaration_of s.declared d.code ≡ None = sym (s.same d.code) ∙ none in
@@ -57,7 +57,7 @@ table_more all t t' v d w s h lt none adds =
 pub table_again : (all : Items Declaration) (t : Table) (v : View) (d : Declaration) (w : View)
     → TableSoFar all t v
     → Ok (Some d, w) ≡ declaration_at v → length w.bytes < length v.bytes
-    → is_some (found t d.code) ≡ true → map_of all ≡ Err DuplicateAbbreviationCode
+    → is_some (codes_of t d.code) ≡ true → map_of all ≡ Err DuplicateAbbreviationCode
 table_again all t v d w s h lt some =
     let more = items_more declaration_at all s.declared v d w s.read h lt in
     let others = items_within declaration_at more.cut_short more.fuel w in
@@ -74,7 +74,7 @@ table_refused all t v e s h =
     sym (ap map_of (items_refused declaration_at all s.declared v e s.read h) ∙ rw s.apart refl)
 
 pub table_end : (all : Items Declaration) (t : Table) (v w : View) → TableSoFar all t v
-    → Ok (None, w) ≡ declaration_at v → Ok (found t) ≡ map_of all
+    → Ok (None, w) ≡ declaration_at v → Ok (codes_of t) ≡ map_of all
 table_end all t v w s h =
     sym
     (ap map_of (items_end declaration_at all s.declared v w s.read h)

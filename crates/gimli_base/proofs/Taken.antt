@@ -9,7 +9,8 @@ use Rattle.gimli_base.specs.declared.common.Format.{Format}
 use Rattle.gimli_base.specs.declared.common.Format.TheVariants.{Dwarf32, Dwarf64}
 use Rattle.gimli_base.specs.Offset.{offset_of}
 use Rattle.gimli_base.specs.View.{View, cut, front}
-use Rattle.gimli_base.specs.Reading.{Reads, ◌>>=◌, made, eof, byte_at, split_at, bytes_at, uint_at}
+use Rattle.gimli_base.specs.Reading.{Reads, ◌>>=◌, map_read, eof, byte_at, split_at, bytes_at}
+use Rattle.gimli_base.specs.Reading.{uint_at}
 use Rattle.gimli_base.specs.Reading.{number, as_offset, offset_at, word_size_of, sized_offset_at}
 use Rattle.gimli_base.specs.Reading.{address_at, address_size_at, is_size, find_at, text_at}
 use Rattle.gimli_base.specs.Reading.{initial_length_at, initial_length_size_of}
@@ -98,7 +99,7 @@ then_takes n first size v (Ok p) f h g x w e =
 then_takes {B = B} n first size v (Err e) f h g x w is = err_takes {A = B} n size v e x w is
 
 pub made_takes : {A B : Type 0} → (n : ℕ) (size : B → ℕ) (v : View) (f : A → B) (r : Reads A)
-    → TakesAfter n (λ a. size (f a)) v r → TakesAfter n size v (made f r)
+    → TakesAfter n (λ a. size (f a)) v r → TakesAfter n size v (map_read f r)
 made_takes n size v f (Ok p) h = ok_takes n size v (f p.0, p.1) (h p.0 p.1 refl)
 made_takes {B = B} n size v f (Err e) h = err_takes {A = B} n size v e
 
@@ -183,7 +184,7 @@ text_at-takes v = either (find_at 0 v)
 
     behind : (n : ℕ) (r : Reads View) → Takes n v r
         → ((a w : View) → Ok (a, w) ≡ r → length a.bytes ≡ n)
-        → TakesAfter 0 size v (r >>= λ p. made (λ _. p.0) (byte_at p.1))
+        → TakesAfter 0 size v (r >>= λ p. map_read (λ _. p.0) (byte_at p.1))
     behind n (Err e) h k = err_takes {A = View} 0 size v e
     behind n (Ok p) h k =
         let bytes : length p.0.bytes ≡ n = k p.0 p.1 refl in
@@ -194,7 +195,11 @@ text_at-takes v = either (find_at 0 v)
 
     either : (r : Result ℕ Error)
         → TakesAfter 0 size v
-        (elim r [ Ok n ↦ split_at n v >>= (λ p. made (λ _. p.0) (byte_at p.1)) | Err e ↦ Err e ])
+        (elim r [
+          | Ok n ↦ split_at n v
+              >>= (λ p. map_read (λ _. p.0) (byte_at p.1))
+          | Err e ↦ Err e
+        ])
     either (Ok n) = behind n (split_at n v) (split_at-takes n v) (split_at-front n v)
     either (Err e) = err_takes {A = View} 0 size v e
 
@@ -208,20 +213,20 @@ initial_length_at-takes limit v = begin (uint_at 4 v) (uint_at-takes 4 v)
     size p = initial_length_size_of p.1
 
     short : (q : ℕ × View) → TakenAfter 0 4 v q.1
-        → TakesAfter 0 size v (made (λ n. (n, Dwarf32)) (as_offset limit (Ok q)))
+        → TakesAfter 0 size v (map_read (λ n. (n, Dwarf32)) (as_offset limit (Ok q)))
     short q t = made_takes 0 size v (λ n. (n, Dwarf32)) (as_offset limit (Ok q))
         (as_offset-takes 4 limit v (Ok q) (ok_takes 0 (λ _. 4) v q t))
 
     long : (q : ℕ × View) → TakenAfter 0 4 v q.1
-        → TakesAfter 0 size v (made (λ n. (n, Dwarf64)) (offset_at limit Dwarf64 q.1))
+        → TakesAfter 0 size v (map_read (λ n. (n, Dwarf64)) (offset_at limit Dwarf64 q.1))
     long q t = made_takes 0 size v (λ n. (n, Dwarf64)) (offset_at limit Dwarf64 q.1)
         (λ x w e. TakenAfter-trans 0 4 12 v q.1 w t
         (TakenAfter-more 0 4 8 q.1 w (offset_at-takes limit Dwarf64 q.1 x w e)))
 
     either : (q : ℕ × View) → TakenAfter 0 4 v q.1 → (s t : Bool)
         → TakesAfter 0 size v
-        (if s then made (λ n. (n, Dwarf32)) (as_offset limit (Ok q))
-        else if t then made (λ n. (n, Dwarf64)) (offset_at limit Dwarf64 q.1)
+        (if s then map_read (λ n. (n, Dwarf32)) (as_offset limit (Ok q))
+        else if t then map_read (λ n. (n, Dwarf64)) (offset_at limit Dwarf64 q.1)
         else Err UnknownReservedLength)
     either q l true t = short q l
     either q l false true = long q l
@@ -230,8 +235,8 @@ initial_length_at-takes limit v = begin (uint_at 4 v) (uint_at-takes 4 v)
     begin : (r : Reads ℕ) → Takes 4 v r
         → TakesAfter 0 size v
         (r >>= λ p. if nat_lt p.0 0xffff_fff0
-        then made (λ n. (n, Dwarf32)) (as_offset limit (Ok p))
-        else if p.0 == 0xffff_ffff then made (λ n. (n, Dwarf64)) (offset_at limit Dwarf64 p.1)
+        then map_read (λ n. (n, Dwarf32)) (as_offset limit (Ok p))
+        else if p.0 == 0xffff_ffff then map_read (λ n. (n, Dwarf64)) (offset_at limit Dwarf64 p.1)
         else Err UnknownReservedLength)
     begin (Ok q) h = either q (h q.0 q.1 refl) (nat_lt q.0 0xffff_fff0) (q.0 == 0xffff_ffff)
     begin (Err e) h = err_takes {A = ℕ × Format} 0 size v e

@@ -5,7 +5,7 @@ use Rattle.std.proofs.Math.Nat.{mul-add, mul_assoc, mul_comm}
 use Rattle.gimli_base.specs.declared.error.Error.{Error}
 use Rattle.gimli_base.specs.declared.error.Error.TheVariants.{BadUnsignedLeb128}
 use Rattle.gimli_base.specs.View.{View}
-use Rattle.gimli_base.specs.Reading.{Reads, made, byte_at, uleb_within}
+use Rattle.gimli_base.specs.Reading.{Reads, map_read, byte_at, uleb_within}
 use Rattle.gimli_base.proofs.LebTurns.{not_below, made_same, turn_refused, turn_last, turn_more}
 
 -- no byte is left
@@ -22,7 +22,7 @@ uleb_last n v b w h lt = rw (← h) (search (rules, tests))
 
 -- another byte has bits in front of the rest
 uleb_next : (n : ℕ) (v : View) (b : ℕ) (w : View) → Ok (b, w) ≡ byte_at v → 128 ≤ b
-    → uleb_within 1 (suc n) v ≡ made (λ m. b - 128 + 128 * m) (uleb_within 1 n w)
+    → uleb_within 1 (suc n) v ≡ map_read (λ m. b - 128 + 128 * m) (uleb_within 1 n w)
 unfolding uleb_within
 uleb_next n v b w h le = rw (← h) (not_below b 128 _ _ le)
 
@@ -39,12 +39,12 @@ unfolding uleb_within
 uleb_over v b w h lt = rw (← h) (search (rules, tests))
 
 -- no bits are in front of the first byte
-pub uleb_first : (r : Reads ℕ) → r ≡ made (λ m. 0 + 1 * m) r
+pub uleb_first : (r : Reads ℕ) → r ≡ map_read (λ m. 0 + 1 * m) r
 uleb_first r = made_same (λ m. 0 + 1 * m) r (λ m. omega arith)
 
 -- a turn of the loop: n bytes may come and one, and the number is a and s times theirs
 module _ (all v : View) (a s i : ℕ)
-    (so_far : uleb_within 1 9 all ≡ made (λ m. a + s * m) (uleb_within 1 (9 - i) v)) where
+    (so_far : uleb_within 1 9 all ≡ map_read (λ m. a + s * m) (uleb_within 1 (9 - i) v)) where
   -- no byte is left
   pub uleb_turn_ended : (e : Error) → Err e ≡ byte_at v → Err e ≡ uleb_within 1 9 all
   uleb_turn_ended e h = turn_refused _ _ _ so_far e (uleb_ended (9 - i) v e h)
@@ -60,11 +60,11 @@ module _ (all v : View) (a s i : ℕ)
   -- the byte has bits in front of more
   pub uleb_turn_more : (b f : ℕ) (w : View) → i < 9 → b ≡ f → Ok (f, w) ≡ byte_at v → 128 ≤ b
       → uleb_within 1 9 all
-      ≡ made (λ m. a + (b - 128) * s + s * 128 * m) (uleb_within 1 (9 - (i + 1)) w)
+      ≡ map_read (λ m. a + (b - 128) * s + s * 128 * m) (uleb_within 1 (9 - (i + 1)) w)
   uleb_turn_more b f w lt e h high =
       let n : 9 - i ≡ suc (9 - (i + 1)) = omega arith in
       let at : uleb_within 1 (9 - i) v
-      ≡ made (λ m. b - 128 + 128 * m) (uleb_within 1 (9 - (i + 1)) w) =
+      ≡ map_read (λ m. b - 128 + 128 * m) (uleb_within 1 (9 - (i + 1)) w) =
       rw n (uleb_next (9 - (i + 1)) v b w (rw e h) high) in
       turn_more _ _ _ so_far _ _ _ at
       (λ m.

@@ -11,8 +11,8 @@ use Rattle.gimli_base.specs.declared.error.Error.TheVariants.{InvalidAbbreviatio
 use Rattle.gimli_base.specs.declared.error.Error.TheVariants.{AttributeNameZero, AttributeFormZero}
 use Rattle.gimli_base.specs.declared.error.Error.TheVariants.{DuplicateAbbreviationCode}
 use Rattle.gimli_base.specs.View.{View}
-use Rattle.gimli_base.specs.Items.{Items, items_at, whole}
-use Rattle.gimli_base.specs.Reading.{Reads, ◌>>=◌, made, byte_at, uleb_at, uleb16_at, sleb_at}
+use Rattle.gimli_base.specs.Items.{Items, items_at, all_items}
+use Rattle.gimli_base.specs.Reading.{Reads, ◌>>=◌, map_read, byte_at, uleb_at, uleb16_at, sleb_at}
 use Rattle.gimli_base.specs.Reading.{skip_at}
 
 -- a declared attribute: its name, its form, and the number that the form implicit_const has here
@@ -44,7 +44,7 @@ specification_at v =
     if name.0 == 0 then (if form.0 == 0 then Ok (None, form.1) else Err AttributeNameZero)
     else if form.0 == 0 then Err AttributeFormZero
     else if form.0 == 0x21
-    then made
+    then map_read
     (λ n.
     Some
     (record { name = record { 0 = name.0 }; form = record { 0 = form.0 }; constant = Some n }))
@@ -57,7 +57,7 @@ specification_at v =
 
 -- the declared attributes up to two zeros
 unfoldable pub specifications_at : View → Reads (List Specification)
-specifications_at v = whole (items_at specification_at v)
+specifications_at v = all_items (items_at specification_at v)
 
 -- the byte that says whether the entries have children
 unfoldable pub children_at : View → Reads Bool
@@ -73,13 +73,13 @@ tag_at v = uleb16_at v >>= λ p. if p.0 == 0 then Err AbbreviationTagZero
 unfoldable pub declared_at : ℕ → View → Reads Declaration
 declared_at code v =
     tag_at v >>= λ tag. children_at tag.1 >>= λ children.
-    made (λ ss. record { code = code; tag = tag.0; has_children = children.0; attributes = ss })
+    map_read (λ ss. record { code = code; tag = tag.0; has_children = children.0; attributes = ss })
     (specifications_at children.1)
 
 -- the next declaration, or none where the code 0 ends the table
 unfoldable pub declaration_at : View → Reads (Option Declaration)
 declaration_at v = uleb_at v >>= λ p. if p.0 == 0 then Ok (None, p.1)
-    else made Some (declared_at p.0 p.1)
+    else map_read Some (declared_at p.0 p.1)
 
 -- the declarations up to the code 0
 unfoldable pub declarations_at : View → Items Declaration

@@ -25,13 +25,14 @@ abbrev pub wrapped_sum : ℕ → ℕ → ℕ → ℕ
 wrapped_sum size address length = (address + length) % 256 ^ size
 
 -- what was read, without what is left
-abbrev pub alone : {A : Type 0} → Reads A → Result A Error
-alone (Ok p) = Ok p.0
-alone (Err e) = Err e
+abbrev pub without_rest : {A : Type 0} → Reads A → Result A Error
+without_rest (Ok p) = Ok p.0
+without_rest (Err e) = Err e
 
 -- The address at an index of a table of addresses of a size: the table begins at `base`, and the
 -- number of bytes before the address has to be an offset of the reader.
 unfoldable pub table_address : ℕ → ℕ → ℕ → ℕ → View → Result ℕ Error
 table_address limit size base index v =
-    alone (skip_at base v >>= λ table. as_offset limit (Ok (index * size, table.1)) >>= λ before.
+    without_rest (skip_at base v >>= λ table.
+    as_offset limit (Ok (index * size, table.1)) >>= λ before.
     skip_at before.0 before.1 >>= λ entry. address_at size entry.1)

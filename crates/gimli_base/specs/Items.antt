@@ -21,5 +21,5 @@ unfoldable pub items_at : {A : Type 0} → (View → Reads (Option A)) → View 
 items_at next v = chain (λ w. length w.bytes) (λ w. item_of_read (next w)) (Err (eof v)) v
 
 -- the items, where nothing was refused, and what is left after their mark
-abbrev pub whole : {A : Type 0} → Items A → Reads (List A)
-whole r = elim r.ending [ Ok w ↦ Ok (r.items, w) | Err e ↦ Err e ]
+abbrev pub all_items : {A : Type 0} → Items A → Reads (List A)
+all_items r = elim r.ending [ Ok w ↦ Ok (r.items, w) | Err e ↦ Err e ]

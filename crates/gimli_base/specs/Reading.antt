@@ -14,7 +14,7 @@ use Rattle.gimli_base.specs.declared.error.Error.TheVariants.{UnsupportedOffsetS
 use Rattle.gimli_base.specs.declared.common.Format.{Format}
 use Rattle.gimli_base.specs.declared.common.Format.TheVariants.{Dwarf32, Dwarf64}
 use Rattle.gimli_base.specs.Offset.{offset_of}
-use Rattle.gimli_base.specs.View.{View, cut, front, ended}
+use Rattle.gimli_base.specs.View.{View, cut, front, end_of_view}
 
 -- the input ends before what should begin at the view's first place
 abbrev pub eof : View → Error
@@ -25,9 +25,9 @@ abbrev pub Reads : Type 0 → Type 0
 Reads A = Result (A × View) Error
 
 -- what a call that answered r and left v has read
-abbrev pub read : {A : Type 0} → Result A Error → View → Reads A
-read (Ok a) v = Ok (a, v)
-read (Err e) v = Err e
+abbrev pub read_of : {A : Type 0} → Result A Error → View → Reads A
+read_of (Ok a) v = Ok (a, v)
+read_of (Err e) v = Err e
 
 -- one read, and then another from the view that is left
 infixl 10 ◌>>=◌
@@ -36,8 +36,8 @@ Ok p >>= f = f p
 Err e >>= f = Err e
 
 -- what was read, made into another value
-abbrev pub made : {A B : Type 0} → (A → B) → Reads A → Reads B
-made f r = r >>= λ p. Ok (f p.0, p.1)
+abbrev pub map_read : {A B : Type 0} → (A → B) → Reads A → Reads B
+map_read f r = r >>= λ p. Ok (f p.0, p.1)
 
 -- passes n bytes
 unfoldable pub skip_at : ℕ → View → Reads (Unit {0})
@@ -65,9 +65,9 @@ unfoldable pub bytes_at : ℕ → View → Reads (List ℕ)
 bytes_at n v = if nat_le n (length v.bytes) then Ok (take n v.bytes, cut n v) else Err (eof v)
 
 -- the answer of a call that leaves its value x in a place of the caller's
-abbrev pub filled : {A B : Type 0} → A → Result B Error → Result A Error
-filled x (Ok _) = Ok x
-filled x (Err e) = Err e
+abbrev pub answer_leaving : {A B : Type 0} → A → Result B Error → Result A Error
+answer_leaving x (Ok _) = Ok x
+answer_leaving x (Err e) = Err e
 
 -- a number to base 256, of which a is read already, and then these digits
 abbrev pub digits : ℕ → List ℕ → ℕ
@@ -80,7 +80,7 @@ number big xs = digits 0 (if big then xs else reverse xs)
 
 -- the next n bytes as a number
 unfoldable pub uint_at : ℕ → View → Reads ℕ
-uint_at n v = made (number v.big) (bytes_at n v)
+uint_at n v = map_read (number v.big) (bytes_at n v)
 
 -- an unsigned LEB128 number of at most n + 1 bytes: 7 bits a byte, lowest first, up to a byte below
 -- 128; the last byte that there may be is at most `top`
@@ -88,7 +88,7 @@ unfoldable pub uleb_within : ℕ → ℕ → View → Reads ℕ
 uleb_within top zero v = byte_at v >>= λ p. if nat_le p.0 top then Ok p else Err BadUnsignedLeb128
 uleb_within top (suc n) v =
     byte_at v >>= λ p. if nat_lt p.0 128 then Ok p
-    else made (λ m. p.0 - 128 + 128 * m) (uleb_within top n p.1)
+    else map_read (λ m. p.0 - 128 + 128 * m) (uleb_within top n p.1)
 
 -- the next unsigned LEB128 number of 64 bits: ten bytes, the tenth with one bit
 unfoldable pub uleb_at : View → Reads ℕ
@@ -99,8 +99,8 @@ unfoldable pub uleb16_at : View → Reads ℕ
 uleb16_at v = uleb_within 3 2 v
 
 -- a signed LEB128 number of at most n + 1 bytes: 7 bits a byte, lowest first, up to a byte below
--- 128, of which the bit 64 is the sign; the last byte that there may be is 0 or 127, and is the
--- sign alone
+-- 128, of which the bit of value 64 (0x40) is the sign; the last byte that there may be is 0 or
+-- 127, and is the sign alone
 unfoldable pub sleb_within : ℕ → View → Reads ℤ
 sleb_within zero v =
     byte_at v >>= λ p. if p.0 == 0 then Ok (pos 0, p.1)
@@ -108,7 +108,7 @@ sleb_within zero v =
 sleb_within (suc n) v =
     byte_at v >>= λ p. if nat_lt p.0 64 then Ok (pos p.0, p.1)
     else if nat_lt p.0 128 then Ok (pos p.0 -ℤ pos 128, p.1)
-    else made (λ z. pos (p.0 - 128) +ℤ (pos 128 *ℤ z)) (sleb_within n p.1)
+    else map_read (λ z. pos (p.0 - 128) +ℤ (pos 128 *ℤ z)) (sleb_within n p.1)
 
 -- the next signed LEB128 number of 64 bits
 unfoldable pub sleb_at : View → Reads ℤ
@@ -117,7 +117,7 @@ sleb_at v = sleb_within 9 v
 -- passes a LEB128 number of any length: the bytes before the first below 128, and that one
 unfoldable pub skip_leb_at : View → Reads (Unit {0})
 skip_leb_at v = elim (position (λ b. nat_lt b 128) v.bytes)
-    [ Some n ↦ Ok (tt, cut (n + 1) v) | None ↦ Err (eof (ended v)) ]
+    [ Some n ↦ Ok (tt, cut (n + 1) v) | None ↦ Err (eof (end_of_view v)) ]
 
 -- a number that was read, as an offset
 abbrev pub as_offset : ℕ → Reads ℕ → Reads ℕ
@@ -153,8 +153,8 @@ sized_offset_at limit z v =
 -- a length, and the format that it shows
 unfoldable pub initial_length_at : ℕ → View → Reads (ℕ × Format)
 initial_length_at limit v = uint_at 4 v >>= λ p.
-    if nat_lt p.0 0xffff_fff0 then made (λ n. (n, Dwarf32)) (as_offset limit (Ok p))
-    else if p.0 == 0xffff_ffff then made (λ n. (n, Dwarf64)) (offset_at limit Dwarf64 p.1)
+    if nat_lt p.0 0xffff_fff0 then map_read (λ n. (n, Dwarf32)) (as_offset limit (Ok p))
+    else if p.0 == 0xffff_ffff then map_read (λ n. (n, Dwarf64)) (offset_at limit Dwarf64 p.1)
     else Err UnknownReservedLength
 
 -- the next address of a size that is named
@@ -173,7 +173,7 @@ find_at b v = elim (position (λ x. x == b) v.bytes) [ Some n ↦ Ok n | None �
 -- the bytes before the first zero; the zero is passed too
 unfoldable pub text_at : View → Reads View
 text_at v = elim (find_at 0 v) [
-  | Ok n ↦ split_at n v >>= λ p. made (λ _. p.0) (byte_at p.1)
+  | Ok n ↦ split_at n v >>= λ p. map_read (λ _. p.0) (byte_at p.1)
   | Err e ↦ Err e
 ]
 
@@ -197,7 +197,7 @@ PassesAs {A} pass r =
     → ◌≡◌ {A = Reads (Unit {0})} pass (Ok (tt, w))
 
 -- the answer of an iterator as that of a call that may be refused
-abbrev pub transposed : {A : Type 0} → Option (Result A Error) → Result (Option A) Error
-transposed None = Ok None
-transposed (Some (Ok a)) = Ok (Some a)
-transposed (Some (Err e)) = Err e
+abbrev pub transpose : {A : Type 0} → Option (Result A Error) → Result (Option A) Error
+transpose None = Ok None
+transpose (Some (Ok a)) = Ok (Some a)
+transpose (Some (Err e)) = Err e

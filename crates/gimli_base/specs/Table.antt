@@ -11,7 +11,7 @@ pub record Table : Type 0 where
   pub others : List (ℕ × Declaration)
 
 -- what is declared under a code
-unfoldable pub found : Table → Map
-found t code =
+unfoldable pub codes_of : Table → Map
+codes_of t code =
     if (nat_lt 0 code && nat_lt (code - 1) (length t.dense)) then slice_get t.dense (code - 1)
     else lookup (is_at (nat_cmp code)) t.others

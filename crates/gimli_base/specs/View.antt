@@ -16,8 +16,8 @@ abbrev pub front : ℕ → View → View
 front n v = record { big = v.big; place = v.place; bytes = take n v.bytes }
 
 -- no bytes, at the end of the view
-abbrev pub ended : View → View
-ended v = record { big = v.big; place = v.place + length v.bytes; bytes = [] }
+abbrev pub end_of_view : View → View
+end_of_view v = record { big = v.big; place = v.place + length v.bytes; bytes = [] }
 
 -- w is v some bytes later, at least so many
 pub record IsLater (least : ℕ) (v w : View) : Type 0 where

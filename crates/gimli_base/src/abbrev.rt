@@ -1,5 +1,6 @@
 //! Abbreviations: the declared shapes of entries (DWARF 5, 7.5.3).
 
+ghost use Rattle.std.proofs.Common.{ap};
 ghost use Rattle.std.specs.Prelude.{ℕ, ◌≡◌, ◌≢◌, ◌==◌, [], is_some, if◌then◌else◌, Some, None};
 ghost use Rattle.std.specs.Prelude.{Option, OnOk, IfErr, IsSome, unwrap_or, pos, List, ◌++◌, ◌∷◌};
 ghost use Rattle.std.specs.Prelude.{take, nat_le, IfOk};
@@ -18,9 +19,9 @@ ghost use Rattle.gimli_base.specs.Abbreviations.{
   declarations_at,
 };
 ghost use Rattle.gimli_base.specs.Width.{width_of, form_size};
-ghost use Rattle.gimli_base.specs.Table.{Table, found};
+ghost use Rattle.gimli_base.specs.Table.{Table, codes_of};
 ghost use Rattle.gimli_base.specs.Offset.{answer_of};
-ghost use Rattle.gimli_base.specs.Reading.{read, filled, made, UnlessMemory};
+ghost use Rattle.gimli_base.specs.Reading.{read_of, answer_leaving, map_read, UnlessMemory};
 
 use crate::width::Width;
 use crate::{
@@ -131,7 +132,7 @@ impl AttributeSpecification {
     #[inline(always)]
     #[tactic(auto, unfolding(crate::specs::Abbreviations::specification_at))]
     fn parse<R: Reader>(input: &mut R) -> Result<Option<AttributeSpecification>>
-        ensures { read result (R.view input.new) ≡ specification_at (R.view input.old) }
+        ensures { read_of result (R.view input.new) ≡ specification_at (R.view input.old) }
     {
         let name = DwAt(input.read_uleb128_u16()?);
         let form = DwForm(input.read_uleb128_u16()?);
@@ -244,7 +245,7 @@ impl<A: Allocator> Attributes<A> {
     fn parse<R: Reader>(&mut self, input: &mut R) -> Result<()>
         requires { self.old ≡ [] }
         ensures { UnlessMemory result
-            (read (filled self.new result) (R.view input.new)
+            (read_of (answer_leaving self.new result) (R.view input.new)
             ≡ specifications_at (R.view input.old)) }
     {
         while let Some(specification) = AttributeSpecification::parse(input)? {
@@ -324,10 +325,10 @@ fn parse_declared<R: Reader, A: Allocator>(
 ) -> Result<(DwTag, bool)>
     requires { attributes.old ≡ [] }
     ensures declared { UnlessMemory result
-        ((code : ℕ) → made
+        ((code : ℕ) → map_read
         (λ r.
         record { code = code; tag = r.0; has_children = r.1; attributes = attributes.new })
-        (read result (R.view input.new))
+        (read_of result (R.view input.new))
         ≡ declared_at code (R.view input.old)) }
     ensures tag { IfOk result (λ r. r.0.0 ≢ 0) }
 {
@@ -363,9 +364,9 @@ impl<A: Allocator> Abbreviations<A> {
     /// The declaration of a code, if there is one: in constant time where the codes 1, 2, .. are
     /// declared in order, else in logarithmic time.
     #[inline]
-    #[tactic(auto, unfolding(crate::specs::Table::found))]
+    #[tactic(auto, unfolding(crate::specs::Table::codes_of))]
     pub fn get(&self, code: u64) -> Option<&Abbreviation<A>>
-        ensures { option_copied result ≡ found self.now code }
+        ensures { option_copied result ≡ codes_of self.now code }
     {
         if 0 < code {
             let index = code - 1;
@@ -392,12 +393,12 @@ impl<A: Allocator + Copy> Abbreviations<A> {
     #[inline(always)]
     fn insert(&mut self, declared: Abbreviation<A>) -> Result<()>
         ensures ok { OnOk result
-            ((code : ℕ) → found self.new code
-            ≡ (if declared.code == code then Some declared else found self.old code)) }
-        ensures new { OnOk result (found self.old declared.code ≡ None) }
+            ((code : ℕ) → codes_of self.new code
+            ≡ (if declared.code == code then Some declared else codes_of self.old code)) }
+        ensures new { OnOk result (codes_of self.old declared.code ≡ None) }
         ensures refused { UnlessMemory result
-            (IfErr result
-            (λ e. (e ≡ Error.DuplicateAbbreviationCode) × IsSome (found self.old declared.code))) }
+            (IfErr result (λ e.
+            (e ≡ Error.DuplicateAbbreviationCode) × IsSome (codes_of self.old declared.code))) }
     {
         let code = declared.code;
         if self.get(code).is_some() {
@@ -417,7 +418,7 @@ impl<A: Allocator + Copy> Abbreviations<A> {
     // anywhere.
     fn parse<R: Reader>(alloc: A, input: &mut R) -> Result<Abbreviations<A>>
         ensures { UnlessMemory result
-            (answer_of found result ≡ map_of (declarations_at (R.view input.old))) }
+            (answer_of codes_of result ≡ map_of (declarations_at (R.view input.old))) }
     {
         let mut table = Abbreviations::new(alloc);
         loop {
@@ -468,6 +469,8 @@ impl<R: Reader> Section<R> for DebugAbbrev<R> {
 
     ghost content = { λ s. R.view s.section };
 
+    ghost content_of_from = { λ _ _ same. ap R.view same };
+
     fn id() -> SectionId {
         SectionId::DebugAbbrev
     }
@@ -478,16 +481,6 @@ impl<R: Reader> Section<R> for DebugAbbrev<R> {
 }
 
 impl<R: Reader> DebugAbbrev<R> {
-    /// A section of the same bytes.
-    pub fn copy(&self) -> Self
-        ensures { ⟦<DebugAbbrev<R> as Section<R>>⟧.content result
-            ≡ ⟦<DebugAbbrev<R> as Section<R>>⟧.content self.now }
-    {
-        DebugAbbrev {
-            section: self.section.copy(),
-        }
-    }
-
     /// The table of the declarations at an offset of the section, up to the code 0 (DWARF 5,
     /// 7.5.3).
     ///
@@ -502,7 +495,7 @@ impl<R: Reader> DebugAbbrev<R> {
         offset: DebugAbbrevOffset<R::Offset>,
     ) -> Result<Abbreviations<A>>
         ensures { UnlessMemory result
-            (answer_of found result
+            (answer_of codes_of result
             ≡ map_at (R.Offset.number offset.0)
             (⟦<DebugAbbrev<R> as Section<R>>⟧.content self.now)) }
     {

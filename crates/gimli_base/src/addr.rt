@@ -1,5 +1,6 @@
 //! The section of addresses (DWARF 5, 7.27).
 
+ghost use Rattle.std.proofs.Common.{ap};
 ghost use Rattle.std.specs.Prelude.{◌≡◌};
 ghost use Rattle.gimli_base.specs.declared.common.SectionId.TheVariants.{DebugAddr as AddrSection};
 ghost use Rattle.gimli_base.specs.Address.{table_address};
@@ -27,6 +28,8 @@ impl<R: Reader> Section<R> for DebugAddr<R> {
 
     ghost content = { λ s. R.view s.section };
 
+    ghost content_of_from = { λ _ _ same. ap R.view same };
+
     fn id() -> SectionId {
         SectionId::DebugAddr
     }
@@ -37,16 +40,6 @@ impl<R: Reader> Section<R> for DebugAddr<R> {
 }
 
 impl<R: Reader> DebugAddr<R> {
-    /// A section of the same bytes.
-    pub fn copy(&self) -> Self
-        ensures { ⟦<DebugAddr<R> as Section<R>>⟧.content result
-            ≡ ⟦<DebugAddr<R> as Section<R>>⟧.content self.now }
-    {
-        DebugAddr {
-            section: self.section.copy(),
-        }
-    }
-
     /// The address at an index of the table that begins at `base`, an offset of the section, with
     /// addresses of `address_size` bytes.
     ///

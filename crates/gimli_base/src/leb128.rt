@@ -1,7 +1,7 @@
 //! LEB128 numbers of more than two bytes (DWARF 5, 7.6).
 
 ghost use Rattle.std.specs.Prelude.{◌≡◌, ◌<◌, ◌≤◌, pos, ◌-ℤ◌};
-ghost use Rattle.gimli_base.specs.Reading.{read, uleb_at, sleb_at};
+ghost use Rattle.gimli_base.specs.Reading.{read_of, uleb_at, sleb_at};
 
 use crate::{Error, Reader, Result};
 
@@ -10,7 +10,7 @@ use crate::{Error, Reader, Result};
 /// It is never inlined and gets a reader of its own, so that the caller's stays in registers.
 #[inline(never)]
 pub(crate) fn long_uleb128<R: Reader>(reader: &mut R) -> Result<u64>
-    ensures { read result (R.view reader.new) ≡ uleb_at (R.view reader.old) }
+    ensures { read_of result (R.view reader.new) ≡ uleb_at (R.view reader.old) }
 {
     let mut value: u64 = 0;
     let mut scale: u64 = 1;
@@ -29,7 +29,7 @@ pub(crate) fn long_uleb128<R: Reader>(reader: &mut R) -> Result<u64>
     Ok(value + byte * scale)
 }
 
-/// The 7 bits of a last byte below 128 as a signed number: the bit 64 is the sign.
+/// The 7 bits of a last byte below 128 as a signed number: the bit of value 64 (0x40) is the sign.
 #[inline]
 pub(crate) fn signed_bits(byte: u8) -> i64
     ensures low { byte < 64 → result ≡ pos byte }
@@ -45,7 +45,7 @@ pub(crate) fn signed_bits(byte: u8) -> i64
 /// The next signed LEB128 number; where it is refused, the reader is left anywhere.
 #[inline(never)]
 pub(crate) fn long_sleb128<R: Reader>(reader: &mut R) -> Result<i64>
-    ensures { read result (R.view reader.new) ≡ sleb_at (R.view reader.old) }
+    ensures { read_of result (R.view reader.new) ≡ sleb_at (R.view reader.old) }
 {
     let mut value: u64 = 0;
     let mut scale: u64 = 1;

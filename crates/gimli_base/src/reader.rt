@@ -4,9 +4,9 @@ ghost use Rattle.std.specs.Prelude.{◌≡◌, ℕ, ◌+◌, ◌-◌, ◌<◌, �
 ghost use Rattle.std.specs.Prelude.{OnErr};
 ghost use Rattle.std.specs.Option.{option_map};
 ghost use Rattle.gimli_base.specs.Offset.{answer_of};
-ghost use Rattle.gimli_base.specs.View.{View, ended};
+ghost use Rattle.gimli_base.specs.View.{View, end_of_view};
 ghost use Rattle.gimli_base.specs.Reading.{
-  read,
+  read_of,
   byte_at,
   bytes_at,
   uint_at,
@@ -16,7 +16,7 @@ ghost use Rattle.gimli_base.specs.Reading.{
   skip_leb_at,
   skip_at,
   split_at,
-  filled,
+  answer_leaving,
   offset_at,
   sized_offset_at,
   text_at,
@@ -65,25 +65,25 @@ pub trait Reader: Debug + Drop {
 
     /// Passes `n` bytes. Refusal: `UnexpectedEof` where there are fewer.
     fn skip(&mut self, n: Self::Offset) -> Result<()>
-        ensures value { read result (view self.new)
+        ensures value { read_of result (view self.new)
             ≡ skip_at (Self.Offset.number n) (view self.old) }
         ensures kept { OnErr result (view self.new ≡ view self.old) };
 
     /// A reader of the next `n` bytes, which are passed. Refusal: `UnexpectedEof` where there are
     /// fewer.
     fn split(&mut self, n: Self::Offset) -> Result<Self>
-        ensures value { read (answer_of view result) (view self.new)
+        ensures value { read_of (answer_of view result) (view self.new)
             ≡ split_at (Self.Offset.number n) (view self.old) }
         ensures kept { OnErr result (view self.new ≡ view self.old) };
 
     /// The next byte. Refusal: `UnexpectedEof`.
     fn read_u8(&mut self) -> Result<u8>
-        ensures value { read result (view self.new) ≡ byte_at (view self.old) }
+        ensures value { read_of result (view self.new) ≡ byte_at (view self.old) }
         ensures kept { OnErr result (view self.new ≡ view self.old) };
 
     /// Fills `into` with the next bytes. Refusal: `UnexpectedEof` where there are fewer.
     fn read_slice(&mut self, into: &mut [u8]) -> Result<()>
-        ensures value { read (filled into.new result) (view self.new)
+        ensures value { read_of (answer_leaving into.new result) (view self.new)
             ≡ bytes_at (length into.old) (view self.old) }
         ensures kept { OnErr result (view self.new ≡ view self.old) };
 
@@ -108,7 +108,7 @@ pub trait Reader: Debug + Drop {
     /// Passes all bytes.
     #[tactic(auto, unfolding(crate::specs::Reading::skip_at))]
     final fn empty(&mut self)
-        ensures { view self.new ≡ ended (view self.old) }
+        ensures { view self.new ≡ end_of_view (view self.old) }
     {
         let all = self.len();
         let _ = self.skip(all);
@@ -117,7 +117,7 @@ pub trait Reader: Debug + Drop {
     /// Keeps the next `n` bytes alone. Refusal: `UnexpectedEof` where there are fewer.
     #[tactic(auto, unfolding(crate::specs::Reading::truncate_at, crate::specs::Reading::split_at))]
     final fn truncate(&mut self, n: Self::Offset) -> Result<()>
-        ensures value { read result (view self.new)
+        ensures value { read_of result (view self.new)
             ≡ truncate_at (Self.Offset.number n) (view self.old) }
         ensures kept { OnErr result (view self.new ≡ view self.old) }
     {
@@ -147,7 +147,7 @@ pub trait Reader: Debug + Drop {
     #[inline]
     #[tactic(auto, unfolding(crate::specs::Reading::uint_at))]
     final fn read_u16(&mut self) -> Result<u16>
-        ensures value { read result (view self.new) ≡ uint_at 2 (view self.old) }
+        ensures value { read_of result (view self.new) ≡ uint_at 2 (view self.old) }
         ensures kept { OnErr result (view self.new ≡ view self.old) }
     {
         let big = self.endian().is_big_endian();
@@ -160,7 +160,7 @@ pub trait Reader: Debug + Drop {
     #[inline]
     #[tactic(auto, unfolding(crate::specs::Reading::uint_at))]
     final fn read_u32(&mut self) -> Result<u32>
-        ensures value { read result (view self.new) ≡ uint_at 4 (view self.old) }
+        ensures value { read_of result (view self.new) ≡ uint_at 4 (view self.old) }
         ensures kept { OnErr result (view self.new ≡ view self.old) }
     {
         let big = self.endian().is_big_endian();
@@ -173,7 +173,7 @@ pub trait Reader: Debug + Drop {
     #[inline]
     #[tactic(auto, unfolding(crate::specs::Reading::uint_at))]
     final fn read_u64(&mut self) -> Result<u64>
-        ensures value { read result (view self.new) ≡ uint_at 8 (view self.old) }
+        ensures value { read_of result (view self.new) ≡ uint_at 8 (view self.old) }
         ensures kept { OnErr result (view self.new ≡ view self.old) }
     {
         let big = self.endian().is_big_endian();
@@ -186,7 +186,7 @@ pub trait Reader: Debug + Drop {
     #[inline]
     #[tactic(auto, unfolding(crate::specs::Reading::uint_at))]
     final fn read_u128(&mut self) -> Result<u128>
-        ensures value { read result (view self.new) ≡ uint_at 16 (view self.old) }
+        ensures value { read_of result (view self.new) ≡ uint_at 16 (view self.old) }
         ensures kept { OnErr result (view self.new ≡ view self.old) }
     {
         let big = self.endian().is_big_endian();
@@ -201,7 +201,7 @@ pub trait Reader: Debug + Drop {
     final fn read_uint(&mut self, n: usize) -> Result<u64>
         requires some { 1 ≤ n }
         requires fits { n ≤ 8 }
-        ensures value { read result (view self.new) ≡ uint_at n (view self.old) }
+        ensures value { read_of result (view self.new) ≡ uint_at n (view self.old) }
         ensures kept { OnErr result (view self.new ≡ view self.old) }
     {
         let big = self.endian().is_big_endian();
@@ -221,7 +221,7 @@ pub trait Reader: Debug + Drop {
     #[inline]
     #[tactic(auto, unfolding(crate::specs::Reading::uleb_at, crate::specs::Reading::uleb_within))]
     final fn read_uleb128(&mut self) -> Result<u64>
-        ensures value { read result (view self.new) ≡ uleb_at (view self.old) }
+        ensures value { read_of result (view self.new) ≡ uleb_at (view self.old) }
         ensures kept { OnErr result (view self.new ≡ view self.old) }
     {
         let mut rest = self.copy();
@@ -247,7 +247,7 @@ pub trait Reader: Debug + Drop {
     #[inline]
     #[tactic(auto, unfolding(crate::specs::Reading::uleb16_at, crate::specs::Reading::uleb_within))]
     final fn read_uleb128_u16(&mut self) -> Result<u16>
-        ensures value { read result (view self.new) ≡ uleb16_at (view self.old) }
+        ensures value { read_of result (view self.new) ≡ uleb16_at (view self.old) }
         ensures kept { OnErr result (view self.new ≡ view self.old) }
     {
         let mut rest = self.copy();
@@ -275,7 +275,7 @@ pub trait Reader: Debug + Drop {
     #[inline]
     #[tactic(auto, unfolding(crate::specs::Reading::sleb_at, crate::specs::Reading::sleb_within))]
     final fn read_sleb128(&mut self) -> Result<i64>
-        ensures value { read result (view self.new) ≡ sleb_at (view self.old) }
+        ensures value { read_of result (view self.new) ≡ sleb_at (view self.old) }
         ensures kept { OnErr result (view self.new ≡ view self.old) }
     {
         let mut rest = self.copy();
@@ -299,7 +299,7 @@ pub trait Reader: Debug + Drop {
     /// 7.6). Refusal: `UnexpectedEof`, with the place of the input's end.
     #[inline]
     final fn skip_leb128(&mut self) -> Result<()>
-        ensures value { read result (view self.new) ≡ skip_leb_at (view self.old) }
+        ensures value { read_of result (view self.new) ≡ skip_leb_at (view self.old) }
         ensures kept { OnErr result (view self.new ≡ view self.old) }
     {
         let mut rest = self.copy();
@@ -311,7 +311,7 @@ pub trait Reader: Debug + Drop {
     /// The length of a unit, and the format that it shows (DWARF 5, 7.2.2 and 7.4). Refusals:
     /// `UnexpectedEof`, `UnknownReservedLength`, `UnsupportedOffset`.
     final fn read_initial_length(&mut self) -> Result<(Self::Offset, Format)>
-        ensures value { read (answer_of (map_first Self.Offset.number) result) (view self.new)
+        ensures value { read_of (answer_of (map_first Self.Offset.number) result) (view self.new)
             ≡ initial_length_at Self.Offset.limit (view self.old) }
         ensures kept { OnErr result (view self.new ≡ view self.old) }
     {
@@ -325,7 +325,7 @@ pub trait Reader: Debug + Drop {
     /// `UnexpectedEof`, `UnsupportedAddressSize`.
     #[tactic(auto, unfolding(crate::specs::Reading::address_size_at))]
     final fn read_address_size(&mut self) -> Result<u8>
-        ensures value { read result (view self.new) ≡ address_size_at (view self.old) }
+        ensures value { read_of result (view self.new) ≡ address_size_at (view self.old) }
         ensures kept { OnErr result (view self.new ≡ view self.old) }
     {
         let mut rest = self.copy();
@@ -344,7 +344,7 @@ pub trait Reader: Debug + Drop {
     #[inline]
     #[tactic(auto, using(crate::proofs::OneByte::one_byte), unfolding(crate::specs::Reading::address_at))]
     final fn read_address(&mut self, address_size: u8) -> Result<u64>
-        ensures value { read result (view self.new) ≡ address_at address_size (view self.old) }
+        ensures value { read_of result (view self.new) ≡ address_at address_size (view self.old) }
         ensures kept { OnErr result (view self.new ≡ view self.old) }
     {
         match address_size {
@@ -361,7 +361,7 @@ pub trait Reader: Debug + Drop {
     #[inline]
     #[tactic(auto, unfolding(crate::specs::Reading::offset_at))]
     final fn read_offset(&mut self, format: Format) -> Result<Self::Offset>
-        ensures value { read (answer_of Self.Offset.number result) (view self.new)
+        ensures value { read_of (answer_of Self.Offset.number result) (view self.new)
             ≡ offset_at Self.Offset.limit format (view self.old) }
         ensures kept { OnErr result (view self.new ≡ view self.old) }
     {
@@ -380,7 +380,7 @@ pub trait Reader: Debug + Drop {
     #[inline]
     #[tactic(auto, using(crate::proofs::OneByte::one_byte), unfolding(crate::specs::Reading::sized_offset_at))]
     final fn read_sized_offset(&mut self, size: u8) -> Result<Self::Offset>
-        ensures value { read (answer_of Self.Offset.number result) (view self.new)
+        ensures value { read_of (answer_of Self.Offset.number result) (view self.new)
             ≡ sized_offset_at Self.Offset.limit size (view self.old) }
         ensures kept { OnErr result (view self.new ≡ view self.old) }
     {
@@ -401,7 +401,7 @@ pub trait Reader: Debug + Drop {
     /// where there is no zero, with the place where the text begins.
     #[tactic(auto, unfolding(crate::specs::Reading::text_at))]
     final fn read_null_terminated_slice(&mut self) -> Result<Self>
-        ensures value { read (answer_of view result) (view self.new) ≡ text_at (view self.old) }
+        ensures value { read_of (answer_of view result) (view self.new) ≡ text_at (view self.old) }
         ensures kept { OnErr result (view self.new ≡ view self.old) }
     {
         let length = self.find(0)?;
@@ -416,7 +416,7 @@ pub trait Reader: Debug + Drop {
 // The length of a unit; where it is refused, the reader is left anywhere.
 #[tactic(auto, unfolding(crate::specs::Reading::initial_length_at))]
 fn initial_length<R: Reader>(reader: &mut R) -> Result<(R::Offset, Format)>
-    ensures { read (answer_of (map_first R.Offset.number) result) (R.view reader.new)
+    ensures { read_of (answer_of (map_first R.Offset.number) result) (R.view reader.new)
         ≡ initial_length_at R.Offset.limit (R.view reader.old) }
 {
     let length = reader.read_u32()?;

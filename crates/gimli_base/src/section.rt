@@ -24,6 +24,17 @@ pub trait Section<R: Reader>: From<R> {
     fn reader(&self) -> &R
         ensures { R.view result.now ≡ content self.now };
 
+    // a section made from a reader holds what that reads
+    ghost content_of_from: { (r : R) → (s : Self) → Self.From.from_gives r s
+        → content s ≡ R.view r };
+
+    /// A section of the same bytes.
+    final fn copy(&self) -> Self
+        ensures { content result ≡ content self.now }
+    {
+        Self::from(self.reader().copy())
+    }
+
     /// The section, and the number of its bytes before a place, where the place is one of its bytes
     /// or its end.
     final fn lookup_offset_id(&self, id: ReaderOffsetId) -> Option<(SectionId, R::Offset)>

@@ -1,5 +1,6 @@
 //! The section of strings (DWARF 5, 7.26).
 
+ghost use Rattle.std.proofs.Common.{ap};
 ghost use Rattle.std.specs.Prelude.{◌≡◌};
 ghost use Rattle.gimli_base.specs.declared.common.SectionId.TheVariants.{DebugStr as StrSection};
 ghost use Rattle.gimli_base.specs.Offset.{answer_of};
@@ -38,6 +39,8 @@ impl<R: Reader> Section<R> for DebugStr<R> {
 
     ghost content = { λ s. R.view s.section };
 
+    ghost content_of_from = { λ _ _ same. ap R.view same };
+
     fn id() -> SectionId {
         SectionId::DebugStr
     }
@@ -48,16 +51,6 @@ impl<R: Reader> Section<R> for DebugStr<R> {
 }
 
 impl<R: Reader> DebugStr<R> {
-    /// A section of the same bytes.
-    pub fn copy(&self) -> Self
-        ensures { ⟦<DebugStr<R> as Section<R>>⟧.content result
-            ≡ ⟦<DebugStr<R> as Section<R>>⟧.content self.now }
-    {
-        DebugStr {
-            section: self.section.copy(),
-        }
-    }
-
     /// The string at an offset of the section: its bytes before the first zero.
     ///
     /// Refusal: `UnexpectedEof`, where the offset lies after the section's end, with the section's

@@ -9,7 +9,7 @@ use Rattle.gimli_base.specs.declared.error.Error.{Error}
 use Rattle.gimli_base.specs.declared.error.Error.TheVariants.{OffsetOutOfBounds, OutOfMemory}
 use Rattle.gimli_base.specs.View.{cut}
 use Rattle.gimli_base.specs.Abbreviations.{Map}
-use Rattle.gimli_base.specs.Table.{Table, found}
+use Rattle.gimli_base.specs.Table.{Table, codes_of}
 use Rattle.gimli_units.specs.Entry.{entry_at}
 use Rattle.gimli_units.specs.RawPlace.{RawPlace}
 use Rattle.gimli_units.specs.Rows.{no_row}
@@ -19,7 +19,7 @@ use Rattle.gimli_c.specs.declared.entries.GimliEntry.{GimliEntry}
 use Rattle.gimli_c.specs.declared.entries.GimliFilled.{GimliFilled}
 use Rattle.gimli_c.specs.declared.attrs.GimliAttr.{GimliAttr}
 use Rattle.gimli_c.specs.declared.rows.GimliPlace.{GimliPlace}
-use Rattle.gimli_c.specs.Status.{end, too_deep, refused, memory_refused}
+use Rattle.gimli_c.specs.Status.{end, too_deep, refusal_status, memory_refused}
 use Rattle.gimli_c.specs.Fronts.{ahead_of, rows_at_place, unit_ahead, declared_ahead}
 use Rattle.gimli_c.specs.Entries.{fit, wrote, FilledEntries, AreTold}
 use Rattle.gimli_c.proofs.EntryFront.{fit-nil, none_wanted}
@@ -30,7 +30,8 @@ module _ (limit : ℕ) (u : UnitView) (t : Table) (place : GimliPlace) (old : Li
     (attrs : List GimliAttr) where
   -- at the unit's end
   pub told_ended : length u.entries.bytes ≤ whole_length u → place.offset ≡ whole_length u
-      → AreTold (unit_ahead limit u (found t) place) place old attrs place old attrs (wrote 0 0 0)
+      → AreTold (unit_ahead limit u (codes_of t) place) place old attrs place old attrs
+      (wrote 0 0 0)
       end
   told_ended fit here =
       let test : (place.offset == whole_length u) ≡ true = eq-eqb _ _ here in
@@ -38,8 +39,9 @@ module _ (limit : ℕ) (u : UnitView) (t : Table) (place : GimliPlace) (old : Li
       let none : length rest.bytes ≡ 0 = let e =
       length-drop (place.offset - header_size u) u.entries.bytes in
       omega (arith, e, here, fit) in
-      let is : rows_at_place limit u (found t) place ≡ no_row None (whole_length u - length rest.bytes)
-      place.depth = ahead_ended (entry_at limit u.encoding (found t)) (whole_length u)
+      let is : rows_at_place limit u (codes_of t) place
+      ≡ no_row None (whole_length u - length rest.bytes)
+      place.depth = ahead_ended (entry_at limit u.encoding (codes_of t)) (whole_length u)
       place.depth rest none in
       let stop : whole_length u - length rest.bytes ≡ place.offset = omega (arith, none, here) in
       rw (test, is, stop) (record {
@@ -57,8 +59,9 @@ module _ (limit : ℕ) (u : UnitView) (t : Table) (place : GimliPlace) (old : Li
   module _ (apart : place.offset ≡ whole_length u → ⊥) where
     -- before the entries, or after the unit
     pub told_outside : (e : Error) → Err e ≡ entries_from u t (Some place.offset)
-        → AreTold (unit_ahead limit u (found t) place) place old attrs place old attrs (wrote 0 0 0)
-        (refused e)
+        → AreTold (unit_ahead limit u (codes_of t) place) place old attrs place old attrs
+        (wrote 0 0 0)
+        (refusal_status e)
     told_outside e is =
         let test : (place.offset == whole_length u) ≡ false = ne_eqb _ _ apart in
         let no = unread_bounds u t place.offset e is in
@@ -74,7 +77,8 @@ module _ (limit : ℕ) (u : UnitView) (t : Table) (place : GimliPlace) (old : Li
     -- where depths may be out of range
     pub told_deep : (p : RawPlace) → Ok p ≡ entries_from u t (Some place.offset) → 2 ^ 63
         ≤ unsigned_abs place.depth + (whole_length u - place.offset)
-        → AreTold (unit_ahead limit u (found t) place) place old attrs place old attrs (wrote 0 0 0)
+        → AreTold (unit_ahead limit u (codes_of t) place) place old attrs place old attrs
+        (wrote 0 0 0)
         too_deep
     told_deep p is deep =
         let test : (place.offset == whole_length u) ≡ false = ne_eqb _ _ apart in
@@ -96,7 +100,8 @@ module _ (limit : ℕ) (u : UnitView) (t : Table) (place : GimliPlace) (old : Li
         → Ok p ≡ entries_from u t (Some place.offset) → unsigned_abs place.depth
         + (whole_length u - place.offset) < 2 ^ 63
         → FilledEntries (ahead_of limit place.depth p) old attrs behind new new_attrs n status
-        → AreTold (unit_ahead limit u (found t) place) place old attrs behind new new_attrs n status
+        → AreTold (unit_ahead limit u (codes_of t) place) place old attrs behind new new_attrs n
+        status
     told_filled p behind new new_attrs n status is shallow f =
         let test : (place.offset == whole_length u) ≡ false = ne_eqb _ _ apart in
         let yes = read_bounds u t place.offset p is in
@@ -135,7 +140,7 @@ module _ (limit : ℕ) (u : UnitView) (place : GimliPlace) (old : List GimliEntr
   pub told_memory : length u.entries.bytes ≤ whole_length u → (r : Result Map Error)
       → AreTold (declared_ahead limit u r place) place old attrs place old attrs (wrote 0 0 0)
       memory_refused
-  told_memory fit (Err e) = none_stopped (refused e)
+  told_memory fit (Err e) = none_stopped (refusal_status e)
   told_memory fit (Ok declared) = elim (eqb_tells place.offset (whole_length u)) [
     | inl here ↦
         let e = length-drop (place.offset - header_size u) u.entries.bytes in
@@ -155,20 +160,20 @@ module _ (limit : ℕ) (u : UnitView) (place : GimliPlace) (old : List GimliEntr
       inside : (b : Bool) → b ≡ in_bounds u place.offset
           → AreTold (if b then (if nat_lt (unsigned_abs place.depth
           + (whole_length u - place.offset)) (2 ^ 63) then Ok (rows_at_place limit u declared place)
-          else Err too_deep) else Err (refused (OffsetOutOfBounds place.offset))) place old
+          else Err too_deep) else Err (refusal_status (OffsetOutOfBounds place.offset))) place old
           attrs place old attrs (wrote 0 0 0) memory_refused
       inside true sure = deep (sym sure) (nat_lt (unsigned_abs place.depth
           + (whole_length u - place.offset)) (2 ^ 63))
-      inside false other = none_stopped (refused (OffsetOutOfBounds place.offset))
+      inside false other = none_stopped (refusal_status (OffsetOutOfBounds place.offset))
 
   -- where the declarations are refused
   pub told_undeclared : length u.entries.bytes ≤ whole_length u → (e : Error) (r : Result Map Error)
       → ((e ≡ OutOfMemory → ⊥) → Err e ≡ r)
       → AreTold (declared_ahead limit u r place) place old attrs place old attrs (wrote 0 0 0)
-      (refused e)
-  told_undeclared fit e r h = elim (eqb_tells (refused e) memory_refused) [
+      (refusal_status e)
+  told_undeclared fit e r h = elim (eqb_tells (refusal_status e) memory_refused) [
     | inl memory ↦ rw memory.1 (told_memory fit r)
-    | inr other ↦ rw (← h (λ is. other.1 (ap refused is))) (record {
+    | inr other ↦ rw (← h (λ is. other.1 (ap refusal_status is))) (record {
       rows = refl;
       attributes = refl;
       none = refl;

@@ -10,7 +10,7 @@ use Rattle.std.proofs.lemmas.List.{length-map, map-append, append-nil}
 use Rattle.std.proofs.lemmas.Bool.{le-ltb, lt-ltb, le-leb, lt-leb}
 use Rattle.gimli_base.specs.declared.error.Error.{Error}
 use Rattle.gimli_base.specs.View.{View}
-use Rattle.gimli_base.specs.Table.{found}
+use Rattle.gimli_base.specs.Table.{codes_of}
 use Rattle.gimli_units.specs.Entry.{Entry, entry_at}
 use Rattle.gimli_units.proofs.EntryReads.{entry_at-shorter}
 use Rattle.gimli_units.specs.RawPlace.{RawPlace, next_offset_of, depth_after}
@@ -23,7 +23,8 @@ use Rattle.gimli_c.specs.declared.rows.GimliPlace.{GimliPlace}
 use Rattle.gimli_c.specs.Status.{more, end, row_refused, memory_refused, row_memory_refused}
 use Rattle.gimli_c.specs.Attrs.{attr_of}
 use Rattle.gimli_c.specs.Fronts.{ahead_of, first_place}
-use Rattle.gimli_c.specs.Entries.{attributes_of, flat, numbered_row, numbered, fit, status_fit}
+use Rattle.gimli_c.specs.Entries.{attributes_of, all_attributes, numbered_row, number_rows, fit}
+use Rattle.gimli_c.specs.Entries.{status_fit}
 use Rattle.gimli_c.specs.Entries.{first_wants, wrote, FilledEntries}
 use Rattle.gimli_c.proofs.Slots.{slot, written_more}
 use Rattle.gimli_c.proofs.Front.{before_rows, depth_from, depth_near, first_ahead, some_left}
@@ -35,27 +36,28 @@ pub record EntryFront (limit : ℕ) (base : ℤ) (start now : RawPlace) (old new
   pub count : length taken ≡ n
   pub room : n ≤ length old
   pub ahead : ahead_of limit base start ≡ before_rows taken (ahead_of limit base now)
-  pub rows : new ≡ numbered 0 taken ++ drop n old
-  pub attributes : new_attrs ≡ map attr_of (flat taken) ++ drop used old_attrs
-  pub used_is : length (flat taken) ≡ used
+  pub rows : new ≡ number_rows 0 taken ++ drop n old
+  pub attributes : new_attrs ≡ map attr_of (all_attributes taken) ++ drop used old_attrs
+  pub used_is : length (all_attributes taken) ≡ used
   pub space : used ≤ length old_attrs
   pub fits : unsigned_abs base + unsigned_abs now.depth + length now.rest.bytes < 2 ^ 63
 
-flat-append : (xs : List Row) (r : Row) → flat (xs ++ r ∷ []) ≡ flat xs ++ attributes_of r
+flat-append : (xs : List Row) (r : Row) → all_attributes (xs ++ r ∷ []) ≡ all_attributes xs
+    ++ attributes_of r
 flat-append [] r = append-nil (attributes_of r)
 flat-append (x ∷ xs) r = ap (λ t. attributes_of x ++ t) (flat-append xs r)
-    ∙ sym (append_assoc (attributes_of x) (flat xs) (attributes_of r))
+    ∙ sym (append_assoc (attributes_of x) (all_attributes xs) (attributes_of r))
 
-numbered-append : (first : ℕ) (xs : List Row) (r : Row) → numbered first (xs ++ r ∷ [])
-    ≡ numbered first xs ++ numbered_row (first + length (flat xs)) r ∷ []
+numbered-append : (first : ℕ) (xs : List Row) (r : Row) → number_rows first (xs ++ r ∷ [])
+    ≡ number_rows first xs ++ numbered_row (first + length (all_attributes xs)) r ∷ []
 numbered-append first [] r = rw add-zero refl
 numbered-append first (x ∷ xs) r =
-    let same : first + length (attributes_of x) + length (flat xs) ≡ first
-    + length (attributes_of x ++ flat xs) = rw length-append (omega arith) in
+    let same : first + length (attributes_of x) + length (all_attributes xs) ≡ first
+    + length (attributes_of x ++ all_attributes xs) = rw length-append (omega arith) in
     ap (λ t. numbered_row first x ∷ t) (numbered-append (first + length (attributes_of x)) xs r
-    ∙ ap (λ k. numbered (first + length (attributes_of x)) xs ++ numbered_row k r ∷ []) same)
+    ∙ ap (λ k. number_rows (first + length (attributes_of x)) xs ++ numbered_row k r ∷ []) same)
 
-length-numbered : (first : ℕ) (xs : List Row) → length (numbered first xs) ≡ length xs
+length-numbered : (first : ℕ) (xs : List Row) → length (number_rows first xs) ≡ length xs
 length-numbered first [] = refl
 length-numbered first (x ∷ xs) = ap suc (length-numbered (first + length (attributes_of x)) xs)
 
@@ -64,18 +66,19 @@ fit-nil zero space = refl
 fit-nil (suc room) space = refl
 
 -- rows that there was room for
-fit-front : (taken rest : List Row) (room space : ℕ) → length taken ≤ room → length (flat taken)
+fit-front : (taken rest : List Row) (room space : ℕ) → length taken ≤ room
+    → length (all_attributes taken)
     ≤ space
     → fit room space (taken ++ rest) ≡ length taken + fit (room - length taken) (space
-    - length (flat taken)) rest
+    - length (all_attributes taken)) rest
 fit-front [] rest room space h k = rw (sub-zero, sub-zero, zero-add) refl
 fit-front (r ∷ rs) rest zero space h k = absurd (omega (arith, h))
 fit-front (r ∷ rs) rest (suc room) space h k =
-    let both = length-append (attributes_of r) (flat rs) in
+    let both = length-append (attributes_of r) (all_attributes rs) in
     let test : nat_le (length (attributes_of r)) space ≡ true =
     le-leb _ _ (omega (arith, k, both)) in
-    let left : space - length (attributes_of r) - length (flat rs) ≡ space
-    - length (attributes_of r ++ flat rs) = omega (arith, both) in
+    let left : space - length (attributes_of r) - length (all_attributes rs) ≡ space
+    - length (attributes_of r ++ all_attributes rs) = omega (arith, both) in
     let rooms : suc room - suc (length rs) ≡ room - length rs = omega arith in
     rw (test, rooms, ← left, suc-add)
     (ap suc (fit-front rs rest room (space - length (attributes_of r)) (omega (arith, h))
@@ -112,7 +115,7 @@ at_some room count total (Some e) h = rw (lt-ltb count total h) refl
 
 module _ (limit : ℕ) (base : ℤ) where
   step : (now : RawPlace) (e : Entry) (w : View) → (length now.rest.bytes ≡ 0 → ⊥)
-      → Ok (e, w) ≡ entry_at limit now.encoding (found now.abbreviations) now.rest
+      → Ok (e, w) ≡ entry_at limit now.encoding (codes_of now.abbreviations) now.rest
       → ahead_of limit base now ≡ then_row (record {
         offset = next_offset_of now;
         next =
@@ -122,7 +125,7 @@ module _ (limit : ℕ) (base : ℤ) where
       })
       (ahead_of limit base (record now { rest = w; depth = depth_after e now.depth }))
   step now e w some read =
-      let next = entry_at limit now.encoding (found now.abbreviations) in
+      let next = entry_at limit now.encoding (codes_of now.abbreviations) in
       let r : Row = record {
         offset = next_offset_of now;
         next = offset_of_view now.end w;
@@ -131,7 +134,7 @@ module _ (limit : ℕ) (base : ℤ) where
         entry = e;
       } in
       ahead_more next now.end (λ v u y. entry_at-shorter limit now.encoding
-      (found now.abbreviations) v u y) (base +ℤ now.depth) now.rest e w some read
+      (codes_of now.abbreviations) v u y) (base +ℤ now.depth) now.rest e w some read
       ∙ ap (λ (d : ℤ). then_row r (ahead_at next now.end d w)) (depth_from base now.depth e)
 
   -- one more row is written, with its attributes
@@ -140,7 +143,7 @@ module _ (limit : ℕ) (base : ℤ) where
       (x : GimliEntry)
       → EntryFront limit base start now old new old_attrs attrs n used → n < length old → used
       + length e.attributes ≤ length old_attrs → (length now.rest.bytes ≡ 0 → ⊥)
-      → Ok (e, w) ≡ entry_at limit now.encoding (found now.abbreviations) now.rest
+      → Ok (e, w) ≡ entry_at limit now.encoding (codes_of now.abbreviations) now.rest
       → x ≡ record {
         offset = next_offset_of now;
         depth = base +ℤ now.depth;
@@ -156,7 +159,7 @@ module _ (limit : ℕ) (base : ℤ) where
   entry_more start now old new old_attrs attrs new_attrs n used e w x f room space some read is
       wrote =
       let shorter : length w.bytes < length now.rest.bytes =
-      entry_at-shorter limit now.encoding (found now.abbreviations) now.rest w e read in
+      entry_at-shorter limit now.encoding (codes_of now.abbreviations) now.rest w e read in
       let near = depth_near e now.depth in
       let r : Row = record {
         offset = next_offset_of now;
@@ -165,15 +168,18 @@ module _ (limit : ℕ) (base : ℤ) where
             base +ℤ now.depth;
         entry = e;
       } in
-      let done : length (map attr_of (flat f.taken)) ≡ used = length-map (flat f.taken) attr_of
+      let done : length (map attr_of (all_attributes f.taken))
+      ≡ used = length-map (all_attributes f.taken) attr_of
       ∙ f.used_is in
       let many : length (map attr_of e.attributes) ≡ length e.attributes =
       length-map e.attributes attr_of in
-      let wrote_here : new_attrs ≡ (take used (map attr_of (flat f.taken) ++ drop used old_attrs)
+      let wrote_here : new_attrs
+      ≡ (take used (map attr_of (all_attributes f.taken) ++ drop used old_attrs)
       ++ map attr_of e.attributes) ++ drop (used + length (map attr_of e.attributes))
-      (map attr_of (flat f.taken) ++ drop used old_attrs)
+      (map attr_of (all_attributes f.taken) ++ drop used old_attrs)
       = rw (many, ← f.attributes) wrote in
-      let behind = written_more (map attr_of (flat f.taken)) (map attr_of e.attributes) old_attrs
+      let behind = written_more (map attr_of (all_attributes f.taken)) (map attr_of e.attributes)
+      old_attrs
       new_attrs used done wrote_here in
       record {
         taken = f.taken ++ r ∷ [];
@@ -181,7 +187,7 @@ module _ (limit : ℕ) (base : ℤ) where
         room = omega (arith, room);
         ahead = f.ahead ∙ ap (before_rows f.taken) (step now e w some read) ∙ rw append_assoc refl;
         rows = ap (λ t. slice_set t n x) f.rows
-            ∙ slot (numbered 0 f.taken) old n x (length-numbered 0 f.taken ∙ f.count) room
+            ∙ slot (number_rows 0 f.taken) old n x (length-numbered 0 f.taken ∙ f.count) room
             ∙ rw (numbered-append 0 f.taken r, zero-add, f.used_is, is) refl;
         attributes = rw (flat-append f.taken r, map-append) (rw many at behind);
         used_is = rw (
@@ -210,8 +216,10 @@ Said old old_attrs left n used wanted status =
 -- what was written, with what is left
 entries_if : (taken : List Row) (left : Ahead) (old new : List GimliEntry)
     (old_attrs attrs : List GimliAttr) (place : GimliPlace) (n used wanted status : ℕ)
-    → length taken ≡ n → n ≤ length old → length (flat taken) ≡ used → used ≤ length old_attrs
-    → new ≡ numbered 0 taken ++ drop n old → attrs ≡ map attr_of (flat taken) ++ drop used old_attrs
+    → length taken ≡ n → n ≤ length old → length (all_attributes taken) ≡ used
+    → used ≤ length old_attrs
+    → new ≡ number_rows 0 taken ++ drop n old → attrs ≡ map attr_of (all_attributes taken)
+    ++ drop used old_attrs
     → place ≡ first_place left.rows left.stop left.stop_depth
     → ((status ≡ memory_refused → ⊥) → (status ≡ row_memory_refused → ⊥)
     → Said old old_attrs left n used wanted status)
@@ -229,10 +237,11 @@ entries_if taken left old new old_attrs attrs place n used wanted status count r
     rw (← count, ← used_is) (fit-front taken left.rows (length old) (length old_attrs)
     (rw count room) (rw used_is space)) in
     record {
-      rows = rows ∙ ap (λ (t : List Row). numbered 0 t ++ drop n old) (sym front);
-      attributes = attributes ∙ ap (λ (t : List Row). map attr_of (flat t) ++ drop used old_attrs)
+      rows = rows ∙ ap (λ (t : List Row). number_rows 0 t ++ drop n old) (sym front);
+      attributes = attributes
+          ∙ ap (λ (t : List Row). map attr_of (all_attributes t) ++ drop used old_attrs)
           (sym front);
-      used_is = sym used_is ∙ ap (λ (t : List Row). length (flat t)) (sym front);
+      used_is = sym used_is ∙ ap (λ (t : List Row). length (all_attributes t)) (sym front);
       behind = behind ∙ ap (λ (t : List Row). first_place t left.stop left.stop_depth) (sym others);
       whole = λ h k. let w = whole h k in (omega (arith, fits, w.0), rw others w.1, rw all w.2);
     }
@@ -255,7 +264,7 @@ module _ (limit : ℕ) (base : ℤ) (start now : RawPlace) (old new : List Gimli
       old_attrs place new attrs (wrote n used 0) end
   entries_ended none =
       let is : ahead_of limit base now ≡ no_row None (next_offset_of now) (base +ℤ now.depth) =
-      ahead_ended (entry_at limit now.encoding (found now.abbreviations)) now.end
+      ahead_ended (entry_at limit now.encoding (codes_of now.abbreviations)) now.end
       (base +ℤ now.depth) now.rest none in
       told 0 end (λ _ _. rw is (
         fit-nil (length old - n) (length old_attrs - used),
@@ -280,12 +289,12 @@ module _ (limit : ℕ) (base : ℤ) (start now : RawPlace) (old new : List Gimli
   -- a refusal ends the rows
   pub entries_refused : (e : Error) → (length now.rest.bytes ≡ 0 → ⊥) → n < length old
       → ((row_refused e ≡ row_memory_refused → ⊥) → Err e
-      ≡ entry_at limit now.encoding (found now.abbreviations) now.rest)
+      ≡ entry_at limit now.encoding (codes_of now.abbreviations) now.rest)
       → FilledEntries (ahead_of limit base start) old old_attrs place new attrs (wrote n used 0)
       (row_refused e)
   entries_refused e some room read =
       told 0 (row_refused e) (λ _ other. whole
-      (ahead_refused (entry_at limit now.encoding (found now.abbreviations)) now.end
+      (ahead_refused (entry_at limit now.encoding (codes_of now.abbreviations)) now.end
       (base +ℤ now.depth) now.rest e some (read other)))
     where
       whole : ahead_of limit base now ≡ no_row (Some e) (next_offset_of now) (base +ℤ now.depth)
@@ -298,7 +307,7 @@ module _ (limit : ℕ) (base : ℤ) (start now : RawPlace) (old new : List Gimli
 
   -- there is no space for the attributes of the next row
   pub entries_large : (e : Entry) (w : View) → (length now.rest.bytes ≡ 0 → ⊥) → n < length old
-      → Ok (e, w) ≡ entry_at limit now.encoding (found now.abbreviations) now.rest
+      → Ok (e, w) ≡ entry_at limit now.encoding (codes_of now.abbreviations) now.rest
       → length old_attrs - used < length e.attributes
       → FilledEntries (ahead_of limit base start) old old_attrs place new attrs
       (wrote n used (length e.attributes)) more

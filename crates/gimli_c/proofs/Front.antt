@@ -12,7 +12,7 @@ use Rattle.gimli_base.specs.declared.error.Error.{Error}
 use Rattle.gimli_base.specs.View.{View}
 use Rattle.gimli_base.specs.declared.common.Encoding.{Encoding}
 use Rattle.gimli_base.specs.Abbreviations.{Map}
-use Rattle.gimli_base.specs.Table.{found}
+use Rattle.gimli_base.specs.Table.{codes_of}
 use Rattle.gimli_units.specs.Entry.{Entry, entry_at, is_null}
 use Rattle.gimli_units.proofs.EntryReads.{entry_at-shorter}
 use Rattle.gimli_units.specs.RawPlace.{RawPlace, next_offset_of, below_flag, depth_after}
@@ -98,7 +98,7 @@ module _ (limit : ℕ) (base : ℤ) where
   pub front_more : (start now : RawPlace) (old new : List GimliRow) (n : ℕ) (e : Entry) (w : View)
       (x : GimliRow)
       → Front limit base start now old new n → n < length old → (length now.rest.bytes ≡ 0 → ⊥)
-      → Ok (e, w) ≡ entry_at limit now.encoding (found now.abbreviations) now.rest
+      → Ok (e, w) ≡ entry_at limit now.encoding (codes_of now.abbreviations) now.rest
       → x ≡ record {
         offset = next_offset_of now;
         depth = base +ℤ now.depth;
@@ -108,9 +108,9 @@ module _ (limit : ℕ) (base : ℤ) where
       → Front limit base start (record now { rest = w; depth = depth_after e now.depth }) old
       (slice_set new n x) (n + 1)
   front_more start now old new n e w x f room some read is =
-      let next = entry_at limit now.encoding (found now.abbreviations) in
+      let next = entry_at limit now.encoding (codes_of now.abbreviations) in
       let shorter : length w.bytes < length now.rest.bytes =
-      entry_at-shorter limit now.encoding (found now.abbreviations) now.rest w e read in
+      entry_at-shorter limit now.encoding (codes_of now.abbreviations) now.rest w e read in
       let near = depth_near e now.depth in
       let r : Row = record {
         offset = next_offset_of now;
@@ -122,7 +122,7 @@ module _ (limit : ℕ) (base : ℤ) where
       let left = ahead_of limit base (record now { rest = w; depth = depth_after e now.depth }) in
       let step : ahead_of limit base now ≡ then_row r left =
       ahead_more next now.end (λ v u y. entry_at-shorter limit now.encoding
-      (found now.abbreviations) v u y) (base +ℤ now.depth) now.rest e w some read
+      (codes_of now.abbreviations) v u y) (base +ℤ now.depth) now.rest e w some read
       ∙ ap (λ (d : ℤ). then_row r (ahead_at next now.end d w)) (depth_from base now.depth e) in
       record {
         taken = f.taken ++ r ∷ [];
@@ -141,21 +141,21 @@ module _ (limit : ℕ) (base : ℤ) where
       → place ≡ first_place (ahead_of limit base now).rows (ahead_of limit base now).stop
       (ahead_of limit base now).stop_depth
   first_ahead now place offset depth =
-      first_at limit now.encoding (found now.abbreviations) now.end (base +ℤ now.depth) now.rest
+      first_at limit now.encoding (codes_of now.abbreviations) now.end (base +ℤ now.depth) now.rest
       place offset depth
 
   -- where a byte is left, there is a row or a refusal
   pub some_left : (now : RawPlace) → (length now.rest.bytes ≡ 0 → ⊥)
       → (ahead_of limit base now).refusal ≡ None → 0 < length (ahead_of limit base now).rows
   some_left now some =
-      let next = entry_at limit now.encoding (found now.abbreviations) in
+      let next = entry_at limit now.encoding (codes_of now.abbreviations) in
       let a = ahead_of limit base now in
       cases a.rows a.refusal a.stop a.stop_depth
       (exist_rows next now.end (λ v u y. entry_at-shorter limit now.encoding
-      (found now.abbreviations) v u y) now.rest (base +ℤ now.depth))
+      (codes_of now.abbreviations) v u y) now.rest (base +ℤ now.depth))
     where
       cases : (rows : List Row) (refusal : Option Error) (stop : ℕ) (depth_of_stop : ℤ)
-          → AreRows (entry_at limit now.encoding (found now.abbreviations)) now.end now.rest
+          → AreRows (entry_at limit now.encoding (codes_of now.abbreviations)) now.end now.rest
           (base +ℤ now.depth) rows refusal stop depth_of_stop
           → refusal ≡ None → 0 < length rows
       cases [] None stop d h is = absurd (some h.0)
@@ -203,7 +203,7 @@ module _ (limit : ℕ) (base : ℤ) (start now : RawPlace) (old new : List Gimli
   filled_ended f none offset depth =
       let left = ahead_of limit base now in
       let is : left ≡ no_row None (next_offset_of now) (base +ℤ now.depth) =
-      ahead_ended (entry_at limit now.encoding (found now.abbreviations)) now.end
+      ahead_ended (entry_at limit now.encoding (codes_of now.abbreviations)) now.end
       (base +ℤ now.depth) now.rest none in
       let rows : length left.rows ≡ 0 = ap (λ (a : Ahead). length a.rows) is in
       let refusal : left.refusal ≡ None = ap (λ (a : Ahead). a.refusal) is in
@@ -232,14 +232,14 @@ module _ (limit : ℕ) (base : ℤ) (start now : RawPlace) (old new : List Gimli
   -- a refusal ends the rows
   pub filled_refused : (e : Error) → Front limit base start now old new n
       → (length now.rest.bytes ≡ 0 → ⊥) → n < length old
-      → Err e ≡ entry_at limit now.encoding (found now.abbreviations) now.rest
+      → Err e ≡ entry_at limit now.encoding (codes_of now.abbreviations) now.rest
       → place.offset ≡ next_offset_of now → place.depth ≡ base +ℤ now.depth
       → Filled (ahead_of limit base start) old place new n (row_refused e)
   filled_refused e f some room read offset depth =
       let left = ahead_of limit base now in
       rw f.ahead (filled_if f.taken left old new place n (row_refused e) f.count f.rows
       (first_ahead limit base now place offset depth)
-      (λ _. whole (ahead_refused (entry_at limit now.encoding (found now.abbreviations))
+      (λ _. whole (ahead_refused (entry_at limit now.encoding (codes_of now.abbreviations))
       now.end (base +ℤ now.depth) now.rest e some read)))
     where
       whole : ahead_of limit base now ≡ no_row (Some e) (next_offset_of now) (base +ℤ now.depth)

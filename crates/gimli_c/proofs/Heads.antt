@@ -8,9 +8,9 @@ use Rattle.std.proofs.lemmas.List.{drop_more, drop_all, append-nil}
 use Rattle.gimli_base.specs.declared.common.Encoding.{Encoding}
 use Rattle.gimli_base.specs.declared.error.Error.{Error}
 use Rattle.gimli_base.specs.View.{View}
-use Rattle.gimli_base.specs.Reading.{Reads, made}
+use Rattle.gimli_base.specs.Reading.{Reads, map_read}
 use Rattle.gimli_base.specs.Abbreviations.{Specification, Declaration, Map}
-use Rattle.gimli_base.specs.Table.{found}
+use Rattle.gimli_base.specs.Table.{codes_of}
 use Rattle.gimli_units.specs.Entry.{Attr, Entry, attribute_at, attributes_at, abbreviation_at}
 use Rattle.gimli_units.specs.Entry.{entry_at, null_entry}
 use Rattle.gimli_units.specs.RawPlace.{RawPlace, depth_read, depth_after, below_flag}
@@ -58,7 +58,7 @@ on_end limit e ss i all v r le = record {
 
 -- the attributes of these specifications, as numbers
 abbrev pub numbers_at : ℕ → Encoding → List Specification → View → Reads (List GimliAttr)
-numbers_at limit e ss v = made (map attr_of) (attributes_at limit e ss v)
+numbers_at limit e ss v = map_read (map attr_of) (attributes_at limit e ss v)
 
 -- a turn of the loop that keeps them: the first i are ns
 module _ (limit : ℕ) (e : Encoding) (ss : List Specification) (i : ℕ) (all v : View)
@@ -85,8 +85,8 @@ module _ (limit : ℕ) (e : Encoding) (ss : List Specification) (i : ℕ) (all v
       others s lt is ∙ rw (← h) (first (attributes_at limit e (drop (i + 1) ss) w))
     where
       first : (r : Reads (List Attr))
-          → after ns (made (map attr_of) (made (λ xs. a ∷ xs) r))
-          ≡ after (ns ++ attr_of a ∷ []) (made (map attr_of) r)
+          → after ns (map_read (map attr_of) (map_read (λ xs. a ∷ xs) r))
+          ≡ after (ns ++ attr_of a ∷ []) (map_read (map attr_of) r)
       first (Ok p) = ap (λ (ys : List GimliAttr). Ok (ys, p.1))
           (sym (append_assoc ns (attr_of a ∷ []) (map attr_of p.0)))
       first (Err y) = refl
@@ -101,12 +101,12 @@ module _ (limit : ℕ) (e : Encoding) (ss : List Specification) (i : ℕ) (all v
 pub numbers_of : (limit : ℕ) (e : Encoding) (ss : List Specification) (v w : View)
     (ns : List GimliAttr)
     → ◌≡◌ {A = Reads (List GimliAttr)} (Ok (ns, w))
-    (made (map attr_of) (attributes_at limit e ss v))
+    (map_read (map attr_of) (attributes_at limit e ss v))
     → (r : AreRead limit e ss v w) × (ns ≡ map attr_of r.attributes)
 numbers_of limit e ss v w ns h = cases (attributes_at limit e ss v) refl h
   where
     cases : (r : Reads (List Attr)) → r ≡ attributes_at limit e ss v
-        → ◌≡◌ {A = Reads (List GimliAttr)} (Ok (ns, w)) (made (map attr_of) r)
+        → ◌≡◌ {A = Reads (List GimliAttr)} (Ok (ns, w)) (map_read (map attr_of) r)
         → (r : AreRead limit e ss v w) × (ns ≡ map attr_of r.attributes)
     cases (Ok p) is k =
         let same : ◌≡◌ {A = List GimliAttr × View} (ns, w) (map attr_of p.0, p.1) = cc in (
@@ -119,22 +119,22 @@ numbers_of limit e ss v w ns h = cases (attributes_at limit e ss v) refl h
     cases (Err x) is k = absurd (cc)
 
 pub refused_of : (limit : ℕ) (e : Encoding) (ss : List Specification) (v : View) (x : Error)
-    → ◌≡◌ {A = Reads (List GimliAttr)} (Err x) (made (map attr_of) (attributes_at limit e ss v))
+    → ◌≡◌ {A = Reads (List GimliAttr)} (Err x) (map_read (map attr_of) (attributes_at limit e ss v))
     → ◌≡◌ {A = Reads (List Attr)} (Err x) (attributes_at limit e ss v)
 refused_of limit e ss v x h = cases (attributes_at limit e ss v) h
   where
     cases : (r : Reads (List Attr))
-        → ◌≡◌ {A = Reads (List GimliAttr)} (Err x) (made (map attr_of) r)
+        → ◌≡◌ {A = Reads (List GimliAttr)} (Err x) (map_read (map attr_of) r)
         → ◌≡◌ {A = Reads (List Attr)} (Err x) r
     cases (Ok p) k = absurd (cc)
     cases (Err y) k = let same : x ≡ y = cc in ap (λ (z : Error). Err z) same
 
 -- a null was read
 module _ (limit : ℕ) (p q : RawPlace) (h : ◌≡◌ {A = Reads (Option Declaration)} (Ok (None, q.rest))
-    (abbreviation_at (found p.abbreviations) p.rest))
+    (abbreviation_at (codes_of p.abbreviations) p.rest))
     (moved : q ≡ record p { rest = q.rest; depth = depth_read None p.depth }) where
   null_is : ◌≡◌ {A = Reads Entry} (Ok (null_entry, q.rest))
-      (entry_at limit p.encoding (found p.abbreviations) p.rest)
+      (entry_at limit p.encoding (codes_of p.abbreviations) p.rest)
   unfolding entry_at
   null_is = rw (← h) refl
 
@@ -150,7 +150,7 @@ module _ (limit : ℕ) (p q : RawPlace) (h : ◌≡◌ {A = Reads (Option Declar
 -- an entry of a declaration was read
 module _ (limit : ℕ) (p q : RawPlace) (d : Declaration) (v : View)
     (h : ◌≡◌ {A = Reads (Option Declaration)} (Ok (Some d, v))
-    (abbreviation_at (found p.abbreviations) p.rest))
+    (abbreviation_at (codes_of p.abbreviations) p.rest))
     (r : AreRead limit p.encoding d.attributes v q.rest) (set : d.tag.0 ≡ 0 → ⊥)
     (moved : q ≡ record p { rest = q.rest; depth = below_flag d.has_children p.depth }) where
   some : d.tag.0 == 0 ≡ false
@@ -160,7 +160,7 @@ module _ (limit : ℕ) (p q : RawPlace) (d : Declaration) (v : View)
   entry_read = record { tag = d.tag; has_children = d.has_children; attributes = r.attributes }
 
   entry_is : ◌≡◌ {A = Reads Entry} (Ok (entry_read, q.rest))
-      (entry_at limit p.encoding (found p.abbreviations) p.rest)
+      (entry_at limit p.encoding (codes_of p.abbreviations) p.rest)
   unfolding entry_at
   entry_is = rw (← h, ← r.are, some) refl
 

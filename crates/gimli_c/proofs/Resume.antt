@@ -23,7 +23,7 @@ use Rattle.gimli_c.specs.declared.entries.GimliFilled.{GimliFilled}
 use Rattle.gimli_c.specs.declared.rows.GimliRow.{GimliRow}
 use Rattle.gimli_c.specs.Entries.{AreTold}
 use Rattle.gimli_c.specs.declared.rows.GimliPlace.{GimliPlace}
-use Rattle.gimli_c.specs.Status.{too_deep, refused}
+use Rattle.gimli_c.specs.Status.{too_deep, refusal_status}
 use Rattle.gimli_c.specs.Fronts.{at, rows_at_place, unit_ahead, first_place, behind_rows, ToldRows}
 use Rattle.gimli_c.specs.Fronts.{Resumes}
 use Rattle.gimli_c.proofs.Bounds.{below_end}
@@ -193,7 +193,7 @@ module _ (limit : ℕ) (u : UnitView) (declared : Map) (fits : length u.entries.
         inside apart true sure = deep apart (sym sure) (nat_lt (unsigned_abs place.depth
             + (whole_length u - place.offset)) (2 ^ 63)) refl
         inside apart false other = inr (
-          refused (OffsetOutOfBounds place.offset),
+          refusal_status (OffsetOutOfBounds place.offset),
           rw (apart, ← other) refl,
         )
 

@@ -5,7 +5,7 @@ use Rattle.gimli_base.specs.declared.error.Error.{Error}
 use Rattle.gimli_base.specs.declared.error.Error.TheVariants.{OffsetOutOfBounds}
 use Rattle.gimli_base.specs.Offset.{answer_of}
 use Rattle.gimli_base.specs.View.{cut}
-use Rattle.gimli_base.specs.Table.{Table, found}
+use Rattle.gimli_base.specs.Table.{Table, codes_of}
 use Rattle.gimli_units.specs.CursorLent.{HasReadOn}
 use Rattle.gimli_units.specs.CursorMoves.{CursorView, place_of, IsHonestFor}
 use Rattle.gimli_units.specs.CursorPlace.{Place, Moved, next_row, next_of_depth}
@@ -17,7 +17,7 @@ use Rattle.gimli_units.specs.Unit.{entries_in, entries_from}
 use Rattle.gimli_c.specs.declared.rows.GimliRow.{GimliRow}
 use Rattle.gimli_c.specs.Siblings.{current_told, moved_told, behind_told, place_sibling}
 use Rattle.gimli_c.specs.Siblings.{unit_sibling}
-use Rattle.gimli_c.specs.Status.{refused, row_refused}
+use Rattle.gimli_c.specs.Status.{refusal_status, row_refused}
 
 -- what is told of two steps, by where they end
 module _ (stop : ℕ) (p q : Place) (depth : ℤ) (old : GimliRow) where
@@ -69,7 +69,7 @@ module _ (limit : ℕ) (u : UnitView) (t : Table) (follows : Bool) (offset : ℕ
   -- a cursor from an offset on stands before the rows from there on
   pub sibling_from : (c : CursorView) → Ok c ≡ cursor_from u t follows offset
       → (c.follows ≡ follows) × (place_sibling c.raw.end (place_of limit c) depth old
-      ≡ unit_sibling limit u (found t) offset depth old)
+      ≡ unit_sibling limit u (codes_of t) offset depth old)
   unfolding entries_from range_from
   sibling_from c is = cases (in_bounds u offset) refl is
     where
@@ -78,14 +78,15 @@ module _ (limit : ℕ) (u : UnitView) (t : Table) (follows : Bool) (offset : ℕ
           (entries_in u t (if b then Ok (cut (offset - header_size u) u.entries) else Err
           (OffsetOutOfBounds offset)))
           → (c.follows ≡ follows) × (place_sibling c.raw.end (place_of limit c) depth old
-          ≡ unit_sibling limit u (found t) offset depth old)
+          ≡ unit_sibling limit u (codes_of t) offset depth old)
       cases true known e = let same : c ≡ before_first follows there = cc in
           rw (same, ← known) (refl, refl)
       cases false known e = absurd (cc)
 
   -- an offset out of bounds is refused
-  pub sibling_refused : (e : Error) → Err e ≡ cursor_from u t follows offset → (refused e, old)
-      ≡ unit_sibling limit u (found t) offset depth old
+  pub sibling_refused : (e : Error) → Err e ≡ cursor_from u t follows offset
+      → (refusal_status e, old)
+      ≡ unit_sibling limit u (codes_of t) offset depth old
   unfolding entries_from range_from
   sibling_refused e is = cases (in_bounds u offset) refl is
     where
@@ -93,6 +94,6 @@ module _ (limit : ℕ) (u : UnitView) (t : Table) (follows : Bool) (offset : ℕ
           → Err e ≡ answer_of (before_first follows)
           (entries_in u t (if b then Ok (cut (offset - header_size u) u.entries) else Err
           (OffsetOutOfBounds offset)))
-          → (refused e, old) ≡ unit_sibling limit u (found t) offset depth old
+          → (refusal_status e, old) ≡ unit_sibling limit u (codes_of t) offset depth old
       cases true known e' = absurd (cc)
       cases false known e' = let same : e ≡ OffsetOutOfBounds offset = cc in rw (same, ← known) refl

@@ -8,7 +8,7 @@ use Rattle.gimli_base.specs.declared.error.Error.{Error}
 use Rattle.gimli_base.specs.Offset.{answer_of}
 use Rattle.gimli_base.specs.Reading.{Reads, eof, ◌>>=◌, initial_length_at, split_at, skip_at}
 use Rattle.gimli_base.specs.Reading.{uint_at, bytes_at}
-use Rattle.gimli_base.specs.View.{View, ended}
+use Rattle.gimli_base.specs.View.{View, end_of_view}
 use Rattle.gimli_units.specs.declared.unit_type.UnitType.{UnitType}
 use Rattle.gimli_units.specs.Unit.{UnitView, whole_length}
 use Rattle.gimli_headers.specs.Header.{Common, fields_at, unit_at, unit_in}
@@ -73,7 +73,7 @@ module _ (limit : ℕ) (section : SectionId) (n : ℕ) where
           → unit_alone (unit_at limit section n v) ≡ answer_of (at_offset n) (unit_alone r)
           → found_unit n v (elim r as (λ x. Result (Option UnitView) Error × UnitsPlace) [
             | Ok p ↦ (Ok (Some p.0), record { rest = p.1; offset = 0 + whole_length p.0 })
-            | Err e ↦ (Err e, record { rest = ended v; offset = 0 })
+            | Err e ↦ (Err e, record { rest = end_of_view v; offset = 0 })
           ]).0 ≡ unit_alone (unit_at limit section n v)
       read (Ok p) e = sym e
       read (Err x) e = sym e

@@ -41,13 +41,13 @@ abbrev pub numbers : ℕ → ℕ → ℕ → Numbers
 numbers kind number more = record { kind = kind; number = number; more = more }
 
 -- where bytes lie in their section, and how many they are
-abbrev pub lying : ℕ → View → Numbers
-lying kind v = numbers kind v.place (length v.bytes)
+abbrev pub place_numbers : ℕ → View → Numbers
+place_numbers kind v = numbers kind v.place (length v.bytes)
 
 -- a value: its kind, and a number or where its bytes lie
 abbrev pub values_of : Value → Numbers
 values_of (Addr x) = numbers 1 x 0
-values_of (Block v) = lying 2 v
+values_of (Block v) = place_numbers 2 v
 values_of (Data1 x) = numbers 3 x 0
 values_of (Data2 x) = numbers 4 x 0
 values_of (Data4 x) = numbers 5 x 0
@@ -55,7 +55,7 @@ values_of (Data8 x) = numbers 6 x 0
 values_of (Data16 x) = numbers 7 (x % 2 ^ 64) (x / 2 ^ 64)
 values_of (Sdata z) = numbers 8 (cast_unsigned w64 z) 0
 values_of (Udata x) = numbers 9 x 0
-values_of (Exprloc e) = lying 10 e.0
+values_of (Exprloc e) = place_numbers 10 e.0
 values_of (Flag b) = numbers 11 (cond b 1 0) 0
 values_of (SecOffset x) = numbers 12 x 0
 values_of (DebugAddrBase x) = numbers 13 x.0 0
@@ -78,7 +78,7 @@ values_of (DebugStrRefSup x) = numbers 29 x.0 0
 values_of (DebugStrOffsetsBase x) = numbers 30 x.0 0
 values_of (DebugStrOffsetsIndex x) = numbers 31 x.0 0
 values_of (DebugLineStrRef x) = numbers 32 x.0 0
-values_of (String v) = lying 33 v
+values_of (String v) = place_numbers 33 v
 values_of (Encoding x) = numbers 34 x.0 0
 values_of (DecimalSign x) = numbers 35 x.0 0
 values_of (Endianity x) = numbers 36 x.0 0

@@ -17,9 +17,9 @@ abbrev pub attributes_of : Row → List Attr
 attributes_of r = r.entry.attributes
 
 -- the attributes of rows, one after the other
-abbrev pub flat : List Row → List Attr
-flat [] = []
-flat (r ∷ rs) = attributes_of r ++ flat rs
+abbrev pub all_attributes : List Row → List Attr
+all_attributes [] = []
+all_attributes (r ∷ rs) = attributes_of r ++ all_attributes rs
 
 -- a row whose first attribute has this index
 abbrev pub numbered_row : ℕ → Row → GimliEntry
@@ -33,9 +33,10 @@ numbered_row first r = record {
   has_children = cond r.entry.has_children 1 0;
 }
 
-abbrev pub numbered : ℕ → List Row → List GimliEntry
-numbered first [] = []
-numbered first (r ∷ rs) = numbered_row first r ∷ numbered (first + length (attributes_of r)) rs
+abbrev pub number_rows : ℕ → List Row → List GimliEntry
+number_rows first [] = []
+number_rows first (r ∷ rs) =
+    numbered_row first r ∷ number_rows (first + length (attributes_of r)) rs
 
 -- how many rows from the front there is room for, and space for all their attributes
 abbrev pub fit : ℕ → ℕ → List Row → ℕ
@@ -70,10 +71,10 @@ wrote rows attributes wanted =
 pub record FilledEntries (ahead : Ahead) (old : List GimliEntry) (old_attrs : List GimliAttr)
     (place : GimliPlace) (new : List GimliEntry) (attrs : List GimliAttr) (n : GimliFilled)
     (status : ℕ) : Type 0 where
-  pub rows : new ≡ numbered 0 (take n.rows ahead.rows) ++ drop n.rows old
+  pub rows : new ≡ number_rows 0 (take n.rows ahead.rows) ++ drop n.rows old
   pub attributes : attrs
-      ≡ map attr_of (flat (take n.rows ahead.rows)) ++ drop n.attributes old_attrs
-  pub used_is : n.attributes ≡ length (flat (take n.rows ahead.rows))
+      ≡ map attr_of (all_attributes (take n.rows ahead.rows)) ++ drop n.attributes old_attrs
+  pub used_is : n.attributes ≡ length (all_attributes (take n.rows ahead.rows))
   pub behind : place ≡ first_place (drop n.rows ahead.rows) ahead.stop ahead.stop_depth
   pub whole : (status ≡ memory_refused → ⊥) → (status ≡ row_memory_refused → ⊥)
       → (n.rows ≡ fit (length old) (length old_attrs) ahead.rows)

@@ -7,7 +7,7 @@ use Rattle.gimli_base.specs.declared.error.Error.{Error}
 use Rattle.gimli_base.specs.declared.error.Error.TheVariants.{OffsetOutOfBounds}
 use Rattle.gimli_base.specs.View.{View, cut}
 use Rattle.gimli_base.specs.Abbreviations.{Map, map_at}
-use Rattle.gimli_base.specs.Table.{found}
+use Rattle.gimli_base.specs.Table.{codes_of}
 use Rattle.gimli_units.specs.Entry.{entry_at}
 use Rattle.gimli_units.specs.RawPlace.{RawPlace}
 use Rattle.gimli_units.specs.Rows.{Row, Ahead, ahead_at}
@@ -17,7 +17,7 @@ use Rattle.gimli_c.specs.declared.rows.GimliRow.{GimliRow}
 use Rattle.gimli_c.specs.declared.sections.GimliSections.{GimliSections}
 use Rattle.gimli_c.specs.declared.rows.GimliPlace.{GimliPlace}
 use Rattle.gimli_c.specs.Units.{units_id, units_view, abbreviations_view}
-use Rattle.gimli_c.specs.Status.{more, end, too_deep, refused, row_refused, memory_refused}
+use Rattle.gimli_c.specs.Status.{more, end, too_deep, refusal_status, row_refused, memory_refused}
 
 abbrev pub told_row : Row → GimliRow
 told_row r = record {
@@ -33,7 +33,7 @@ at offset depth = record { offset = offset; depth = depth }
 
 -- the rows ahead of a reader of entries, whose depths are counted from `base`
 abbrev pub ahead_of : ℕ → ℤ → RawPlace → Ahead
-ahead_of limit base p = ahead_at (entry_at limit p.encoding (found p.abbreviations)) p.end
+ahead_of limit base p = ahead_at (entry_at limit p.encoding (codes_of p.abbreviations)) p.end
     (base +ℤ p.depth) p.rest
 
 -- the rows of a unit from a place on, which is in bounds or at the unit's end
@@ -49,16 +49,16 @@ unit_ahead limit u declared place =
     else if in_bounds u place.offset then
     (if nat_lt (unsigned_abs place.depth + (whole_length u - place.offset)) (2 ^ 63) then Ok
     (rows_at_place limit u declared place) else Err too_deep)
-    else Err (refused (OffsetOutOfBounds place.offset))
+    else Err (refusal_status (OffsetOutOfBounds place.offset))
 
 abbrev pub declared_ahead : ℕ → UnitView → Result Map Error → GimliPlace → Result Ahead ℕ
 declared_ahead limit u (Ok declared) place = unit_ahead limit u declared place
-declared_ahead limit u (Err e) place = Err (refused e)
+declared_ahead limit u (Err e) place = Err (refusal_status e)
 
 abbrev pub read_ahead : ℕ → Result UnitView Error → View → GimliPlace → Result Ahead ℕ
 read_ahead limit (Ok u) declarations place =
     declared_ahead limit u (map_at u.abbreviations declarations) place
-read_ahead limit (Err e) declarations place = Err (refused e)
+read_ahead limit (Err e) declarations place = Err (refusal_status e)
 
 -- the rows from a place on, of the unit at an offset of a section
 abbrev pub rows_ahead : ℕ → SectionId → View → View → ℕ → GimliPlace → Result Ahead ℕ

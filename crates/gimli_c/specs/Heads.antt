@@ -4,7 +4,7 @@ use Rattle.gimli_base.specs.declared.common.Encoding.{Encoding}
 use Rattle.gimli_base.specs.View.{View}
 use Rattle.gimli_base.specs.Reading.{Reads}
 use Rattle.gimli_base.specs.Abbreviations.{Specification, Declaration}
-use Rattle.gimli_base.specs.Table.{found}
+use Rattle.gimli_base.specs.Table.{codes_of}
 use Rattle.gimli_units.specs.Entry.{Attr, Entry, attributes_at, entry_at}
 use Rattle.gimli_units.specs.RawPlace.{RawPlace, depth_after}
 use Rattle.gimli_c.specs.declared.attrs.GimliAttr.{GimliAttr}
@@ -26,10 +26,11 @@ pub record AreRead (limit : ℕ) (e : Encoding) (ss : List Specification) (v w :
   pub are : ◌≡◌ {A = Reads (List Attr)} (Ok (attributes, w)) (attributes_at limit e ss v)
 
 -- the next entry was read: the head is its own, and the reader stands after it
-pub record IsReadPast (limit : ℕ) (before : RawPlace) (head : Head) (after : RawPlace) : Type 0 where
+pub record IsReadPast (limit : ℕ) (before : RawPlace) (head : Head) (after : RawPlace)
+    : Type 0 where
   pub entry : Entry
   pub is : ◌≡◌ {A = Reads Entry} (Ok (entry, after.rest))
-      (entry_at limit before.encoding (found before.abbreviations) before.rest)
+      (entry_at limit before.encoding (codes_of before.abbreviations) before.rest)
   pub head_is : head ≡ head_of entry
   pub moved : after
       ≡ record before { rest = after.rest; depth = depth_after entry before.depth }

@@ -17,7 +17,7 @@ use Rattle.gimli_c.specs.declared.lists.GimliLocation.{GimliLocation}
 use Rattle.gimli_c.specs.declared.lists.GimliRange.{GimliRange}
 use Rattle.gimli_c.specs.declared.sections.GimliSections.{GimliSections}
 use Rattle.gimli_c.specs.declared.unit.GimliUnit.{GimliUnit}
-use Rattle.gimli_c.specs.Status.{more, end, no_list, refused, row_refused}
+use Rattle.gimli_c.specs.Status.{more, end, no_list, refusal_status, row_refused}
 
 abbrev pub range_row : Resolved (Unit {0}) → GimliRange
 range_row r = record { begin = r.begin; end = r.end }
@@ -89,15 +89,21 @@ abbrev pub section_is_big : GimliSections → Bool
 section_is_big s = not (s.big == 0)
 
 abbrev pub range_sections : Bool → GimliSections → ListSections
-range_sections big s = record { old = section_view big s.ranges.now; new = section_view big s.rnglists.now }
+range_sections big s = record {
+  old = section_view big s.ranges.now;
+  new = section_view big s.rnglists.now;
+}
 
 abbrev pub location_sections : Bool → GimliSections → ListSections
-location_sections big s = record { old = section_view big s.loc.now; new = section_view big s.loclists.now }
+location_sections big s = record {
+  old = section_view big s.loc.now;
+  new = section_view big s.loclists.now;
+}
 
 -- a refusal as a status
 abbrev pub or_refused : {A : Type 0} → Result A Error → Result A ℕ
 or_refused (Ok a) = Ok a
-or_refused (Err e) = Err (refused e)
+or_refused (Err e) = Err (refusal_status e)
 
 -- where the list of a value begins: at an offset, or at the offset at an index of a table
 abbrev pub list_begin : ℕ → GimliUnit → GimliAttr → ℕ → View → Result ℕ ℕ
@@ -115,7 +121,8 @@ listed_answers (Err stop) f = Err stop
 -- those of a unit whose addresses have a size that an address may have
 abbrev pub if_sized : {A : Type 0} → GimliUnit → Result A ℕ → Result A ℕ
 if_sized u r =
-    if is_size u.address_size then r else Err (refused (UnsupportedAddressSize u.address_size))
+    if is_size u.address_size then r
+    else Err (refusal_status (UnsupportedAddressSize u.address_size))
 
 -- the ranges of the list at an attribute's value, each or its refusal
 abbrev pub ranges_at : Bool → GimliSections → GimliUnit → GimliAttr → GimliBases
@@ -124,7 +131,8 @@ ranges_at big s u a b =
     if_sized u
     (listed_answers (list_begin 26 u a b.rnglists (range_sections big s).new)
     (λ offset.
-    range_answers (2 ^ 64) offset (encoding_in u) b.address (section_view big s.addresses.now) b.addresses
+    range_answers (2 ^ 64) offset (encoding_in u) b.address
+    (section_view big s.addresses.now) b.addresses
     (range_sections big s)))
 
 -- the locations of the list at an attribute's value, each or its refusal

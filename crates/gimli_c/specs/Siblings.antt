@@ -13,7 +13,7 @@ use Rattle.gimli_units.specs.UnitRows.{unit_rows_from, unit_rows, start_view, Is
 use Rattle.gimli_units.specs.UnitRows.{StandsAt}
 use Rattle.gimli_c.specs.declared.rows.GimliRow.{GimliRow}
 use Rattle.gimli_c.specs.declared.sections.GimliSections.{GimliSections}
-use Rattle.gimli_c.specs.Status.{more, end, refused, row_refused}
+use Rattle.gimli_c.specs.Status.{more, end, refusal_status, row_refused}
 use Rattle.gimli_c.specs.Units.{section_unit, abbreviations_view}
 
 -- the place before these rows
@@ -59,17 +59,17 @@ unit_sibling limit u declared offset depth old =
     if in_bounds u offset
     then place_sibling (whole_length u) (before (unit_rows_from limit u declared offset (pos 0)))
     depth old
-    else (refused (OffsetOutOfBounds offset), old)
+    else (refusal_status (OffsetOutOfBounds offset), old)
 
 abbrev pub declared_sibling : ℕ → UnitView → Result Map Error → ℕ → ℤ → GimliRow → ℕ × GimliRow
 declared_sibling limit u (Ok declared) offset depth old =
     unit_sibling limit u declared offset depth old
-declared_sibling limit u (Err e) offset depth old = (refused e, old)
+declared_sibling limit u (Err e) offset depth old = (refusal_status e, old)
 
 abbrev pub read_sibling : ℕ → Result UnitView Error → View → ℕ → ℤ → GimliRow → ℕ × GimliRow
 read_sibling limit (Ok u) declarations offset depth old =
     declared_sibling limit u (map_at u.abbreviations declarations) offset depth old
-read_sibling limit (Err e) declarations offset depth old = (refused e, old)
+read_sibling limit (Err e) declarations offset depth old = (refusal_status e, old)
 
 -- the references from an offset of a unit on are honest
 abbrev pub AreDeclaredHonest : ℕ → UnitView → Result Map Error → ℕ → Type 0
@@ -100,12 +100,12 @@ offset_told None old = (end, old)
 abbrev pub declared_false : ℕ → UnitView → Result Map Error → ℕ → ℕ × ℕ
 declared_false limit u (Ok declared) old =
     offset_told (first_false (whole_length u) (unit_rows limit u declared)) old
-declared_false limit u (Err e) old = (refused e, old)
+declared_false limit u (Err e) old = (refusal_status e, old)
 
 abbrev pub read_false : ℕ → Result UnitView Error → View → ℕ → ℕ × ℕ
 read_false limit (Ok u) declarations old =
     declared_false limit u (map_at u.abbreviations declarations) old
-read_false limit (Err e) declarations old = (refused e, old)
+read_false limit (Err e) declarations old = (refusal_status e, old)
 
 -- the first in a caller's unit
 abbrev pub section_false : GimliSections → ℕ → ℕ → ℕ × ℕ

@@ -16,8 +16,8 @@ too_deep = 2
 abbrev pub no_list : ℕ
 no_list = 3
 
-abbrev pub refused : Error → ℕ
-refused e = 256 + number_of e
+abbrev pub refusal_status : Error → ℕ
+refusal_status e = 256 + number_of e
 
 -- a refusal of what is read after the rows
 abbrev pub row_refused : Error → ℕ

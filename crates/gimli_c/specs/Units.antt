@@ -14,7 +14,7 @@ use Rattle.gimli_units.specs.Unit.{UnitView, whole_length, header_size}
 use Rattle.gimli_headers.specs.Units.{header_at}
 use Rattle.gimli_c.specs.declared.unit.GimliUnit.{GimliUnit}
 use Rattle.gimli_c.specs.declared.sections.GimliSections.{GimliSections}
-use Rattle.gimli_c.specs.Status.{more, end, refused}
+use Rattle.gimli_c.specs.Status.{more, end, refusal_status}
 
 -- the view of a section's bytes, in the byte order that is named
 abbrev pub view_in : GimliSections → List ℕ → View
@@ -73,7 +73,7 @@ unit_numbers u = record {
 -- the status, and the unit that the caller has then
 abbrev pub told_unit : Result UnitView Error → GimliUnit → ℕ × GimliUnit
 told_unit (Ok u) old = (more, unit_numbers u)
-told_unit (Err e) old = (refused e, old)
+told_unit (Err e) old = (refusal_status e, old)
 
 abbrev pub unit_told : View → ℕ → Result UnitView Error → GimliUnit → ℕ × GimliUnit
 unit_told section offset read old =

@@ -2,7 +2,7 @@
 
 ghost use Rattle.std.specs.Prelude.{◌≡◌, ◌+◌, ◌≤◌, ◌++◌, ◌%◌, ◌/◌, ◌^◌, take, drop, length};
 ghost use Rattle.gimli_units.specs.Value.{map_value, map_attribute};
-ghost use Rattle.gimli_c.specs.Attrs.{numbers, lying, values_of, attr_of};
+ghost use Rattle.gimli_c.specs.Attrs.{numbers, place_numbers, values_of, attr_of};
 
 use gimli_base::{Reader, ReaderOffset};
 use gimli_units::{Attribute, AttributeValue};
@@ -11,8 +11,8 @@ use gimli_units::{Attribute, AttributeValue};
 #[repr(C)]
 #[derive(Clone, Copy, Debug)]
 pub struct GimliAttr {
-    /// The value, where it is a number, its bits where it has a sign; of 16 bytes the low 8. Or where
-    /// the bytes of a block, an expression or a text lie in the section of units.
+    /// The value, where it is a number, its bits where it has a sign; of 16 bytes the low 8. Or
+    /// where the bytes of a block, an expression or a text lie in the section of units.
     pub number: u64,
     /// The number of those bytes; or the high 8 of 16 bytes; or what is added to the address at an
     /// index; else 0.
@@ -64,7 +64,7 @@ fn wide(kind: u32, number: u128) -> Numbers
 // Bytes of the section.
 #[inline(always)]
 fn lying<R: Reader>(kind: u32, bytes: &R) -> Numbers
-    ensures { result ≡ lying kind (R.view bytes.now) }
+    ensures { result ≡ place_numbers kind (R.view bytes.now) }
 {
     two(kind, bytes.offset_id().0, bytes.len().into_u64())
 }

@@ -1,7 +1,7 @@
 //! Rows with their attributes, filled into what the caller hands over.
 
 ghost use Rattle.std.specs.Prelude.{◌≡◌, ◌+◌, ◌<◌, ◌^◌, length, unsigned_abs};
-ghost use Rattle.gimli_base.specs.Table.{found};
+ghost use Rattle.gimli_base.specs.Table.{codes_of};
 ghost use Rattle.gimli_units.specs.UnitHeld.{unit_view};
 ghost use Rattle.gimli_c.specs.Units.{section_id};
 ghost use Rattle.gimli_c.specs.Fronts.{at, ahead_of, unit_ahead, rows_ahead, Resumes};
@@ -110,7 +110,7 @@ fn unit_entries<R: Reader, A: Allocator + Copy>(
     attrs: &mut [GimliAttr],
 ) -> ToldEntries
     ensures { let place = at (R.Offset.number offset) depth in
-        let ahead = unit_ahead R.Offset.limit (unit_view unit.now) (found table.now) place in
+        let ahead = unit_ahead R.Offset.limit (unit_view unit.now) (codes_of table.now) place in
         AreTold ahead place rows.old attrs.old result.place rows.new attrs.new
         result.filled result.status }
 {

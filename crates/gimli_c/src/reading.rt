@@ -1,8 +1,8 @@
 //! Entries that are read one after the other, each into what a row tells of it.
 
 ghost use Rattle.std.specs.Prelude.{◌≡◌, ◌≢◌, [], map, IfOk, IfErr, OnErr};
-ghost use Rattle.gimli_base.specs.Table.{found};
-ghost use Rattle.gimli_base.specs.Reading.{read, filled, made, UnlessMemory};
+ghost use Rattle.gimli_base.specs.Table.{codes_of};
+ghost use Rattle.gimli_base.specs.Reading.{read_of, answer_leaving, map_read, UnlessMemory};
 ghost use Rattle.gimli_units.specs.Entry.{attributes_at, entry_at};
 ghost use Rattle.gimli_base.specs.declared.error.Error.TheVariants.{OutOfMemory};
 ghost use Rattle.gimli_c.specs.Attrs.{attr_of};
@@ -51,7 +51,7 @@ pub(crate) fn pass_entry<R: Reader, A: Allocator>(
 ) -> Result<Head>
     ensures past { IfOk result (λ head. IsReadPast R.Offset.limit entries.old head entries.new) }
     ensures refused { IfErr result (λ e. Err e
-        ≡ entry_at R.Offset.limit entries.old.encoding (found entries.old.abbreviations)
+        ≡ entry_at R.Offset.limit entries.old.encoding (codes_of entries.old.abbreviations)
         entries.old.rest) }
     ensures kept { OnErr result (entries.new ≡ entries.old) }
 {
@@ -94,7 +94,7 @@ pub(crate) fn read_numbers<R: Reader, A: Allocator>(
     ensures past { IfOk result
         (λ head. IsReadWith R.Offset.limit entries.old head numbers.new.items entries.new) }
     ensures refused { IfErr result (λ e. (e ≡ OutOfMemory → ⊥) → Err e
-        ≡ entry_at R.Offset.limit entries.old.encoding (found entries.old.abbreviations)
+        ≡ entry_at R.Offset.limit entries.old.encoding (codes_of entries.old.abbreviations)
         entries.old.rest) }
     ensures kept { OnErr result (entries.new ≡ entries.old) }
 {
@@ -118,9 +118,10 @@ fn push_numbers<R: Reader, A: Allocator>(
     numbers: &mut Vec<GimliAttr, A>,
 ) -> Result<()>
     requires { numbers.old.items ≡ [] }
-    ensures value { UnlessMemory result (read (filled numbers.new.items result) entries.new.rest
-        ≡ made (map attr_of) (attributes_at R.Offset.limit entries.old.encoding specifications.now
-        entries.old.rest)) }
+    ensures value { UnlessMemory result
+        (read_of (answer_leaving numbers.new.items result) entries.new.rest
+        ≡ map_read (map attr_of)
+        (attributes_at R.Offset.limit entries.old.encoding specifications.now entries.old.rest)) }
     ensures same { entries.new ≡ record entries.old { rest = entries.new.rest } }
 {
     numbers.reserve(specifications.len())?;

@@ -1,7 +1,7 @@
 //! Rows, filled into what the caller hands over.
 
 ghost use Rattle.std.specs.Prelude.{◌≡◌, ◌+◌, ◌-◌, ◌<◌, ◌≤◌, ◌^◌, ◌+ℤ◌, length, unsigned_abs};
-ghost use Rattle.gimli_base.specs.Table.{found};
+ghost use Rattle.gimli_base.specs.Table.{codes_of};
 ghost use Rattle.gimli_units.specs.RawPlace.{next_offset_of};
 ghost use Rattle.gimli_units.specs.Unit.{whole_length};
 ghost use Rattle.gimli_units.specs.UnitHeld.{unit_view};
@@ -101,7 +101,7 @@ fn unit_rows<R: Reader, A: Allocator + Copy>(
     rows: &mut [GimliRow],
 ) -> Told
     ensures { let place = at (R.Offset.number offset) depth in
-        let ahead = unit_ahead R.Offset.limit (unit_view unit.now) (found table.now) place in
+        let ahead = unit_ahead R.Offset.limit (unit_view unit.now) (codes_of table.now) place in
         ToldRows ahead place rows.old result.place rows.new result.count result.status }
 {
     let whole = unit.length_including_self().into_u64();

@@ -1,7 +1,7 @@
 //! The next sibling of a row.
 
 ghost use Rattle.std.specs.Prelude.{◌≡◌, true, Some};
-ghost use Rattle.gimli_base.specs.Table.{found};
+ghost use Rattle.gimli_base.specs.Table.{codes_of};
 ghost use Rattle.gimli_units.specs.CursorMoves.{place_of, Goes, IsHonestFor};
 ghost use Rattle.gimli_units.specs.CursorPlace.{next_of_depth};
 ghost use Rattle.gimli_units.specs.UnitHeld.{unit_view};
@@ -62,9 +62,9 @@ fn find_in_unit<R: Reader, A: Allocator + Copy>(
     ensures told { let u = unit_view unit.now in
         let number = R.Offset.number offset in
         (follows ≡ true →
-        IsHonestFrom R.Offset.limit u (found table.now) (start_view u (Some number))) →
+        IsHonestFrom R.Offset.limit u (codes_of table.now) (start_view u (Some number))) →
         UnlessRefused result ((result, row.new)
-        ≡ unit_sibling R.Offset.limit u (found table.now) number depth row.old) }
+        ≡ unit_sibling R.Offset.limit u (codes_of table.now) number depth row.old) }
     ensures kept { (result ≡ more → ⊥) → row.new ≡ row.old }
 {
     let cursor = if follows {

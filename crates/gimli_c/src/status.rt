@@ -1,7 +1,7 @@
 //! Statuses.
 
 ghost use Rattle.std.specs.Prelude.{◌≡◌};
-ghost use Rattle.gimli_c.specs.Status.{refused, row_refused};
+ghost use Rattle.gimli_c.specs.Status.{refusal_status, row_refused};
 
 use gimli_base::Error;
 
@@ -19,7 +19,7 @@ pub(crate) const NO_LIST: u32 = 3;
 
 /// The status of a refusal of a unit, of its abbreviations or of an offset.
 pub(crate) fn refused(error: Error) -> u32
-    ensures { result ≡ refused error }
+    ensures { result ≡ refusal_status error }
 {
     256 + u32::from(error.number())
 }

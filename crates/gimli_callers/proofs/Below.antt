@@ -8,13 +8,13 @@ use Rattle.std.proofs.lemmas.Bool.Decides.{Decides-int_eq}
 use Rattle.gimli_base.specs.declared.error.Error.{Error}
 use Rattle.gimli_base.specs.declared.error.Error.TheVariants.{OutOfMemory}
 use Rattle.gimli_base.specs.Reading.{UnlessMemory}
-use Rattle.gimli_base.specs.Table.{found}
+use Rattle.gimli_base.specs.Table.{codes_of}
 use Rattle.gimli_base.proofs.Later.{IsLater-length}
 use Rattle.gimli_units.specs.Entry.{Entry, is_null}
 use Rattle.gimli_units.specs.RawPlace.{RawPlace, below_flag}
 use Rattle.gimli_units.specs.Rows.{Row, Ahead}
 use Rattle.gimli_units.proofs.RowSteps.{ahead_ended}
-use Rattle.gimli_units.specs.Honest.{usable, IsHonest, AreHonestUntil}
+use Rattle.gimli_units.specs.Honest.{usable_target, IsHonest, AreHonestUntil}
 use Rattle.gimli_units.specs.CursorPlace.{Place, Moved, some_of, is_entry, has_depth, arrive}
 use Rattle.gimli_units.specs.CursorPlace.{skip_until, seek}
 use Rattle.gimli_units.specs.CursorMoves.{CursorView, next_of, rows_of, place_of, last_row}
@@ -58,7 +58,7 @@ module _ (limit : ℕ) (c : CursorView) (s : IsSound c) where
   leaf_honest : is_null c.entry ≡ false → c.entry.has_children ≡ false
       → IsHonest c.raw.end (last_row c) (rows_of limit c.raw).rows
   leaf_honest entry flag t leads =
-      let nowhere : usable c.raw.end (last_row c) ≡ None = rw (entry, flag) refl in
+      let nowhere : usable_target c.raw.end (last_row c) ≡ None = rw (entry, flag) refl in
       let e : ◌≡◌ {A = Option ℕ} None (Some t) = sym nowhere ∙ leads in absurd (cc)
 
   too_deep : (flag : Bool) → c.entry.has_children ≡ flag → is_null c.entry ≡ false
@@ -263,7 +263,8 @@ module _ (limit : ℕ) (old new : Standing) (sound : IsSound old.tree.cursor) wh
   null_behind d null deep y =
       let p = old.tree.cursor.raw in
       let c = new.tree.cursor in
-      let flag = entry_at-flagless limit p.encoding (found p.abbreviations) (view_from p c.offset)
+      let flag = entry_at-flagless limit p.encoding (codes_of p.abbreviations)
+      (view_from p c.offset)
       c.raw.rest c.entry y.is null in
       y.depth ∙ rw (null, flag, deep) refl
 

@@ -9,7 +9,7 @@ use Rattle.gimli_base.specs.declared.error.Error.{Error}
 use Rattle.gimli_base.specs.declared.error.Error.TheVariants.{OutOfMemory}
 use Rattle.gimli_base.specs.View.{View}
 use Rattle.gimli_base.specs.Reading.{Reads, UnlessMemory}
-use Rattle.gimli_base.specs.Table.{found}
+use Rattle.gimli_base.specs.Table.{codes_of}
 use Rattle.gimli_units.specs.Entry.{Entry, is_null}
 use Rattle.gimli_units.proofs.EntryReads.{entry_at-shorter}
 use Rattle.gimli_units.specs.RawPlace.{RawPlace, below_flag, depth_after}
@@ -118,7 +118,7 @@ module _ (depth inner : ℤ) (is : inner ≡ depth +ℤ pos 1) where
         let raw : RawPlace = old.cursor.raw in
         let chain : AreAhead (next_of limit raw) raw.end raw.rest raw.depth a = exist_rows
         (next_of limit raw) raw.end
-        (λ v w x k. entry_at-shorter limit raw.encoding (found raw.abbreviations) v w x k)
+        (λ v w x k. entry_at-shorter limit raw.encoding (codes_of raw.abbreviations) v w x k)
         raw.rest raw.depth in
         inside (next_of limit raw) raw.end a.rows raw.rest raw.depth a.refusal a.stop a.stop_depth n
         chain low

@@ -3,7 +3,7 @@ use Rattle.std.proofs.Common.{◌≡◌, ℕ, ◌-◌, pos, Bool, true, false, O
 use Rattle.std.proofs.Common.{refl, ap, ◌∙◌}
 use Rattle.std.specs.Prelude.{if◌then◌else◌}
 use Rattle.gimli_base.specs.Reading.{UnlessMemory}
-use Rattle.gimli_base.specs.Table.{Table, found}
+use Rattle.gimli_base.specs.Table.{Table, codes_of}
 use Rattle.gimli_units.specs.Rows.{Ahead}
 use Rattle.gimli_base.specs.declared.error.Error.TheVariants.{OffsetOutOfBounds}
 use Rattle.gimli_base.specs.Offset.{answer_of}
@@ -24,10 +24,10 @@ abbrev pub offset_answer : Bool → ℕ → Option ℕ
 offset_answer true offset = Some offset
 offset_answer false offset = None
 
-module _ (limit : ℕ) (u : UnitView) (t : Table) (honest : IsHonestAt limit u (found t) u.entries)
+module _ (limit : ℕ) (u : UnitView) (t : Table) (honest : IsHonestAt limit u (codes_of t) u.entries)
   where
     abbrev rows : Ahead
-    rows = unit_rows_at limit u (found t) (pos 0) u.entries
+    rows = unit_rows_at limit u (codes_of t) (pos 0) u.entries
 
     offset_is : (b : Bool) (e : CursorView) (m : Moved)
         → record { outcome = Ok b; place = place_of limit e } ≡ m
@@ -60,7 +60,7 @@ module _ (limit : ℕ) (u : UnitView) (t : Table) (offset : ℕ) where
   abbrev before : Place
   before =
       record {
-        ahead = unit_rows_from limit u (found t) offset (pos 0);
+        ahead = unit_rows_from limit u (codes_of t) offset (pos 0);
         current = None;
         offset = 0;
         depth = pos 0;
@@ -82,11 +82,11 @@ module _ (limit : ℕ) (u : UnitView) (t : Table) (offset : ℕ) where
       cases false e = absurd (cc)
 
   pub sibling_is : (c d e : CursorView) (a b : Bool) → Ok c ≡ cursor_from u t true offset
-      → IsHonestFrom limit u (found t) (start_view u (Some offset)) → HasReadOn limit c (Ok a) d
+      → IsHonestFrom limit u (codes_of t) (start_view u (Some offset)) → HasReadOn limit c (Ok a) d
       → (IsHonestFor limit d.depth d
       → UnlessMemory (Ok b) (Goes limit (next_of_depth d.raw.end) d (Ok b) e))
       → offset_answer b e.offset
-      ≡ second_of_rows (whole_length u) (unit_rows_from limit u (found t) offset (pos 0))
+      ≡ second_of_rows (whole_length u) (unit_rows_from limit u (codes_of t) offset (pos 0))
   sibling_is c d e a b begins honest reads steps =
       let at = begins_at c begins in
       let end : d.raw.end ≡ c.raw.end = reads.unit.end in

@@ -2,10 +2,10 @@
 
 ghost use Rattle.std.specs.Prelude.{◌≡◌, IfOk, IfSome};
 ghost use Rattle.std.specs.Option.{option_map};
-ghost use Rattle.gimli_base.specs.Table.{found};
+ghost use Rattle.gimli_base.specs.Table.{codes_of};
 ghost use Rattle.gimli_units.specs.UnitHeld.{unit_view};
 ghost use Rattle.gimli_units.specs.UnitRows.{unit_rows};
-ghost use Rattle.gimli_walk.specs.Cursors.{seen};
+ghost use Rattle.gimli_walk.specs.Cursors.{answer_held};
 ghost use Rattle.gimli_walk.specs.Runs.{told_run};
 ghost use Rattle.gimli_callers.specs.Modes.{BeginsAtRow, AreSame};
 
@@ -25,8 +25,9 @@ pub fn run_both<R: Reader, A: Allocator + Copy>(
     start: Option<UnitOffset<R::Offset>>,
     steps: &[CursorStep],
 ) -> Result<Option<(Run<CursorAnswer<R, A>, A>, Run<CursorAnswer<R, A>, A>)>>
-    ensures { let rows = unit_rows R.Offset.limit (unit_view unit.now) (found abbreviations.now) in
-        let told = told_run (seen R.view R.Offset.number) in
+    ensures { let declared = codes_of abbreviations.now in
+        let rows = unit_rows R.Offset.limit (unit_view unit.now) declared in
+        let told = told_run (answer_held R.view R.Offset.number) in
         BeginsAtRow (option_map (λ o. R.Offset.number o.0) start) rows →
         IfOk result (λ checked. IfSome checked (λ runs. AreSame (told runs.0) (told runs.1))) }
 {

@@ -3,7 +3,7 @@
 ghost use Rattle.std.specs.Prelude.{◌≡◌, None, Some, Ok, IfOk, IfSome, true, false, pos};
 ghost use Rattle.std.specs.Option.{option_map};
 ghost use Rattle.gimli_base.specs.Reading.{UnlessMemory};
-ghost use Rattle.gimli_base.specs.Table.{found};
+ghost use Rattle.gimli_base.specs.Table.{codes_of};
 ghost use Rattle.gimli_units.specs.Unit.{whole_length};
 ghost use Rattle.gimli_units.specs.UnitHeld.{unit_view};
 ghost use Rattle.gimli_units.specs.UnitRows.{unit_rows_at, unit_rows_from, unit_rows, StandsAt};
@@ -37,7 +37,7 @@ pub fn second_of_depth<R: Reader, A: Allocator + Copy>(
     abbreviations: &Abbreviations<A>,
 ) -> Result<Option<Option<UnitOffset<R::Offset>>>>
     ensures { let u = unit_view unit.now in
-        let rows = unit_rows_at R.Offset.limit u (found abbreviations.now) (pos 0) u.entries in
+        let rows = unit_rows_at R.Offset.limit u (codes_of abbreviations.now) (pos 0) u.entries in
         IfOk result (λ checked. IfSome checked (λ o.
         option_map (λ x. R.Offset.number x.0) o ≡ second_of_rows (whole_length u) rows)) }
 {
@@ -63,7 +63,7 @@ pub fn sibling_at<R: Reader, A: Allocator + Copy>(
     offset: UnitOffset<R::Offset>,
 ) -> Result<Option<Option<UnitOffset<R::Offset>>>>
     ensures { let u = unit_view unit.now in
-        let declared = found abbreviations.now in
+        let declared = codes_of abbreviations.now in
         let at = R.Offset.number offset.0 in
         let rows = unit_rows_from R.Offset.limit u declared at (pos 0) in
         StandsAt at (unit_rows R.Offset.limit u declared) →

@@ -5,7 +5,7 @@ use Rattle.std.specs.Prelude.{IfOk, IfSome, ◌↔◌}
 use Rattle.std.specs.Option.{option_map}
 use Rattle.gimli_base.specs.declared.error.Error.{Error}
 use Rattle.gimli_base.specs.Abbreviations.{Map}
-use Rattle.gimli_base.specs.Table.{Table, found}
+use Rattle.gimli_base.specs.Table.{Table, codes_of}
 use Rattle.gimli_units.specs.RawPlace.{RawPlace}
 use Rattle.gimli_units.specs.Rows.{Row}
 use Rattle.gimli_units.specs.CursorMoves.{rows_of}
@@ -22,7 +22,7 @@ pub exact : {O : Type 0}
     → (limit : ℕ) (u : UnitView) (t : Table) (p : RawPlace) (f : O → ℕ)
     (r : Result (Option O) Error) → p ≡ entries_of u t
     → IfOk r (λ o. option_map f o ≡ first_false p.end (rows_of limit p).rows)
-    → IfOk r (λ o. option_map f o ≡ first_false (whole_length u) (unit_rows limit u (found t)))
+    → IfOk r (λ o. option_map f o ≡ first_false (whole_length u) (unit_rows limit u (codes_of t)))
 exact limit u t p f (Ok o) same h =
     h ∙ ap (λ (q : RawPlace). first_false q.end (rows_of limit q).rows) same
 exact limit u t p f (Err e) same h = tt

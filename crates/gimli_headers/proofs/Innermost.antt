@@ -8,7 +8,7 @@ use Rattle.std.proofs.lemmas.List.{map-append}
 use Rattle.gimli_units.specs.Entry.{is_null}
 use Rattle.gimli_units.specs.Rows.{Row}
 use Rattle.gimli_headers.specs.declared.siblings.Open.{Open}
-use Rattle.gimli_headers.specs.OpenRows.{OpenRow, open_of, Rise, judged}
+use Rattle.gimli_headers.specs.OpenRows.{OpenRow, open_of, Rise, judgement}
 use Rattle.gimli_headers.proofs.OpenTurns.{rise_out, rise_up, rise_on, null_passed, null_closed}
 use Rattle.gimli_headers.proofs.OpenTurns.{null_closed_badly}
 
@@ -90,15 +90,15 @@ module _ {O : Type 0} (g : O → ℕ) (depth : ℤ) (items : List (Open O))
       (at : r.depth ≡ depth) where
     -- a null that closes none
     pub stays : Rise (depth -ℤ pos 1) (map (open_of g) items)
-        → judged end (record { opens = map (open_of g) items; first = first }) rest
-        ≡ judged end (record { opens = map (open_of g) items; first = first }) (r ∷ rest)
+        → judgement end (record { opens = map (open_of g) items; first = first }) rest
+        ≡ judgement end (record { opens = map (open_of g) items; first = first }) (r ∷ rest)
     stays low = null_passed end (map (open_of g) items) r rest first null (rw at low)
 
     -- one that closes the innermost
     pub closes_well : (x : Open O) (left : List (Open O)) → lasts ≡ Some x
         → (x.depth +ℤ pos 1) ≡ depth → left ≡ take (length items - 1) items → g x.target.0 ≡ r.next
-        → judged end (record { opens = map (open_of g) left; first = first }) rest
-        ≡ judged end (record { opens = map (open_of g) items; first = first }) (r ∷ rest)
+        → judgement end (record { opens = map (open_of g) left; first = first }) rest
+        ≡ judgement end (record { opens = map (open_of g) items; first = first }) (r ∷ rest)
     closes_well x left h deep is well =
         let outer : List OpenRow = map (open_of g) (take (length items - 1) items) in
         rw (is, parts x h)
@@ -108,8 +108,8 @@ module _ {O : Type 0} (g : O → ℕ) (depth : ℤ) (items : List (Open O))
     pub closes_badly : (x : Open O) (left : List (Open O)) → lasts ≡ Some x
         → (x.depth +ℤ pos 1) ≡ depth → left ≡ take (length items - 1) items
         → (g x.target.0 ≡ r.next → ⊥)
-        → judged end (record { opens = map (open_of g) left; first = Some (g x.offset.0) }) rest
-        ≡ judged end (record { opens = map (open_of g) items; first = first }) (r ∷ rest)
+        → judgement end (record { opens = map (open_of g) left; first = Some (g x.offset.0) }) rest
+        ≡ judgement end (record { opens = map (open_of g) items; first = first }) (r ∷ rest)
     closes_badly x left h deep is badly =
         let outer : List OpenRow = map (open_of g) (take (length items - 1) items) in
         rw (is, parts x h)

@@ -8,14 +8,15 @@ use Rattle.std.proofs.lemmas.Bool.{eq-eqb, ne_eqb}
 use Rattle.std.proofs.lemmas.Bool.Decides.{Decides-int_eq}
 use Rattle.gimli_units.specs.Entry.{is_null}
 use Rattle.gimli_units.specs.Rows.{Row}
-use Rattle.gimli_units.specs.Honest.{closes, past, usable}
+use Rattle.gimli_units.specs.Honest.{closes, past_closer, usable_target}
 use Rattle.gimli_units.specs.FirstFalse.{misses, first_false}
 use Rattle.gimli_units.proofs.Splits.{not_equal}
-use Rattle.gimli_headers.specs.OpenRows.{OpenRow, outermost, Rise, first_open, or_else, judged}
+use Rattle.gimli_headers.specs.OpenRows.{OpenRow, outermost_depth, Rise, first_open, or_else}
+use Rattle.gimli_headers.specs.OpenRows.{judgement}
 
 -- the innermost of the opens entries, and those outside it
 outermost-last : (depth : ℤ) (xs : List OpenRow) (x : OpenRow)
-    → outermost depth (xs ++ x ∷ []) ≡ outermost x.depth xs
+    → outermost_depth depth (xs ++ x ∷ []) ≡ outermost_depth x.depth xs
 outermost-last depth [] x = refl
 outermost-last depth (y ∷ ys) x = refl
 
@@ -31,7 +32,7 @@ pub rise_in : (depth : ℤ) (xs : List OpenRow) (x : OpenRow) → (x.depth +ℤ 
 rise_in depth [] x le h = (le, tt)
 rise_in depth (y ∷ ys) x le h = (rw (outermost-last depth ys x) h.0, rise_in depth ys x le h.1)
 
-outermost-up : (a b : ℤ) (xs : List OpenRow) → a ≤ℤ b → outermost a xs ≤ℤ outermost b xs
+outermost-up : (a b : ℤ) (xs : List OpenRow) → a ≤ℤ b → outermost_depth a xs ≤ℤ outermost_depth b xs
 outermost-up a b [] le = le
 outermost-up a b (x ∷ xs) le = omega (arith, ints)
 
@@ -49,7 +50,7 @@ rise_on depth (x ∷ []) h other = let ne = other [] x refl in (omega (arith, in
 rise_on depth (x ∷ y ∷ ys) h other =
     (h.0, rise_on depth (y ∷ ys) h.1 (λ outer z is. other (x ∷ outer) z (ap (λ zs. x ∷ zs) is)))
 
-rise_below : (depth : ℤ) (xs : List OpenRow) → Rise depth xs → outermost depth xs ≤ℤ depth
+rise_below : (depth : ℤ) (xs : List OpenRow) → Rise depth xs → outermost_depth depth xs ≤ℤ depth
 rise_below depth [] h = omega (arith, ints)
 rise_below depth (x ∷ xs) h = omega (arith, ints, h.0, rise_below depth xs h.1)
 
@@ -65,18 +66,19 @@ open_on depth (x ∷ xs) r rest other h none =
 
 open_last : (xs : List OpenRow) (x : OpenRow) (rest : List Row) (other : Option ℕ)
     → first_open (xs ++ x ∷ []) rest other
-    ≡ first_open xs rest (if misses x.target (past x.depth rest) then Some x.offset else other)
+    ≡ first_open xs rest (if misses x.target (past_closer x.depth rest) then Some x.offset else
+    other)
 open_last [] x rest other = refl
 open_last (y ∷ ys) x rest other = rw (open_last ys x rest other) refl
 
-unusable : (end : ℕ) (r : Row) (rest : List Row) → usable end r ≡ None
+unusable : (end : ℕ) (r : Row) (rest : List Row) → usable_target end r ≡ None
     → first_false end (r ∷ rest) ≡ first_false end rest
 unusable end r rest none =
     ap
-    (λ (u : Option ℕ). if (elim u [ None ↦ false | Some t ↦ misses t (past r.depth rest) ])
+    (λ (u : Option ℕ). if (elim u [ None ↦ false | Some t ↦ misses t (past_closer r.depth rest) ])
     then Some r.offset else first_false end rest) none
 
-null_unusable : (end : ℕ) (r : Row) → is_null r.entry ≡ true → usable end r ≡ None
+null_unusable : (end : ℕ) (r : Row) → is_null r.entry ≡ true → usable_target end r ≡ None
 null_unusable end r null = rw null refl
 
 module _ (end : ℕ) (opens : List OpenRow) (r : Row) (rest : List Row) where
@@ -86,38 +88,39 @@ module _ (end : ℕ) (opens : List OpenRow) (r : Row) (rest : List Row) where
   entry_on other entry rise = open_on r.depth opens r rest other rise (λ d le. rw entry refl)
 
   pub entry_found : (o : ℕ) → is_null r.entry ≡ false → Rise r.depth opens
-      → judged end (record { opens = opens; first = Some o }) rest
-      ≡ judged end (record { opens = opens; first = Some o }) (r ∷ rest)
+      → judgement end (record { opens = opens; first = Some o }) rest
+      ≡ judgement end (record { opens = opens; first = Some o }) (r ∷ rest)
   entry_found o entry rise = sym (entry_on (Some o) entry rise)
 
-  pub entry_passed : is_null r.entry ≡ false → Rise r.depth opens → usable end r ≡ None
-      → judged end (record { opens = opens; first = None }) rest
-      ≡ judged end (record { opens = opens; first = None }) (r ∷ rest)
+  pub entry_passed : is_null r.entry ≡ false → Rise r.depth opens → usable_target end r ≡ None
+      → judgement end (record { opens = opens; first = None }) rest
+      ≡ judgement end (record { opens = opens; first = None }) (r ∷ rest)
   entry_passed entry rise none =
       sym
       (entry_on (first_false end (r ∷ rest)) entry rise
       ∙ ap (first_open opens rest) (unusable end r rest none))
 
-  pub entry_opened : (t : ℕ) → is_null r.entry ≡ false → Rise r.depth opens → usable end r ≡ Some t
-      → judged end
+  pub entry_opened : (t : ℕ) → is_null r.entry ≡ false → Rise r.depth opens → usable_target end r
+      ≡ Some t
+      → judgement end
       (record {
         opens = opens ++ record { offset = r.offset; depth = r.depth; target = t } ∷ [];
         first = None;
-      }) rest ≡ judged end (record { opens = opens; first = None }) (r ∷ rest)
+      }) rest ≡ judgement end (record { opens = opens; first = None }) (r ∷ rest)
   entry_opened t entry rise some =
       let x : OpenRow = record { offset = r.offset; depth = r.depth; target = t } in
       let leads : first_false end (r ∷ rest)
-      ≡ (if misses t (past r.depth rest) then Some r.offset else first_false end rest) =
+      ≡ (if misses t (past_closer r.depth rest) then Some r.offset else first_false end rest) =
       ap
-      (λ (u : Option ℕ). if (elim u [ None ↦ false | Some t ↦ misses t (past r.depth rest) ])
+      (λ (u : Option ℕ). if (elim u [ None ↦ false | Some t ↦ misses t (past_closer r.depth rest) ])
       then Some r.offset else first_false end rest) some in
       open_last opens x rest (first_false end rest) ∙ ap (first_open opens rest) (sym leads)
       ∙ sym (entry_on (first_false end (r ∷ rest)) entry rise)
 
   -- a null that closes none
   pub null_passed : (first : Option ℕ) → is_null r.entry ≡ true → Rise (r.depth -ℤ pos 1) opens
-      → judged end (record { opens = opens; first = first }) rest
-      ≡ judged end (record { opens = opens; first = first }) (r ∷ rest)
+      → judgement end (record { opens = opens; first = first }) rest
+      ≡ judgement end (record { opens = opens; first = first }) (r ∷ rest)
   null_passed first null rise =
       let none : (d : ℤ) → (d +ℤ pos 1) ≤ℤ (r.depth -ℤ pos 1) → closes d r ≡ false = λ d le.
       let ne : r.depth ≡ (d +ℤ pos 1) → ⊥ = λ e. omega (arith, ints, e, le) in
@@ -131,14 +134,14 @@ module _ (end : ℕ) (opens : List OpenRow) (r : Row) (rest : List Row) where
   -- a null that closes the innermost
   closed_by : (x : OpenRow) (first : Option ℕ) → is_null r.entry ≡ true
       → (x.depth +ℤ pos 1) ≡ r.depth → Rise x.depth opens
-      → judged end (record { opens = opens ++ x ∷ []; first = first }) (r ∷ rest)
+      → judgement end (record { opens = opens ++ x ∷ []; first = first }) (r ∷ rest)
       ≡ first_open opens rest
       (if not (r.next == x.target) then Some x.offset else or_else first (first_false end rest))
   closed_by x first null deep rise =
       let same : int_eq r.depth (x.depth +ℤ pos 1)
       ≡ true = (Decides-int_eq r.depth (x.depth +ℤ pos 1)).1 (sym deep) in
       let this : closes x.depth r ≡ true = rw (null, same) refl in
-      let behind : past x.depth (r ∷ rest) ≡ Some r.next = rw this refl in
+      let behind : past_closer x.depth (r ∷ rest) ≡ Some r.next = rw this refl in
       let none : (d : ℤ) → (d +ℤ pos 1) ≤ℤ x.depth → closes d r ≡ false = λ d le.
       let ne : r.depth ≡ (d +ℤ pos 1) → ⊥ = λ e. omega (arith, ints, e, le, deep) in
       rw (null, not_equal r.depth (d +ℤ pos 1) ne) refl in
@@ -155,16 +158,16 @@ module _ (end : ℕ) (opens : List OpenRow) (r : Row) (rest : List Row) where
 
   pub null_closed : (x : OpenRow) (first : Option ℕ) → is_null r.entry ≡ true
       → (x.depth +ℤ pos 1) ≡ r.depth → Rise x.depth opens → x.target ≡ r.next
-      → judged end (record { opens = opens; first = first }) rest
-      ≡ judged end (record { opens = opens ++ x ∷ []; first = first }) (r ∷ rest)
+      → judgement end (record { opens = opens; first = first }) rest
+      ≡ judgement end (record { opens = opens ++ x ∷ []; first = first }) (r ∷ rest)
   null_closed x first null deep rise well =
       let t : (r.next == x.target) ≡ true = eq-eqb r.next x.target (sym well) in
       sym (closed_by x first null deep rise ∙ rw t refl)
 
   pub null_closed_badly : (x : OpenRow) (first : Option ℕ) → is_null r.entry ≡ true
       → (x.depth +ℤ pos 1) ≡ r.depth → Rise x.depth opens → (x.target ≡ r.next → ⊥)
-      → judged end (record { opens = opens; first = Some x.offset }) rest
-      ≡ judged end (record { opens = opens ++ x ∷ []; first = first }) (r ∷ rest)
+      → judgement end (record { opens = opens; first = Some x.offset }) rest
+      ≡ judgement end (record { opens = opens ++ x ∷ []; first = first }) (r ∷ rest)
   null_closed_badly x first null deep rise badly =
       let t : (r.next == x.target) ≡ false = ne_eqb r.next x.target (λ e. badly (sym e)) in
       sym (closed_by x first null deep rise ∙ rw t refl)

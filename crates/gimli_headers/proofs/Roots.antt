@@ -6,7 +6,7 @@ use Rattle.std.proofs.lemmas.Bool.{le-leb, lt-ltb, le-ltb, cases_lt}
 use Rattle.gimli_base.specs.declared.error.Error.{Error}
 use Rattle.gimli_base.specs.declared.error.Error.TheVariants.{OffsetOutOfBounds}
 use Rattle.gimli_base.specs.View.{View, cut}
-use Rattle.gimli_base.specs.Table.{Table, found}
+use Rattle.gimli_base.specs.Table.{Table, codes_of}
 use Rattle.gimli_units.specs.Entry.{entry_at}
 use Rattle.gimli_units.specs.RawPlace.{RawPlace}
 use Rattle.gimli_units.specs.Rows.{Ahead}
@@ -62,9 +62,10 @@ root_is u t p is = elim (root_cases u t) [
 
 -- where there is none, there is no row
 pub root_none : (limit : ℕ) (u : UnitView) (t : Table) (e : Error) → Err e ≡ entries_from u t None
-    → unit_rows limit u (found t) ≡ []
+    → unit_rows limit u (codes_of t) ≡ []
 root_none limit u t e is = elim (root_cases u t) [
   | inl none ↦ ap (λ (a : Ahead). a.rows)
-      (ahead_ended (entry_at limit u.encoding (found t)) (whole_length u) (pos 0) u.entries none.0)
+      (ahead_ended (entry_at limit u.encoding (codes_of t)) (whole_length u) (pos 0) u.entries
+      none.0)
   | inr read ↦ absurd (let x : Err e ≡ Ok (entries_of u t) = is ∙ read in cc)
 ]

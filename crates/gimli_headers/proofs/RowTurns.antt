@@ -6,15 +6,15 @@ use Rattle.std.proofs.Common.{arith}
 use Rattle.std.specs.Prelude.{◌≤ℤ◌, is_some, IfOk, OnOk}
 use Rattle.std.proofs.lemmas.Int.{ints}
 use Rattle.gimli_base.specs.declared.error.Error.{Error}
-use Rattle.gimli_base.specs.Table.{found}
+use Rattle.gimli_base.specs.Table.{codes_of}
 use Rattle.gimli_units.specs.Entry.{Entry, is_null}
 use Rattle.gimli_units.proofs.EntryReads.{entry_at-shorter}
 use Rattle.gimli_units.specs.RawPlace.{RawPlace, next_offset_of, below_flag, depth_after}
 use Rattle.gimli_units.specs.Rows.{Row, Ahead}
 use Rattle.gimli_units.proofs.RowSteps.{ahead_ended, ahead_refused, ahead_more}
 use Rattle.gimli_units.specs.CursorMoves.{next_of, rows_of}
-use Rattle.gimli_units.specs.Honest.{usable}
-use Rattle.gimli_headers.specs.OpenRows.{OpenRow, Checked, Rise, judged}
+use Rattle.gimli_units.specs.Honest.{usable_target}
+use Rattle.gimli_headers.specs.OpenRows.{OpenRow, Checked, Rise, judgement}
 use Rattle.gimli_headers.proofs.OpenTurns.{rise_in, rise_up, entry_found, entry_passed}
 use Rattle.gimli_headers.proofs.OpenTurns.{entry_opened}
 
@@ -43,7 +43,7 @@ entry_rise e d xs entry h = rise_up d (depth_after e d) xs (entry_after e d entr
 
 -- an entry whose reference can be followed has children
 pub opened_rise : (end : ℕ) (r : Row) (xs : List OpenRow) (first : Option ℕ) (t : ℕ) (new : Checked)
-    → is_null r.entry ≡ false → usable end r ≡ Some t → Rise r.depth xs
+    → is_null r.entry ≡ false → usable_target end r ≡ Some t → Rise r.depth xs
     → new
     ≡ record {
       opens = xs ++ record { offset = r.offset; depth = r.depth; target = t } ∷ [];
@@ -59,7 +59,7 @@ opened_rise end r xs first t new entry leads h is =
         → (r.depth +ℤ pos 1) ≤ℤ depth_after r.entry r.depth
     deeper true flag = rw (entry, flag) (omega (arith, ints))
     deeper false flag =
-        let none : usable end r ≡ None = rw (entry, flag) refl in
+        let none : usable_target end r ≡ None = rw (entry, flag) refl in
         let e : ◌≡◌ {A = Option ℕ} None (Some t) = sym none ∙ leads in absurd (cc)
 
 pub on_ok : {A B : Type 0} → (r : Result (Unit {0}) Error) → (A → B) → OnOk r A → OnOk r B
@@ -75,39 +75,40 @@ module _ (end : ℕ) (opens : List OpenRow) (r : Row) (rest : List Row)
     (entry : is_null r.entry ≡ false) (rise : Rise r.depth opens) where
   -- an entry after a false reference that was found
   pub found_on : (first : Option ℕ) → is_some first ≡ true
-      → judged end (record { opens = opens; first = first }) rest
-      ≡ judged end (record { opens = opens; first = first }) (r ∷ rest)
+      → judgement end (record { opens = opens; first = first }) rest
+      ≡ judgement end (record { opens = opens; first = first }) (r ∷ rest)
   found_on None h = absurd (cc)
   found_on (Some o) h = entry_found end opens r rest o entry rise
 
   -- an entry whose reference can't be followed
-  pub passed_on : (first : Option ℕ) → is_some first ≡ false → usable end r ≡ None
-      → judged end (record { opens = opens; first = first }) rest
-      ≡ judged end (record { opens = opens; first = first }) (r ∷ rest)
+  pub passed_on : (first : Option ℕ) → is_some first ≡ false → usable_target end r ≡ None
+      → judgement end (record { opens = opens; first = first }) rest
+      ≡ judgement end (record { opens = opens; first = first }) (r ∷ rest)
   passed_on None h none = entry_passed end opens r rest entry rise none
   passed_on (Some o) h none = absurd (cc)
 
   -- an entry whose reference can be followed
   pub opened_on : (first : Option ℕ) (t : ℕ) (new : Checked) → is_some first ≡ false
-      → usable end r ≡ Some t
+      → usable_target end r ≡ Some t
       → new
       ≡ record {
         opens = opens ++ record { offset = r.offset; depth = r.depth; target = t } ∷ [];
         first = first;
       }
-      → judged end new rest ≡ judged end (record { opens = opens; first = first }) (r ∷ rest)
+      → judgement end new rest ≡ judgement end (record { opens = opens; first = first }) (r ∷ rest)
   opened_on None t new h leads is =
-      ap (λ (n : Checked). judged end n rest) is ∙ entry_opened end opens r rest t entry rise leads
+      ap (λ (n : Checked). judgement end n rest) is
+      ∙ entry_opened end opens r rest t entry rise leads
   opened_on (Some o) t new h leads is = absurd (cc)
 
 -- what is answered stays, where a row leaves it
 pub turn_judged : (n end next_end : ℕ) (old new : Checked) (r : Row) (rows rest : List Row)
     (all : Option ℕ) → n ≡ end → next_end ≡ end → rows ≡ r ∷ rest
-    → ((others : List Row) → judged n new others ≡ judged n old (r ∷ others))
-    → judged end old rows ≡ all → judged next_end new rest ≡ all
+    → ((others : List Row) → judgement n new others ≡ judgement n old (r ∷ others))
+    → judgement end old rows ≡ all → judgement next_end new rest ≡ all
 turn_judged n end next_end old new r rows rest all same next_same is turn h =
-    ap (λ (x : ℕ). judged x new rest) (next_same ∙ sym same) ∙ turn rest
-    ∙ ap (λ (x : ℕ). judged x old (r ∷ rest)) same ∙ ap (judged end old) (sym is) ∙ h
+    ap (λ (x : ℕ). judgement x new rest) (next_same ∙ sym same) ∙ turn rest
+    ∙ ap (λ (x : ℕ). judgement x old (r ∷ rest)) same ∙ ap (judgement end old) (sym is) ∙ h
 
 module _ (limit : ℕ) (p : RawPlace) where
   -- no row is left
@@ -137,7 +138,7 @@ module _ (limit : ℕ) (p : RawPlace) where
       rw (← offset, ← depth, ← (ap next_offset_of next), ← behind) refl in
       ap (λ (a : Ahead). a.rows)
       (ahead_more (next_of limit p) p.end
-      (λ v u x. entry_at-shorter limit p.encoding (found p.abbreviations) v u x) p.depth p.rest
+      (λ v u x. entry_at-shorter limit p.encoding (codes_of p.abbreviations) v u x) p.depth p.rest
       r.entry q.rest some reads)
       ∙ ap (λ (x : Row). x ∷ (rows_of limit left).rows) row
       ∙ ap (λ (y : RawPlace). r ∷ (rows_of limit y).rows) (sym next)

@@ -9,7 +9,7 @@ use Rattle.gimli_base.specs.declared.common.Format.TheVariants.{Dwarf32, Dwarf64
 use Rattle.gimli_base.specs.declared.common.SectionId.{SectionId}
 use Rattle.gimli_base.proofs.Both.{both}
 use Rattle.gimli_base.specs.View.{View, cut}
-use Rattle.gimli_base.specs.Reading.{Reads, ◌>>=◌, made, byte_at, uint_at, offset_at}
+use Rattle.gimli_base.specs.Reading.{Reads, ◌>>=◌, map_read, byte_at, uint_at, offset_at}
 use Rattle.gimli_base.specs.Reading.{address_size_at, initial_length_at, initial_length_size_of}
 use Rattle.gimli_base.specs.Reading.{split_at, word_size_of}
 use Rattle.gimli_base.proofs.Later.{split_at-front}
@@ -96,7 +96,7 @@ module _ (limit : ℕ) (format : Format) where
     kind_size kind = n + added_size format kind
 
     id_takes : (f : ℕ → UnitType ℕ) (v : View) → ((id : ℕ) → kind_size (f id) ≡ n + 8)
-        → TakesAfter n kind_size v (made f (uint_at 8 v))
+        → TakesAfter n kind_size v (map_read f (uint_at 8 v))
     id_takes f v e = made_takes n kind_size v f (uint_at 8 v)
         (λ x w is.
         let t = behind_takes n 8 (n + 8) v (uint_at 8 v) refl (uint_at-takes 8 v) x w is in

@@ -12,7 +12,7 @@ use Rattle.std.proofs.lemmas.List.Elements.{All-nil, All-cons}
 use Rattle.gimli_base.specs.declared.common.SectionId.{SectionId}
 use Rattle.gimli_base.specs.declared.error.Error.{Error}
 use Rattle.gimli_base.specs.Offset.{answer_of}
-use Rattle.gimli_base.specs.View.{View, cut, ended}
+use Rattle.gimli_base.specs.View.{View, cut, end_of_view}
 use Rattle.gimli_base.specs.Reading.{Reads, skip_at}
 use Rattle.gimli_base.proofs.Later.{cut-cut}
 use Rattle.gimli_units.specs.Unit.{UnitView, whole_length}
@@ -22,7 +22,7 @@ use Rattle.gimli_base.specs.Chain.{no_item, then_item, each_answer}
 use Rattle.gimli_base.proofs.ChainSteps.{chain_ended, chain_more}
 use Rattle.gimli_headers.specs.Units.{UnitsPlace, Units, after_unit, unit_or_end}
 use Rattle.gimli_headers.specs.Units.{units_ahead, units_of, next_unit, before_units}
-use Rattle.gimli_base.specs.Reading.{transposed}
+use Rattle.gimli_base.specs.Reading.{transpose}
 use Rattle.gimli_headers.specs.Units.{IsNextUnit, unit_alone, header_at, Tile, EndsAt}
 use Rattle.gimli_headers.specs.Units.{Tiles, IsHeaderAt}
 
@@ -96,7 +96,7 @@ module _ (limit : ℕ) (section : SectionId) where
   abbrev next_by : UnitsPlace → Reads UnitView → Next
   next_by p r = elim r [
     | Ok q ↦ (Ok (Some q.0), record { rest = q.1; offset = p.offset + whole_length q.0 })
-    | Err e ↦ (Err e, record { rest = ended p.rest; offset = p.offset })
+    | Err e ↦ (Err e, record { rest = end_of_view p.rest; offset = p.offset })
   ]
 
   ahead_next : (p : UnitsPlace)
@@ -149,7 +149,7 @@ module _ (limit : ℕ) (section : SectionId) where
       read : (r : Reads UnitView) → ◌≡◌ {A = Next} (Err e, q) (next_by p r)
           → length q.rest.bytes ≡ 0
       read (Err f) is =
-          let place : q ≡ record { rest = ended p.rest; offset = p.offset } =
+          let place : q ≡ record { rest = end_of_view p.rest; offset = p.offset } =
           ap (λ (n : Next). n.1) is in
           ap (λ (x : UnitsPlace). length x.rest.bytes) place
       read (Ok x) is = absurd (not_some x.0 (ap (λ (n : Next). n.0) is))
@@ -161,7 +161,7 @@ module _ (limit : ℕ) (section : SectionId) where
   -- an item of the iterator, whose units stand for f of them, is the first of the answers ahead
   pub first_answer : {A : Type 0}
       → (f : A → UnitView) (p : UnitsPlace) (r : Option (Result A Error)) (q : UnitsPlace)
-      → IsNextUnit limit section p (answer_of (option_map f) (transposed r)) q
+      → IsNextUnit limit section p (answer_of (option_map f) (transpose r)) q
       → MatchOption r (answers_ahead p ≡ [])
       (λ x. answers_ahead p ≡ answer_of f x ∷ answers_ahead q)
   first_answer f p None q h = ap each_answer h.ahead

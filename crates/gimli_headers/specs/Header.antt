@@ -6,7 +6,7 @@ use Rattle.gimli_base.specs.declared.common.SectionId.{SectionId}
 use Rattle.gimli_base.specs.declared.common.SectionId.TheVariants.{DebugTypes}
 use Rattle.gimli_base.specs.declared.error.Error.TheVariants.{UnknownVersion, UnknownUnitType}
 use Rattle.gimli_base.specs.View.{View}
-use Rattle.gimli_base.specs.Reading.{Reads, ◌>>=◌, made, byte_at, uint_at, offset_at}
+use Rattle.gimli_base.specs.Reading.{Reads, ◌>>=◌, map_read, byte_at, uint_at, offset_at}
 use Rattle.gimli_base.specs.Reading.{address_size_at, initial_length_at, split_at}
 use Rattle.gimli_units.specs.declared.unit_type.UnitType.{UnitType}
 use Rattle.gimli_units.specs.declared.unit_type.UnitType.TheVariants.{Compilation, TypeUnit}
@@ -83,7 +83,7 @@ common_at limit section format v = uint_at 2 v >>= λ version.
 unfoldable pub signature_at : ℕ → Format → View → Reads (ℕ × ℕ)
 signature_at limit format v =
     uint_at 8 v >>= λ signature.
-    made (λ offset. (signature.0, offset)) (offset_at limit format signature.1)
+    map_read (λ offset. (signature.0, offset)) (offset_at limit format signature.1)
 
 -- the codes of types that vendors define, up to the greatest byte
 abbrev pub is_vendor : ℕ → Bool
@@ -93,12 +93,12 @@ is_vendor code = nat_le 0x80 code
 unfoldable pub type_at : ℕ → Format → ℕ → View → Reads (UnitType ℕ)
 type_at limit format code v =
     if code == 1 then Ok (Compilation, v)
-    else if code == 2 then made (λ p. TypeUnit (record { 0 = p.0 }) (record { 0 = p.1 }))
+    else if code == 2 then map_read (λ p. TypeUnit (record { 0 = p.0 }) (record { 0 = p.1 }))
     (signature_at limit format v)
     else if code == 3 then Ok (Partial, v)
-    else if code == 4 then made (λ id. Skeleton (record { 0 = id })) (uint_at 8 v)
-    else if code == 5 then made (λ id. SplitCompilation (record { 0 = id })) (uint_at 8 v)
-    else if code == 6 then made (λ p. SplitType (record { 0 = p.0 }) (record { 0 = p.1 }))
+    else if code == 4 then map_read (λ id. Skeleton (record { 0 = id })) (uint_at 8 v)
+    else if code == 5 then map_read (λ id. SplitCompilation (record { 0 = id })) (uint_at 8 v)
+    else if code == 6 then map_read (λ p. SplitType (record { 0 = p.0 }) (record { 0 = p.1 }))
     (signature_at limit format v)
     else if is_vendor code then Ok (Vendor (record { 0 = code }), v)
     else Err (UnknownUnitType (record { 0 = code }))
@@ -106,7 +106,7 @@ type_at limit format code v =
 -- the fields after the length; an unknown type is refused after the fields that all have
 unfoldable pub fields_at : ℕ → SectionId → Format → View → Reads (Common × UnitType ℕ)
 fields_at limit section format v = common_at limit section format v >>= λ common.
-    made (λ kind. (common.0, kind)) (type_at limit format common.0.type_code common.1)
+    map_read (λ kind. (common.0, kind)) (type_at limit format common.0.type_code common.1)
 
 -- the unit of these fields, with the bytes of its entries
 abbrev pub unit_of : SectionId → ℕ → ℕ × Format → Common × UnitType ℕ → View → UnitView

@@ -7,7 +7,7 @@ use Rattle.gimli_base.specs.View.{View}
 use Rattle.gimli_units.specs.declared.entry.DebuggingInformationEntry.{DebuggingInformationEntry}
 use Rattle.gimli_units.specs.Entry.{entry_of}
 use Rattle.gimli_units.specs.Rows.{Row}
-use Rattle.gimli_units.specs.Honest.{past}
+use Rattle.gimli_units.specs.Honest.{past_closer}
 use Rattle.gimli_units.specs.FirstFalse.{misses, first_false}
 use Rattle.gimli_headers.specs.declared.siblings.Open.{Open}
 use Rattle.gimli_headers.specs.declared.siblings.Check.{Check}
@@ -29,8 +29,8 @@ abbrev pub open_of : {O : Type 0} → (O → ℕ) → Open O → OpenRow
 open_of g o = record { offset = g o.offset.0; depth = o.depth; target = g o.target.0 }
 
 -- a check that code holds
-abbrev pub checked : {O A : Type 0} → (O → ℕ) → Check O A → Checked
-checked g c =
+abbrev pub check_held : {O A : Type 0} → (O → ℕ) → Check O A → Checked
+check_held g c =
     record { opens = map (open_of g) c.open.items; first = option_map (λ o. g o.0) c.first }
 
 -- the row of an entry that code holds, with the offset of what is after it
@@ -40,21 +40,21 @@ row_of f g e behind =
     record { offset = g e.offset.0; next = behind; depth = e.depth; entry = entry_of f g e }
 
 -- the depth of the outermost of these, or one that is given
-abbrev pub outermost : ℤ → List OpenRow → ℤ
-outermost depth [] = depth
-outermost depth (x ∷ xs) = x.depth
+abbrev pub outermost_depth : ℤ → List OpenRow → ℤ
+outermost_depth depth [] = depth
+outermost_depth depth (x ∷ xs) = x.depth
 
 -- each is less deep than the one inside it, and the innermost than a place of this depth
 abbrev pub Rise : ℤ → List OpenRow → Type 0
 Rise depth [] = Unit {0}
-Rise depth (x ∷ xs) = ((x.depth +ℤ pos 1) ≤ℤ outermost depth xs) × Rise depth xs
+Rise depth (x ∷ xs) = ((x.depth +ℤ pos 1) ≤ℤ outermost_depth depth xs) × Rise depth xs
 
 -- the offset of the outermost of these whose reference is false, where these rows follow; or
 -- else what is given
 abbrev pub first_open : List OpenRow → List Row → Option ℕ → Option ℕ
 first_open [] rest other = other
 first_open (x ∷ xs) rest other =
-    if misses x.target (past x.depth rest) then Some x.offset else first_open xs rest other
+    if misses x.target (past_closer x.depth rest) then Some x.offset else first_open xs rest other
 
 abbrev pub or_else : Option ℕ → Option ℕ → Option ℕ
 or_else (Some o) other = Some o
@@ -62,5 +62,5 @@ or_else None other = other
 
 -- what a check answers where these rows are left: an open entry, or else what was found, or else
 -- one of the rows
-abbrev pub judged : ℕ → Checked → List Row → Option ℕ
-judged end c rest = first_open c.opens rest (or_else c.first (first_false end rest))
+abbrev pub judgement : ℕ → Checked → List Row → Option ℕ
+judgement end c rest = first_open c.opens rest (or_else c.first (first_false end rest))

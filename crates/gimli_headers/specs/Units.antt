@@ -3,7 +3,7 @@ use Rattle.std.specs.Prelude.{◌≡◌, ℕ, ◌+◌, ◌<◌, ◌==◌, if◌t
 use Rattle.std.specs.Prelude.{Some, None, Result, Ok, Err, IfOk, IfSome}
 use Rattle.gimli_base.specs.declared.common.SectionId.{SectionId}
 use Rattle.gimli_base.specs.declared.error.Error.{Error}
-use Rattle.gimli_base.specs.View.{View, cut, ended}
+use Rattle.gimli_base.specs.View.{View, cut, end_of_view}
 use Rattle.gimli_base.specs.Reading.{Reads, ◌>>=◌, skip_at}
 use Rattle.gimli_base.specs.Chain.{Chain, no_item, then_item, chain}
 use Rattle.gimli_units.specs.Unit.{UnitView, whole_length, header_size, size_of_header}
@@ -33,8 +33,8 @@ unit_or_end limit section p =
       | Err e ↦ Err (Some e)
     ]
 
--- the units from a place on, up to the end of the bytes or to the first header that is refused; each
--- takes a byte at least, so that the end handed to `chain` never shows
+-- the units from a place on, up to the end of the bytes or to the first header that is refused;
+-- each takes a byte at least, so that the end handed to `chain` never shows
 unfoldable pub units_ahead : ℕ → SectionId → UnitsPlace → Units
 units_ahead limit section p =
     chain (λ q. length q.rest.bytes) (unit_or_end limit section) None p
@@ -50,7 +50,7 @@ next_unit limit section p =
     if length p.rest.bytes == 0 then (Ok None, p)
     else elim (unit_at limit section p.offset p.rest) [
       | Ok q ↦ (Ok (Some q.0), record { rest = q.1; offset = p.offset + whole_length q.0 })
-      | Err e ↦ (Err e, record { rest = ended p.rest; offset = p.offset })
+      | Err e ↦ (Err e, record { rest = end_of_view p.rest; offset = p.offset })
     ]
 
 -- an answer before units

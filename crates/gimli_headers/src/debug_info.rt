@@ -1,5 +1,6 @@
 //! The section `.debug_info`, and its units.
 
+ghost use Rattle.std.proofs.Common.{ap};
 ghost use Rattle.std.specs.Prelude.{◌≡◌, ◌+◌, ◌<◌, length, MatchResult, IfOk, IfSome, OnSome};
 ghost use Rattle.std.specs.Fn.{FnOnceTakesAt, FnOnceReturnsAt};
 ghost use Rattle.std.specs.List.{All};
@@ -10,7 +11,7 @@ ghost use Rattle.gimli_base.specs.Offset.{answer_of};
 ghost use Rattle.gimli_base.specs.View.{View};
 ghost use Rattle.gimli_units.specs.Unit.{header_size, size_of_header};
 ghost use Rattle.gimli_headers.specs.Units.{UnitsPlace, next_unit, header_at};
-ghost use Rattle.gimli_base.specs.Reading.{transposed};
+ghost use Rattle.gimli_base.specs.Reading.{transpose};
 ghost use Rattle.gimli_headers.specs.Units.{IsNextUnit, units_ahead, units_of, before_units, Tiles};
 ghost use Rattle.gimli_headers.specs.Units.{IsHeaderAt};
 ghost use Rattle.gimli_units.specs.UnitHeld.{unit_view};
@@ -65,6 +66,8 @@ impl<R: Reader> Section<R> for DebugInfo<R> {
 
     ghost content = { λ s. R.view s.section };
 
+    ghost content_of_from = { λ _ _ same. ap R.view same };
+
     fn id() -> SectionId {
         SectionId::DebugInfo
     }
@@ -75,16 +78,6 @@ impl<R: Reader> Section<R> for DebugInfo<R> {
 }
 
 impl<R: Reader> DebugInfo<R> {
-    /// A section of the same bytes.
-    pub fn copy(&self) -> Self
-        ensures { ⟦<DebugInfo<R> as Section<R>>⟧.content result
-            ≡ ⟦<DebugInfo<R> as Section<R>>⟧.content self.now }
-    {
-        DebugInfo {
-            section: self.section.copy(),
-        }
-    }
-
     /// The header of the unit at an offset of the section.
     ///
     /// Refusals: `UnexpectedEof`, also where the offset lies after the section's end, and those of
@@ -177,7 +170,7 @@ impl<R: Reader> Iterator for DebugInfoUnitHeadersIter<R> {
     type Item = Result<UnitHeader<R>>;
 
     ghost next_gives = { λ s r t.
-        IsNextUnit R.Offset.limit InfoSection s (answer_of (option_map unit_view) (transposed r))
+        IsNextUnit R.Offset.limit InfoSection s (answer_of (option_map unit_view) (transpose r))
         t };
 
     ghost remaining = { λ s. at_most (length s.rest.bytes) };

@@ -1,5 +1,6 @@
 //! The section `.debug_types`, and its units.
 
+ghost use Rattle.std.proofs.Common.{ap};
 ghost use Rattle.std.specs.Prelude.{◌≡◌, ◌+◌, ◌<◌, length, MatchResult, IfOk, IfSome, OnSome};
 ghost use Rattle.std.specs.Fn.{FnOnceTakesAt, FnOnceReturnsAt};
 ghost use Rattle.std.specs.List.{All};
@@ -10,7 +11,7 @@ ghost use Rattle.gimli_base.specs.Offset.{answer_of};
 ghost use Rattle.gimli_base.specs.View.{View};
 ghost use Rattle.gimli_units.specs.Unit.{header_size, size_of_header};
 ghost use Rattle.gimli_headers.specs.Units.{UnitsPlace, next_unit, IsNextUnit};
-ghost use Rattle.gimli_base.specs.Reading.{transposed};
+ghost use Rattle.gimli_base.specs.Reading.{transpose};
 ghost use Rattle.gimli_headers.specs.Units.{units_ahead, units_of, before_units, Tiles, IsHeaderAt};
 ghost use Rattle.gimli_units.specs.UnitHeld.{unit_view};
 
@@ -63,6 +64,8 @@ impl<R: Reader> Section<R> for DebugTypes<R> {
 
     ghost content = { λ s. R.view s.section };
 
+    ghost content_of_from = { λ _ _ same. ap R.view same };
+
     fn id() -> SectionId {
         SectionId::DebugTypes
     }
@@ -73,16 +76,6 @@ impl<R: Reader> Section<R> for DebugTypes<R> {
 }
 
 impl<R: Reader> DebugTypes<R> {
-    /// A section of the same bytes.
-    pub fn copy(&self) -> Self
-        ensures { ⟦<DebugTypes<R> as Section<R>>⟧.content result
-            ≡ ⟦<DebugTypes<R> as Section<R>>⟧.content self.now }
-    {
-        DebugTypes {
-            section: self.section.copy(),
-        }
-    }
-
     /// The units of the section, from its beginning on: they lie one after the other, and each is
     /// the one at its offset.
     pub fn units(&self) -> DebugTypesUnitHeadersIter<R>
@@ -155,7 +148,7 @@ impl<R: Reader> Iterator for DebugTypesUnitHeadersIter<R> {
     type Item = Result<UnitHeader<R>>;
 
     ghost next_gives = { λ s r t.
-        IsNextUnit R.Offset.limit TypesSection s (answer_of (option_map unit_view) (transposed r))
+        IsNextUnit R.Offset.limit TypesSection s (answer_of (option_map unit_view) (transpose r))
         t };
 
     ghost remaining = { λ s. at_most (length s.rest.bytes) };

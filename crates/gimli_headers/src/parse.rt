@@ -2,7 +2,7 @@
 
 ghost use Rattle.std.specs.Prelude.{◌≡◌, ◌+◌, ◌<◌, ◌≤◌, length, IfOk};
 ghost use Rattle.gimli_base.specs.Offset.{answer_of};
-ghost use Rattle.gimli_base.specs.Reading.{read};
+ghost use Rattle.gimli_base.specs.Reading.{read_of};
 ghost use Rattle.gimli_headers.specs.Header.{
   old_common_at,
   new_common_at,
@@ -53,7 +53,7 @@ fn parse_old_common<R: Reader>(
     format: Format,
     version: u16,
 ) -> Result<Common<R::Offset>>
-    ensures { read (answer_of (common_of R.Offset.number) result) (R.view input.new)
+    ensures { read_of (answer_of (common_of R.Offset.number) result) (R.view input.new)
         ≡ old_common_at R.Offset.limit section format version (R.view input.old) }
 {
     let debug_abbrev_offset = DebugAbbrevOffset(input.read_offset(format)?);
@@ -73,7 +73,7 @@ fn parse_new_common<R: Reader>(
     format: Format,
     version: u16,
 ) -> Result<Common<R::Offset>>
-    ensures { read (answer_of (common_of R.Offset.number) result) (R.view input.new)
+    ensures { read_of (answer_of (common_of R.Offset.number) result) (R.view input.new)
         ≡ new_common_at R.Offset.limit format version (R.view input.old) }
 {
     let unit_type = DwUt(input.read_u8()?);
@@ -95,7 +95,7 @@ fn parse_common<R: Reader>(
     section: SectionId,
     format: Format,
 ) -> Result<Common<R::Offset>>
-    ensures { read (answer_of (common_of R.Offset.number) result) (R.view input.new)
+    ensures { read_of (answer_of (common_of R.Offset.number) result) (R.view input.new)
         ≡ common_at R.Offset.limit section format (R.view input.old) }
 {
     let version = input.read_u16()?;
@@ -115,7 +115,7 @@ fn parse_signature<R: Reader>(
     input: &mut R,
     format: Format,
 ) -> Result<(DebugTypeSignature, UnitOffset<R::Offset>)>
-    ensures { read (answer_of (λ p. (p.0.0, R.Offset.number p.1.0)) result) (R.view input.new)
+    ensures { read_of (answer_of (λ p. (p.0.0, R.Offset.number p.1.0)) result) (R.view input.new)
         ≡ signature_at R.Offset.limit format (R.view input.old) }
 {
     let type_signature = DebugTypeSignature(input.read_u64()?);
@@ -126,7 +126,7 @@ fn parse_signature<R: Reader>(
 // What the type of a code adds; where it is refused, the input is left anywhere.
 #[tactic(auto, unfolding(crate::specs::Header::type_at))]
 fn parse_type<R: Reader>(input: &mut R, format: Format, code: DwUt) -> Result<UnitType<R::Offset>>
-    ensures { read (answer_of (map_type R.Offset.number) result) (R.view input.new)
+    ensures { read_of (answer_of (map_type R.Offset.number) result) (R.view input.new)
         ≡ type_at R.Offset.limit format code.0 (R.view input.old) }
 {
     match code {
@@ -161,7 +161,7 @@ pub(crate) fn parse_unit_header<R: Reader>(
     section: SectionId,
     unit_offset: UnitSectionOffset<R::Offset>,
 ) -> Result<UnitHeader<R>>
-    ensures value { read (answer_of unit_view result) (R.view input.new)
+    ensures value { read_of (answer_of unit_view result) (R.view input.new)
         ≡ unit_at R.Offset.limit section (R.Offset.number unit_offset.0) (R.view input.old) }
     ensures size { IfOk result (λ u. size_of_header (unit_view u) ≡ header_size (unit_view u)) }
 {

@@ -4,7 +4,7 @@ ghost use Rattle.std.specs.Prelude.{◌≡◌, ℕ, pos, ◌-ℤ◌, ◌++◌, �
 ghost use Rattle.std.specs.Prelude.{IfOk, IfErr, IfSome, OnOk};
 ghost use Rattle.std.specs.Option.{option_map};
 ghost use Rattle.gimli_base.specs.declared.error.Error.TheVariants.{OutOfMemory};
-ghost use Rattle.gimli_base.specs.Table.{found};
+ghost use Rattle.gimli_base.specs.Table.{codes_of};
 ghost use Rattle.gimli_units.specs.Entry.{entry_of, is_null};
 ghost use Rattle.gimli_units.specs.Value.{map_value};
 ghost use Rattle.gimli_units.specs.Kind.{kind_of, unit_reference};
@@ -18,7 +18,8 @@ ghost use Rattle.gimli_units.specs.UnitRows.{unit_rows, start_view, IsHonestAt, 
 ghost use Rattle.gimli_units.specs.UnitRows.{StandsAt};
 ghost use Rattle.gimli_units.specs.FirstFalse.{first_false};
 ghost use Rattle.gimli_units.specs.FirstFalse.{IsLeastFalse};
-ghost use Rattle.gimli_headers.specs.OpenRows.{OpenRow, open_of, checked, row_of, Rise, judged};
+ghost use Rattle.gimli_headers.specs.OpenRows.{OpenRow, open_of, check_held, row_of, Rise};
+ghost use Rattle.gimli_headers.specs.OpenRows.{judgement};
 
 use gimli_base::{Abbreviations, DW_AT_sibling, Error, Reader, ReaderOffset, Result};
 use gimli_units::{AttributeValue, DebuggingInformationEntry, EntriesRaw, UnitHeader, UnitOffset};
@@ -91,7 +92,7 @@ fn usable<R: Reader, A: Allocator>(
 impl<Offset: ReaderOffset, A: Allocator> Check<Offset, A> {
     // A check that has found nothing.
     fn new(alloc: A) -> Self
-        ensures { checked Offset.number result ≡ record { opens = []; first = None } }
+        ensures { check_held Offset.number result ≡ record { opens = []; first = None } }
     {
         Check {
             open: Vec::new(alloc),
@@ -101,12 +102,12 @@ impl<Offset: ReaderOffset, A: Allocator> Check<Offset, A> {
 
     // Goes after a null of this depth, which may close the innermost open entry.
     fn close(&mut self, depth: isize, behind: UnitOffset<Offset>)
-        requires { Rise depth (checked Offset.number self.old).opens }
+        requires { Rise depth (check_held Offset.number self.old).opens }
         ensures judged { (end : ℕ) (r : Row) (rest : List Row) → is_null r.entry ≡ true →
             r.depth ≡ depth → r.next ≡ Offset.number behind.0 →
-            judged end (checked Offset.number self.new) rest
-            ≡ judged end (checked Offset.number self.old) (r ∷ rest) }
-        ensures rise { Rise (depth -ℤ pos 1) (checked Offset.number self.new).opens }
+            judgement end (check_held Offset.number self.new) rest
+            ≡ judgement end (check_held Offset.number self.old) (r ∷ rest) }
+        ensures rise { Rise (depth -ℤ pos 1) (check_held Offset.number self.new).opens }
     {
         let Some(entry) = self.open.last() else {
             return;
@@ -134,8 +135,8 @@ impl<Offset: ReaderOffset, A: Allocator> Check<Offset, A> {
         ensures value { let o = Offset.number offset.0 in
             let t = Offset.number target.0 in
             let x : OpenRow = record { offset = o; depth = depth; target = t } in
-            let old = checked Offset.number self.old in
-            let new = checked Offset.number self.new in
+            let old = check_held Offset.number self.old in
+            let new = check_held Offset.number self.new in
             OnOk result (new ≡ record old { opens = old.opens ++ x ∷ [] }) }
         ensures refusal { IfErr result (λ e. e ≡ OutOfMemory) }
     {
@@ -150,7 +151,7 @@ impl<Offset: ReaderOffset, A: Allocator> Check<Offset, A> {
     // What is found at the end of the rows: no open entry is closed any more.
     fn finish(&self) -> Option<UnitOffset<Offset>>
         ensures { (end : ℕ) → option_map (λ o. Offset.number o.0) result
-            ≡ judged end (checked Offset.number self.now) [] }
+            ≡ judgement end (check_held Offset.number self.now) [] }
     {
         match self.open.first() {
             Some(entry) => Some(entry.offset),
@@ -163,7 +164,7 @@ impl<Offset: ReaderOffset, A: Allocator> Check<Offset, A> {
     fn stop(&self, error: Error) -> Result<Option<UnitOffset<Offset>>>
         ensures value { IfOk result (λ o. (error ≡ OutOfMemory → ⊥) ×
             ((end : ℕ) → option_map (λ x. Offset.number x.0) o
-            ≡ judged end (checked Offset.number self.now) [])) }
+            ≡ judgement end (check_held Offset.number self.now) [])) }
         ensures refusal { IfErr result (λ e. e ≡ OutOfMemory) }
     {
         match error {
@@ -181,14 +182,14 @@ fn go_behind<R: Reader, A: Allocator>(
     behind: UnitOffset<R::Offset>,
     end: UnitOffset<R::Offset>,
 ) -> Result<()>
-    requires { Rise entry.now.depth (checked R.Offset.number check.old).opens }
+    requires { Rise entry.now.depth (check_held R.Offset.number check.old).opens }
     ensures judged { OnOk result ((rest : List Row) →
         let r = row_of R.view R.Offset.number entry.now (R.Offset.number behind.0) in
-        judged (R.Offset.number end.0) (checked R.Offset.number check.new) rest
-        ≡ judged (R.Offset.number end.0) (checked R.Offset.number check.old) (r ∷ rest)) }
+        judgement (R.Offset.number end.0) (check_held R.Offset.number check.new) rest
+        ≡ judgement (R.Offset.number end.0) (check_held R.Offset.number check.old) (r ∷ rest)) }
     ensures rise { let e = entry_of R.view R.Offset.number entry.now in
         let depth = depth_after e entry.now.depth in
-        OnOk result (Rise depth (checked R.Offset.number check.new).opens) }
+        OnOk result (Rise depth (check_held R.Offset.number check.new).opens) }
     ensures refusal { IfErr result (λ e. e ≡ OutOfMemory) }
 {
     if entry.is_null() {
@@ -239,18 +240,18 @@ pub fn first_false_sibling<R: Reader, A: Allocator + Copy>(
     abbreviations: &Abbreviations<A>,
 ) -> Result<Option<UnitOffset<R::Offset>>>
     ensures value { let u = unit_view unit.now in
-        let rows = unit_rows R.Offset.limit u (found abbreviations.now) in
+        let rows = unit_rows R.Offset.limit u (codes_of abbreviations.now) in
         let first = first_false (whole_length u) rows in
         IfOk result (λ o. option_map (λ x. R.Offset.number x.0) o ≡ first) }
     ensures honest { let u = unit_view unit.now in
-        let declared = found abbreviations.now in
+        let declared = codes_of abbreviations.now in
         IfOk result (λ o. (o ≡ None) ↔ IsHonestAt R.Offset.limit u declared u.entries) }
     ensures least { let u = unit_view unit.now in
-        let rows = unit_rows R.Offset.limit u (found abbreviations.now) in
+        let rows = unit_rows R.Offset.limit u (codes_of abbreviations.now) in
         let end = whole_length u in
         IfOk result (λ o. IfSome o (λ x. IsLeastFalse end (R.Offset.number x.0) rows)) }
     ensures starts { let u = unit_view unit.now in
-        let declared = found abbreviations.now in
+        let declared = codes_of abbreviations.now in
         result ≡ Ok None → (offset : ℕ) → StandsAt offset (unit_rows R.Offset.limit u declared) →
         IsHonestFrom R.Offset.limit u declared (start_view u (Some offset)) }
     ensures refusal { IfErr result (λ e. e ≡ OutOfMemory) }

@@ -22,7 +22,7 @@ use Rattle.gimli_lists.specs.RawList.{entry_of_read, entry_or_end, list_at}
 use Rattle.gimli_base.specs.Chain.{no_item, then_item}
 use Rattle.gimli_base.proofs.ChainSteps.{chain_ended, chain_more}
 use Rattle.gimli_base.specs.Address.{min_tombstone, wrapped_sum}
-use Rattle.gimli_lists.specs.Resolved.{LookUp, Resolved, located, located_from, if_found}
+use Rattle.gimli_lists.specs.Resolved.{LookUp, Resolved, resolved_if_kept, located_from, if_found}
 use Rattle.gimli_lists.specs.Resolved.{base_given, first_base, base_before, resolve, resolve_each}
 use Rattle.gimli_lists.specs.Resolved.{some_answer, last_answer, is_nothing, entries_read}
 use Rattle.gimli_lists.specs.Resolved.{entry_answers, resolved_list, IsSoundRange}
@@ -168,7 +168,7 @@ GivesSound size (Err e) = Unit {0}
 
 module _ {P : Type 0} (size : ℕ) where
   located-sound : (begin end : ℕ) (payload : P)
-      → GivesSound size (Ok (located size begin end payload))
+      → GivesSound size (Ok (resolved_if_kept size begin end payload))
   located-sound begin end payload =
       cases (nat_lt begin (min_tombstone size)) (nat_lt begin end) refl refl
     where
@@ -187,7 +187,8 @@ module _ {P : Type 0} (size : ℕ) where
     where
       cases : (t : Bool) → GivesSound size
           (Ok
-          (if t then located size (wrapped_sum size base begin) (wrapped_sum size base end) payload
+          (if t then resolved_if_kept size (wrapped_sum size base begin) (wrapped_sum size base end)
+          payload
           else None))
       cases true = located-sound (wrapped_sum size base begin) (wrapped_sum size base end) payload
       cases false = tt
@@ -207,9 +208,10 @@ module _ {P : Type 0} (size : ℕ) where
       found-sound (look_up index) (λ a. Ok None) (λ a. tt)
   resolve-sound look_up base (startx_endx begin end p) =
       found-sound (look_up begin) _
-      (λ b. found-sound (look_up end) (λ e. Ok (located size b e p)) (λ e. located-sound b e p))
+      (λ b. found-sound (look_up end) (λ e. Ok (resolved_if_kept size b e p))
+      (λ e. located-sound b e p))
   resolve-sound look_up base (startx_length begin length p) =
-      found-sound (look_up begin) (λ b. Ok (located size b (wrapped_sum size b length) p))
+      found-sound (look_up begin) (λ b. Ok (resolved_if_kept size b (wrapped_sum size b length) p))
       (λ b. located-sound b (wrapped_sum size b length) p)
   resolve-sound look_up base (offset_pair begin end p) = located_from-sound base begin end p
   resolve-sound look_up base (default_location p) = located-sound 0 (2 ^ 64 - 1) p

@@ -10,7 +10,7 @@ use Rattle.gimli_base.specs.Offset.{answer_of}
 use Rattle.gimli_lists.specs.RawList.{ListEntry, address_or_offset_pair, base_address}
 use Rattle.gimli_lists.specs.RawList.{base_addressx, startx_endx, startx_length, offset_pair}
 use Rattle.gimli_lists.specs.RawList.{default_location, start_end, start_length}
-use Rattle.gimli_lists.specs.Resolved.{LookUp, Resolved, located, located_from, if_found}
+use Rattle.gimli_lists.specs.Resolved.{LookUp, Resolved, resolved_if_kept, located_from, if_found}
 use Rattle.gimli_lists.specs.Resolved.{base_given, resolve}
 use Rattle.gimli_lists.specs.WithPayload.{with_payload}
 
@@ -38,7 +38,8 @@ base_given-with look_up q (start_length begin length p) = refl
 
 module _ {P Q : Type 0} (size : ℕ) (p : P) (q : Q) where
   located-with : (begin end : ℕ)
-      → located size begin end q ≡ option_map (located_with q) (located size begin end p)
+      → resolved_if_kept size begin end q
+      ≡ option_map (located_with q) (resolved_if_kept size begin end p)
   located-with begin end = cases (nat_lt begin (min_tombstone size) && nat_lt begin end)
     where
       cases : (t : Bool) → ◌≡◌ {A = Option (Resolved Q)}
@@ -54,10 +55,12 @@ module _ {P Q : Type 0} (size : ℕ) (p : P) (q : Q) where
   located_from-with base begin end = cases (nat_lt base (min_tombstone size))
     where
       cases : (t : Bool) → ◌≡◌ {A = Option (Resolved Q)}
-          (if t then located size (wrapped_sum size base begin) (wrapped_sum size base end) q
+          (if t then resolved_if_kept size (wrapped_sum size base begin) (wrapped_sum size base end)
+          q
           else None)
           (option_map (located_with q)
-          (if t then located size (wrapped_sum size base begin) (wrapped_sum size base end) p
+          (if t then resolved_if_kept size (wrapped_sum size base begin) (wrapped_sum size base end)
+          p
           else None))
       cases true = located-with (wrapped_sum size base begin) (wrapped_sum size base end)
       cases false = refl
@@ -80,13 +83,15 @@ resolve-with size look_up base q (base_address address) = refl
 resolve-with size look_up base q (base_addressx index) =
     found-with q (look_up index) (λ a. Ok None) (λ a. Ok None) (λ a. refl)
 resolve-with size look_up base q (startx_endx begin end p) =
-    found-with q (look_up begin) (λ b. if_found (look_up end) (λ e. Ok (located size b e q)))
-    (λ b. if_found (look_up end) (λ e. Ok (located size b e p)))
-    (λ b. found-with q (look_up end) (λ e. Ok (located size b e q)) (λ e. Ok (located size b e p))
+    found-with q (look_up begin)
+    (λ b. if_found (look_up end) (λ e. Ok (resolved_if_kept size b e q)))
+    (λ b. if_found (look_up end) (λ e. Ok (resolved_if_kept size b e p)))
+    (λ b. found-with q (look_up end) (λ e. Ok (resolved_if_kept size b e q))
+    (λ e. Ok (resolved_if_kept size b e p))
     (λ e. ap Ok (located-with size p q b e)))
 resolve-with size look_up base q (startx_length begin length p) =
-    found-with q (look_up begin) (λ b. Ok (located size b (wrapped_sum size b length) q))
-    (λ b. Ok (located size b (wrapped_sum size b length) p))
+    found-with q (look_up begin) (λ b. Ok (resolved_if_kept size b (wrapped_sum size b length) q))
+    (λ b. Ok (resolved_if_kept size b (wrapped_sum size b length) p))
     (λ b. ap Ok (located-with size p q b (wrapped_sum size b length)))
 resolve-with size look_up base q (offset_pair begin end p) =
     ap Ok (located_from-with size p q base begin end)

@@ -7,7 +7,7 @@ use Rattle.std.proofs.lemmas.Bool.Decides.{eqb_tells}
 use Rattle.gimli_base.specs.declared.common.Encoding.{Encoding}
 use Rattle.gimli_base.specs.declared.error.Error.{Error}
 use Rattle.gimli_base.specs.Offset.{answer_of}
-use Rattle.gimli_base.specs.View.{View, ended}
+use Rattle.gimli_base.specs.View.{View, end_of_view}
 use Rattle.gimli_base.specs.Reading.{Reads, skip_at}
 use Rattle.gimli_lists.specs.declared.lists.ListsFormat.{ListsFormat}
 use Rattle.gimli_lists.specs.RawList.{ListEntry, EntryReads, used_up}
@@ -21,12 +21,13 @@ use Rattle.gimli_lists.proofs.ListSteps.{base_before-later, entries_read-more, e
 use Rattle.gimli_lists.proofs.ListSteps.{GivesSound, AllSound, resolve-sound, resolved_list-sound}
 use Rattle.gimli_lists.specs.Places.{ListSections, section_of, Grammar, TakesBytes, RawListPlace}
 use Rattle.gimli_lists.specs.Places.{raw_list_at, list_place_at, answers_from, list_answers}
-use Rattle.gimli_lists.specs.Places.{next_raw, raw_list_ahead, ListPlace, look_up_of, converted}
+use Rattle.gimli_lists.specs.Places.{next_raw, raw_list_ahead, ListPlace, look_up_of}
+use Rattle.gimli_lists.specs.Places.{entry_conversion}
 use Rattle.gimli_lists.specs.Places.{answers_ahead, entries_ahead, entry_answers_ahead, IsSpent}
 use Rattle.gimli_lists.specs.Places.{IsAfterEntries, InList, read_from, IsNext}
 use Rattle.gimli_lists.specs.Resolved.{Resolved, base_before, is_nothing, entries_read}
 use Rattle.gimli_lists.specs.Resolved.{entry_answers, resolve, resolved_list}
-use Rattle.gimli_base.specs.Reading.{transposed}
+use Rattle.gimli_base.specs.Reading.{transpose}
 
 -- the beginning of a list keeps the encoding
 pub raw_list_at-encoding : (format : ListsFormat) (offset : ℕ) (encoding : Encoding)
@@ -197,14 +198,14 @@ module _ {P : Type 0} (grammar : Grammar P) (takes : TakesBytes grammar) (limit 
     pub ahead_entry : (r : RawListPlace) (e : ListEntry P)
         (a : Result (Option (Resolved P)) Error)
         (s : ListPlace) → ◌≡◌ {A = Next P} (Ok (Some e), r) (next_raw grammar p.raw)
-        → ◌≡◌ {A = Converted P} (a, s) (converted limit e (record p { raw = r }))
+        → ◌≡◌ {A = Converted P} (a, s) (entry_conversion limit e (record p { raw = r }))
         → answers_ahead grammar limit p ≡ then_answers a (answers_ahead grammar limit s)
-    unfolding converted answers_ahead
+    unfolding entry_conversion answers_ahead
     ahead_entry r e a s h k =
         let place = next_raw-same p.raw r (Ok (Some e)) h in
         let here : ◌≡◌ {A = Converted P} (a, s)
-        (converted limit e (record p { raw = record p.raw { rest = r.rest } })) =
-        k ∙ ap (λ x. converted limit e (record p { raw = x })) place in
+        (entry_conversion limit e (record p { raw = record p.raw { rest = r.rest } })) =
+        k ∙ ap (λ x. entry_conversion limit e (record p { raw = x })) place in
         ahead_from r (Ok (Some e)) h
         ∙ sym
         (ap (λ (n : Converted P). then_answers n.0 (answers_ahead grammar limit n.1)) here)
@@ -279,29 +280,29 @@ module _ {P : Type 0} (grammar : Grammar P) (takes : TakesBytes grammar) (limit 
 
   pub InList-converted : (q s : ListPlace) (e : ListEntry P)
       (a : Result (Option (Resolved P)) Error)
-      → ◌≡◌ {A = Converted P} (a, s) (converted limit e q) → InList q s
-  unfolding converted
+      → ◌≡◌ {A = Converted P} (a, s) (entry_conversion limit e q) → InList q s
+  unfolding entry_conversion
   InList-converted q s e a h =
-      let place : s ≡ record q { base = (converted limit e q).1.base } =
+      let place : s ≡ record q { base = (entry_conversion limit e q).1.base } =
       ap (λ (n : Converted P). n.1) h in
       let raw : q.raw ≡ s.raw = sym (ap (λ (x : ListPlace). x.raw) place) in
-      let base : (converted limit e q).1.base
+      let base : (entry_conversion limit e q).1.base
       ≡ s.base = sym (ap (λ (x : ListPlace). x.base) place) in
       place ∙ ap (λ b. record q { base = b }) base
       ∙ ap (λ (r : RawListPlace). record q { raw = record q.raw { rest = r.rest }; base = s.base })
       raw
 
   pub converted-raw : (q s : ListPlace) (e : (ListEntry P)) (a : Result (Option (Resolved P)) Error)
-      → ◌≡◌ {A = Converted P} (a, s) (converted limit e q) → s.raw ≡ q.raw
-  unfolding converted
+      → ◌≡◌ {A = Converted P} (a, s) (entry_conversion limit e q) → s.raw ≡ q.raw
+  unfolding entry_conversion
   converted-raw q s e a h = ap (λ (n : Converted P). n.1.raw) h
 
   -- what stands for a range is sound
   pub converted-sound : (q s : ListPlace) (e : ListEntry P)
       (a : Result (Option (Resolved P)) Error)
-      → ◌≡◌ {A = Converted P} (a, s) (converted limit e q)
+      → ◌≡◌ {A = Converted P} (a, s) (entry_conversion limit e q)
       → GivesSound q.raw.encoding.address_size a
-  unfolding converted
+  unfolding entry_conversion
   converted-sound q s e a h =
       let first : a ≡ resolve q.raw.encoding.address_size (look_up_of limit q) q.base e =
       ap (λ (n : Converted P). n.0) h in
@@ -312,9 +313,10 @@ module _ {P : Type 0} (grammar : Grammar P) (takes : TakesBytes grammar) (limit 
   pub ahead_step : (p q s : ListPlace) (e : (ListEntry P)) (a : Result (Option (Resolved P)) Error)
       → q ≡ record p { raw = q.raw }
       → ◌≡◌ {A = Next P} (Ok (Some e), q.raw) (next_raw grammar p.raw)
-      → ◌≡◌ {A = Converted P} (a, s) (converted limit e q)
+      → ◌≡◌ {A = Converted P} (a, s) (entry_conversion limit e q)
       → answers_ahead grammar limit p ≡ then_answers a (answers_ahead grammar limit s)
-  ahead_step p q s e a same h k = ahead_entry p q.raw e a s h (k ∙ ap (converted limit e) same)
+  ahead_step p q s e a same h k = ahead_entry p q.raw e a s h
+      (k ∙ ap (entry_conversion limit e) same)
 
   -- a refusal of an entry, after which nothing is ahead
   pub ahead_stop : (p q : ListPlace) (e : Error)
@@ -326,7 +328,7 @@ module _ {P : Type 0} (grammar : Grammar P) (takes : TakesBytes grammar) (limit 
   -- an item of the iterator is the first of the answers ahead
   pub first_answer : {I : Type 0}
       → (view : I → Resolved P) (p : ListPlace) (r : Option (Result I Error)) (q : ListPlace)
-      → IsNext grammar limit p (answer_of (option_map view) (transposed r)) q
+      → IsNext grammar limit p (answer_of (option_map view) (transpose r)) q
       → MatchOption r (answers_ahead grammar limit p ≡ [])
       (λ x. answers_ahead grammar limit p ≡ answer_of view x ∷ answers_ahead grammar limit q)
   first_answer view p None q h = h.0
@@ -336,7 +338,7 @@ module _ {P : Type 0} (grammar : Grammar P) (takes : TakesBytes grammar) (limit 
   module _ (start p q s : ListPlace) (e : (ListEntry P)) (a : Result (Option (Resolved P)) Error)
       (same : q ≡ record p { raw = q.raw })
       (read : ◌≡◌ {A = Next P} (Ok (Some e), q.raw) (next_raw grammar p.raw))
-      (made : ◌≡◌ {A = Converted P} (a, s) (converted limit e q)) where
+      (made : ◌≡◌ {A = Converted P} (a, s) (entry_conversion limit e q)) where
     pub stepped-inside : InList start p → InList start s
     stepped-inside h = InList-trans start p s h
         (InList-trans p q s (InList-read p q (Ok (Some e)) same read)
@@ -381,11 +383,11 @@ module _ {P : Type 0} (grammar : Grammar P) (takes : TakesBytes grammar) (limit 
             (list_at reads (left_by p.rest r).1)
         read (Err e) is some = (
           list_refused reads takes_one p.rest e some is,
-          list_ended reads takes_one (ended p.rest) refl,
+          list_ended reads takes_one (end_of_view p.rest) refl,
         )
         read (Ok (None, w)) is some = (
           inl (list_end reads takes_one p.rest w some is),
-          list_ended reads takes_one (ended p.rest) refl,
+          list_ended reads takes_one (end_of_view p.rest) refl,
         )
         read (Ok (Some e, w)) is some = list_more reads takes_one p.rest e w some is
 
@@ -492,18 +494,18 @@ module _ {P : Type 0} (grammar : Grammar P) (takes : TakesBytes grammar) (limit 
   module _ (p q s : ListPlace) (e : (ListEntry P)) (a : Result (Option (Resolved P)) Error)
       (same : q ≡ record p { raw = q.raw })
       (read : ◌≡◌ {A = Next P} (Ok (Some e), q.raw) (next_raw grammar p.raw))
-      (made : ◌≡◌ {A = Converted P} (a, s) (converted limit e q)) where
+      (made : ◌≡◌ {A = Converted P} (a, s) (entry_conversion limit e q)) where
     made_here : ◌≡◌ {A = Converted P} (a, s)
-        (converted limit e (record p { raw = record p.raw { rest = q.raw.rest } }))
-    made_here = made ∙ ap (converted limit e)
+        (entry_conversion limit e (record p { raw = record p.raw { rest = q.raw.rest } }))
+    made_here = made ∙ ap (entry_conversion limit e)
         (same ∙ ap (λ r. record p { raw = r }) (next_raw-same p.raw q.raw (Ok (Some e)) read))
 
     is_past : s ≡ past p e q.raw.rest
-    unfolding converted
+    unfolding entry_conversion
     is_past = ap (λ (n : Converted P). n.1) made_here
 
     is_resolved : a ≡ resolve p.raw.encoding.address_size (look_up_of limit p) p.base e
-    unfolding converted
+    unfolding entry_conversion
     is_resolved = ap (λ (n : Converted P). n.0) made_here
 
     -- after an entry that stands for something

@@ -9,7 +9,7 @@ use Rattle.gimli_base.specs.declared.error.Error.TheVariants.{UnknownVersion}
 use Rattle.gimli_base.specs.declared.error.Error.TheVariants.{UnsupportedSegmentSize}
 use Rattle.gimli_base.specs.declared.error.Error.TheVariants.{UnsupportedAddressSize}
 use Rattle.gimli_base.specs.View.{View, cut}
-use Rattle.gimli_base.specs.Reading.{Reads, ◌>>=◌, made, byte_at, uint_at, offset_at}
+use Rattle.gimli_base.specs.Reading.{Reads, ◌>>=◌, map_read, byte_at, uint_at, offset_at}
 use Rattle.gimli_base.specs.Reading.{address_size_at, is_size, initial_length_at}
 use Rattle.gimli_base.specs.Reading.{initial_length_size_of, skip_at, split_at}
 use Rattle.gimli_base.proofs.Taken.{TakenAfter, TakesAfter, Takes, taken, TakenAfter-trans}
@@ -49,7 +49,8 @@ set_fields_at-format limit format v f w h = version (uint_at 2 v) h
 
     padding : (number size info : ℕ) (r : Reads (Unit {0}))
         → HasFormat
-        (made (λ _. (record { format = format; version = number; address_size = size }, info)) r)
+        (map_read (λ _. (record { format = format; version = number; address_size = size }, info))
+        r)
     padding number size info (Ok p) e =
         let same : ◌≡◌ {A = (Encoding × ℕ) × View} (f, w)
         ((record { format = format; version = number; address_size = size }, info), p.1) =
@@ -60,7 +61,7 @@ set_fields_at-format limit format v f w h = version (uint_at 2 v) h
     selected : (number size info : ℕ) (segment : ℕ × View) (t : Bool)
         → HasFormat
         (if t
-        then made
+        then map_read
         (λ _. (record { format = format; version = number; address_size = size }, info))
         (skip_at (padding_size format size) segment.1)
         else Err (UnsupportedSegmentSize segment.0))
@@ -71,7 +72,7 @@ set_fields_at-format limit format v f w h = version (uint_at 2 v) h
     segment : (number size info : ℕ) (r : Reads ℕ)
         → HasFormat
         (r >>= λ segment. if segment.0 == 0
-        then made
+        then map_read
         (λ _. (record { format = format; version = number; address_size = size }, info))
         (skip_at (padding_size format size) segment.1)
         else Err (UnsupportedSegmentSize segment.0))
@@ -81,7 +82,7 @@ set_fields_at-format limit format v f w h = version (uint_at 2 v) h
     size : (number info : ℕ) (r : Reads ℕ)
         → HasFormat
         (r >>= λ size. byte_at size.1 >>= λ segment. if segment.0 == 0
-        then made
+        then map_read
         (λ _. (record { format = format; version = number; address_size = size.0 }, info))
         (skip_at (padding_size format size.0) segment.1)
         else Err (UnsupportedSegmentSize segment.0))
@@ -92,7 +93,7 @@ set_fields_at-format limit format v f w h = version (uint_at 2 v) h
         → HasFormat
         (r >>= λ info. address_size_at info.1 >>= λ size. byte_at size.1
         >>= λ segment. if segment.0 == 0
-        then made
+        then map_read
         (λ _. (record { format = format; version = number; address_size = size.0 }, info.0))
         (skip_at (padding_size format size.0) segment.1)
         else Err (UnsupportedSegmentSize segment.0))
@@ -105,7 +106,7 @@ set_fields_at-format limit format v f w h = version (uint_at 2 v) h
         then
         (offset_at limit format p.1 >>= λ info. address_size_at info.1
         >>= λ size. byte_at size.1 >>= λ segment. if segment.0 == 0
-        then made
+        then map_read
         (λ _. (record { format = format; version = p.0; address_size = size.0 }, info.0))
         (skip_at (padding_size format size.0) segment.1)
         else Err (UnsupportedSegmentSize segment.0)) else Err (UnknownVersion p.0))
@@ -118,7 +119,7 @@ set_fields_at-format limit format v f w h = version (uint_at 2 v) h
         || version.0 == 3 then
         (offset_at limit format version.1 >>= λ info. address_size_at info.1
         >>= λ size. byte_at size.1 >>= λ segment. if segment.0 == 0
-        then made
+        then map_read
         (λ _. (record { format = format; version = version.0; address_size = size.0 }, info.0))
         (skip_at (padding_size format size.0) segment.1)
         else Err (UnsupportedSegmentSize segment.0)) else Err (UnknownVersion version.0))

@@ -6,7 +6,7 @@ use Rattle.std.proofs.Common.{refl, sym, ap, ◌∙◌, arith, inl, inr}
 use Rattle.std.proofs.lemmas.Bool.{ne_eqb}
 use Rattle.std.proofs.lemmas.Bool.Decides.{eqb_tells}
 use Rattle.gimli_base.specs.declared.error.Error.{Error}
-use Rattle.gimli_base.specs.View.{View, ended}
+use Rattle.gimli_base.specs.View.{View, end_of_view}
 use Rattle.gimli_base.specs.Reading.{Reads}
 use Rattle.gimli_lists.specs.ArangeSets.{ArangeSet, SetsPlace, set_length, after_set, set_at}
 use Rattle.gimli_lists.specs.ArangeSets.{set_or_end, sets_ahead, next_set}
@@ -80,7 +80,7 @@ module _ (limit : ℕ) where
   abbrev next_by : SetsPlace → Reads ArangeSet → Next
   next_by p r = elim r [
     | Ok q ↦ (Some (Ok q.0), record { rest = q.1; offset = p.offset + set_length q.0 })
-    | Err e ↦ (Some (Err e), record { rest = ended p.rest; offset = p.offset })
+    | Err e ↦ (Some (Err e), record { rest = end_of_view p.rest; offset = p.offset })
   ]
 
   -- what `next` answers is the first of the answers ahead, and the others are ahead of the place
@@ -100,7 +100,7 @@ module _ (limit : ℕ) where
       read (Err e) is some =
           ahead_refused p e some is
           ∙ ap (λ ss. Err e ∷ ss)
-          (sym (ahead_ended (record { rest = ended p.rest; offset = p.offset }) refl))
+          (sym (ahead_ended (record { rest = end_of_view p.rest; offset = p.offset }) refl))
       read (Ok q) is some =
           let place = ap (λ w. record { rest = w; offset = p.offset + set_length q.0 })
           (set_at-read limit p.offset p.rest q.0 q.1 is).rest in

@@ -9,7 +9,7 @@ use Rattle.std.proofs.Math.Nat.{div-eq-sub-div, div-eq_of_lt}
 use Rattle.std.proofs.lemmas.Bool.{lt-ltb, le-ltb}
 use Rattle.std.proofs.lemmas.Bool.Decides.{leb_tells}
 use Rattle.gimli_base.specs.declared.error.Error.{Error}
-use Rattle.gimli_base.specs.View.{View, cut, ended}
+use Rattle.gimli_base.specs.View.{View, cut, end_of_view}
 use Rattle.gimli_base.specs.Reading.{is_size}
 use Rattle.gimli_base.proofs.Later.{cut-cut}
 use Rattle.gimli_lists.specs.Aranges.{tuple_of, tuples_in, tuples_of, next_tuple}
@@ -63,7 +63,7 @@ module _ (z : ℕ) (some : 0 < z) where
   module _ {B : Type 0} (f : ℕ × ℕ → Option B) where
     -- what is left after n tuples of these and one more, or at the end where there are no more
     abbrev rest_behind : View → List (ℕ × ℕ) → ℕ → View
-    rest_behind v ts n = if nat_lt n (length ts) then cut ((n + 1) * (2 * z)) v else ended v
+    rest_behind v ts n = if nat_lt n (length ts) then cut ((n + 1) * (2 * z)) v else end_of_view v
 
     abbrev First : Type 0
     First = Option B × View
@@ -103,8 +103,8 @@ module _ (z : ℕ) (some : 0 < z) where
           | inr past ↦
               let t1 : nat_lt (suc m) (length (t ∷ ts))
               ≡ false = le-ltb (suc m) (length (t ∷ ts)) (omega (arith, past.1)) in
-              let same : ended (cut (2 * z) v)
-              ≡ ended v = ap (λ k. record { big = v.big; place = k; bytes = [] })
+              let same : end_of_view (cut (2 * z) v)
+              ≡ end_of_view v = ap (λ k. record { big = v.big; place = k; bytes = [] })
               (omega (arith, length-drop (2 * z) v.bytes, le)) in
               rw (t1, past.0) (sym same)
         ] in
@@ -112,7 +112,8 @@ module _ (z : ℕ) (some : 0 < z) where
         ap (first_at v (t ∷ ts)) n
         ∙ ap (λ (w : View). let y : Pair = (option_and_then f (slice_get ts m), w) in y) rest
 
-    first_short : (v : View) → length v.bytes < 2 * z → first_of_tuples f z v ≡ (None, ended v)
+    first_short : (v : View) → length v.bytes < 2 * z → first_of_tuples f z v
+        ≡ (None, end_of_view v)
     unfolding first_of_tuples
     first_short v lt = ap (first_in v) (tuples_of-short v lt)
 
@@ -156,8 +157,8 @@ module _ (z : ℕ) (some : 0 < z) where
 
         short : (v : View) → length v.bytes < 2 * z → Holds v
         short v lt =
-            let none : tuples_of z (ended v)
-            ≡ [] = tuples_of-short (ended v) (omega (arith, some)) in
+            let none : tuples_of z (end_of_view v)
+            ≡ [] = tuples_of-short (end_of_view v) (omega (arith, some)) in
             rw (first_short v lt, tuples_of-short v lt, none) refl
 
         more : (v : View) → 2 * z ≤ length v.bytes → Holds (cut (2 * z) v) → Holds v
@@ -197,7 +198,8 @@ module _ (z : ℕ) (some : 0 < z) where
             → length w.bytes < length v.bytes
 
         short : (v : View) → length v.bytes < 2 * z → Holds v
-        short v lt h = let e : ◌≡◌ {A = First} (Some b, w) (None, ended v) = h ∙ first_short v lt in
+        short v lt h = let e : ◌≡◌ {A = First} (Some b, w) (None, end_of_view v) = h
+            ∙ first_short v lt in
             absurd (cc (ap (λ (p : First). p.0) e))
 
         more : (v : View) → 2 * z ≤ length v.bytes → Holds (cut (2 * z) v) → Holds v
@@ -214,7 +216,7 @@ module _ (z : ℕ) (some : 0 < z) where
     -- the next tuple, by whether there are bytes enough
     by_next : (P : Next → Type 0) (v : View)
         → (2 * z ≤ length v.bytes → P (Ok (Some (tuple_of z v)), cut (2 * z) v))
-        → (length v.bytes < 2 * z → P (Ok None, ended v)) → P (next_tuple z v)
+        → (length v.bytes < 2 * z → P (Ok None, end_of_view v)) → P (next_tuple z v)
     by_next P v h k = elim (leb_tells (2 * z) (length v.bytes))
         [ inl enough ↦ rw enough.0 (h enough.1) | inr few ↦ rw few.0 (k few.1) ]
 

@@ -7,10 +7,10 @@ use Rattle.gimli_base.specs.declared.common.Format.{Format}
 use Rattle.gimli_base.specs.declared.error.Error.{Error}
 use Rattle.gimli_base.specs.declared.error.Error.TheVariants.{UnknownVersion}
 use Rattle.gimli_base.specs.declared.error.Error.TheVariants.{UnsupportedSegmentSize}
-use Rattle.gimli_base.specs.Address.{alone}
+use Rattle.gimli_base.specs.Address.{without_rest}
 use Rattle.gimli_base.specs.Chain.{chain, each_answer}
-use Rattle.gimli_base.specs.View.{View, cut, ended}
-use Rattle.gimli_base.specs.Reading.{Reads, ◌>>=◌, made, byte_at, uint_at, offset_at}
+use Rattle.gimli_base.specs.View.{View, cut, end_of_view}
+use Rattle.gimli_base.specs.Reading.{Reads, ◌>>=◌, map_read, byte_at, uint_at, offset_at}
 use Rattle.gimli_base.specs.Reading.{address_size_at, initial_length_at, initial_length_size_of}
 use Rattle.gimli_base.specs.Reading.{word_size_of, skip_at, split_at}
 
@@ -40,7 +40,7 @@ set_fields_at limit format v = uint_at 2 v >>= λ version.
     then
     (offset_at limit format version.1 >>= λ info. address_size_at info.1
     >>= λ size. byte_at size.1 >>= λ segment.
-    if segment.0 == 0 then made
+    if segment.0 == 0 then map_read
     (λ _. (record { format = format; version = version.0; address_size = size.0 }, info.0))
     (skip_at (padding_size format size.0) segment.1)
     else Err (UnsupportedSegmentSize segment.0))
@@ -70,7 +70,7 @@ set_at limit offset v =
 
 -- the set at an offset of a section
 unfoldable pub set_from : ℕ → ℕ → View → Result ArangeSet Error
-set_from limit offset v = alone (skip_at offset v >>= λ p. set_at limit offset p.1)
+set_from limit offset v = without_rest (skip_at offset v >>= λ p. set_at limit offset p.1)
 
 -- where the reading of sets stands: what is left of the section, and the offset at which it begins
 pub record SetsPlace : Type 0 where
@@ -113,7 +113,7 @@ next_set limit p =
     if length p.rest.bytes == 0 then (None, p)
     else elim (set_at limit p.offset p.rest) [
       | Ok q ↦ (Some (Ok q.0), record { rest = q.1; offset = p.offset + set_length q.0 })
-      | Err e ↦ (Some (Err e), record { rest = ended p.rest; offset = p.offset })
+      | Err e ↦ (Some (Err e), record { rest = end_of_view p.rest; offset = p.offset })
     ]
 
 -- What an iterator answers at a place, and the place that it leaves: the next answer. The answers

@@ -8,7 +8,7 @@ use Rattle.gimli_base.specs.declared.common.Encoding.{Encoding}
 use Rattle.gimli_base.specs.declared.error.Error.{Error}
 use Rattle.gimli_base.specs.Address.{min_tombstone, sum_sized}
 use Rattle.gimli_base.specs.Offset.{answer_of}
-use Rattle.gimli_base.specs.View.{View, cut, ended}
+use Rattle.gimli_base.specs.View.{View, cut, end_of_view}
 use Rattle.gimli_base.specs.Reading.{number}
 use Rattle.gimli_lists.specs.declared.aranges.entries.ArangeEntry.{ArangeEntry}
 
@@ -29,7 +29,7 @@ tuples_of size v = tuples_in (length v.bytes / (2 * size)) size v
 -- then none is left
 abbrev pub next_tuple : ℕ → View → Result (Option (ℕ × ℕ)) Error × View
 next_tuple size v = if nat_le (2 * size) (length v.bytes)
-    then (Ok (Some (tuple_of size v)), cut (2 * size) v) else (Ok None, ended v)
+    then (Ok (Some (tuple_of size v)), cut (2 * size) v) else (Ok None, end_of_view v)
 
 -- a tuple as it stands, without its end; two zeros stand for nothing
 abbrev pub raw_entry : ℕ × ℕ → Option ArangeEntry
@@ -68,7 +68,7 @@ first_of_tuples f size v =
     let ts = tuples_of size v in
     let n = count_before_first f ts in (
       option_and_then f (slice_get ts n),
-      if nat_lt n (length ts) then cut ((n + 1) * (2 * size)) v else ended v,
+      if nat_lt n (length ts) then cut ((n + 1) * (2 * size)) v else end_of_view v,
     )
 
 -- where the reading of a set's tuples stands: what is left, and how it is read

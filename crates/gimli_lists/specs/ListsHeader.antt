@@ -5,7 +5,7 @@ use Rattle.gimli_base.specs.declared.common.Format.{Format}
 use Rattle.gimli_base.specs.declared.error.Error.TheVariants.{UnknownVersion}
 use Rattle.gimli_base.specs.declared.error.Error.TheVariants.{UnsupportedSegmentSize}
 use Rattle.gimli_base.specs.View.{View}
-use Rattle.gimli_base.specs.Reading.{Reads, ◌>>=◌, made, byte_at, uint_at, address_size_at}
+use Rattle.gimli_base.specs.Reading.{Reads, ◌>>=◌, map_read, byte_at, uint_at, address_size_at}
 use Rattle.gimli_base.specs.Reading.{initial_length_at, truncate_at}
 use Rattle.gimli_lists.specs.declared.lists.ListsHeader.{ListsHeader}
 
@@ -22,7 +22,7 @@ header_of format version address_size count =
 unfoldable pub lists_fields_at : Format → View → Reads ListsHeader
 lists_fields_at format v = uint_at 2 v >>= λ version.
     if version.0 == 5 then (address_size_at version.1 >>= λ size. byte_at size.1 >>= λ selector.
-    if selector.0 == 0 then made (λ count. header_of format version.0 size.0 count)
+    if selector.0 == 0 then map_read (λ count. header_of format version.0 size.0 count)
     (uint_at 4 selector.1) else Err (UnsupportedSegmentSize selector.0))
     else Err (UnknownVersion version.0)
 

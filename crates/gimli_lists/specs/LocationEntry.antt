@@ -4,18 +4,18 @@
 use Rattle.std.specs.Prelude.{ℕ, ◌==◌, nat_le, if◌then◌else◌, Some, None, Ok, Err}
 use Rattle.gimli_base.specs.declared.error.Error.TheVariants.{UnknownLocListsEntry}
 use Rattle.gimli_base.specs.View.{View}
-use Rattle.gimli_base.specs.Reading.{Reads, ◌>>=◌, made, byte_at, uint_at, uleb_at, address_at}
+use Rattle.gimli_base.specs.Reading.{Reads, ◌>>=◌, map_read, byte_at, uint_at, uleb_at, address_at}
 use Rattle.gimli_base.specs.Reading.{split_at}
-use Rattle.gimli_lists.specs.declared.loclists.raw.RawLocListEntry.{RawLocListEntry}
-use Rattle.gimli_lists.specs.declared.loclists.raw.RawLocListEntry.TheVariants.{AddressOrOffsetPair}
-use Rattle.gimli_lists.specs.declared.loclists.raw.RawLocListEntry.TheVariants.{BaseAddress}
-use Rattle.gimli_lists.specs.declared.loclists.raw.RawLocListEntry.TheVariants.{BaseAddressx}
-use Rattle.gimli_lists.specs.declared.loclists.raw.RawLocListEntry.TheVariants.{StartxEndx}
-use Rattle.gimli_lists.specs.declared.loclists.raw.RawLocListEntry.TheVariants.{StartxLength}
-use Rattle.gimli_lists.specs.declared.loclists.raw.RawLocListEntry.TheVariants.{OffsetPair}
-use Rattle.gimli_lists.specs.declared.loclists.raw.RawLocListEntry.TheVariants.{DefaultLocation}
-use Rattle.gimli_lists.specs.declared.loclists.raw.RawLocListEntry.TheVariants.{StartEnd}
-use Rattle.gimli_lists.specs.declared.loclists.raw.RawLocListEntry.TheVariants.{StartLength}
+use Rattle.gimli_lists.specs.declared.loclists.entry.RawLocListEntry.{RawLocListEntry}
+use Rattle.gimli_lists.specs.declared.loclists.entry.RawLocListEntry.TheVariants.{AddressOrOffsetPair}
+use Rattle.gimli_lists.specs.declared.loclists.entry.RawLocListEntry.TheVariants.{BaseAddress}
+use Rattle.gimli_lists.specs.declared.loclists.entry.RawLocListEntry.TheVariants.{BaseAddressx}
+use Rattle.gimli_lists.specs.declared.loclists.entry.RawLocListEntry.TheVariants.{StartxEndx}
+use Rattle.gimli_lists.specs.declared.loclists.entry.RawLocListEntry.TheVariants.{StartxLength}
+use Rattle.gimli_lists.specs.declared.loclists.entry.RawLocListEntry.TheVariants.{OffsetPair}
+use Rattle.gimli_lists.specs.declared.loclists.entry.RawLocListEntry.TheVariants.{DefaultLocation}
+use Rattle.gimli_lists.specs.declared.loclists.entry.RawLocListEntry.TheVariants.{StartEnd}
+use Rattle.gimli_lists.specs.declared.loclists.entry.RawLocListEntry.TheVariants.{StartLength}
 use Rattle.gimli_lists.specs.declared.lists.ListsFormat.TheVariants.{Bare, Coded}
 use Rattle.gimli_lists.specs.Places.{Grammar}
 use Rattle.gimli_lists.specs.RawList.{ListEntry, address_or_offset_pair, base_address}
@@ -65,15 +65,15 @@ indexed_length_at version v = if nat_le 5 version then uleb_at v else uint_at 4 
 unfoldable pub new_location_at : ℕ → ℕ → ℕ → EntryReads View
 new_location_at limit version size v = byte_at v >>= λ code.
     if code.0 == 0 then Ok (None, code.1)
-    else if code.0 == 1 then made (λ i. Some (base_addressx i)) (index_at limit code.1)
+    else if code.0 == 1 then map_read (λ i. Some (base_addressx i)) (index_at limit code.1)
     else if code.0 == 2 then two_at (expression_at limit version) (index_at limit) (index_at limit)
     startx_endx code.1
     else if code.0 == 3 then two_at (expression_at limit version) (index_at limit)
     (indexed_length_at version) startx_length code.1
     else if code.0 == 4 then two_at (expression_at limit version) uleb_at uleb_at offset_pair code.1
-    else if code.0 == 5 then made (λ e. Some (default_location e))
+    else if code.0 == 5 then map_read (λ e. Some (default_location e))
     (expression_at limit version code.1)
-    else if code.0 == 6 then made (λ a. Some (base_address a)) (address_at size code.1)
+    else if code.0 == 6 then map_read (λ a. Some (base_address a)) (address_at size code.1)
     else if code.0 == 7 then two_at (expression_at limit version) (address_at size)
     (address_at size) start_end code.1
     else if code.0 == 8 then two_at (expression_at limit version) (address_at size) uleb_at

@@ -7,15 +7,15 @@ use Rattle.gimli_base.specs.declared.common.Encoding.{Encoding}
 use Rattle.gimli_base.specs.declared.common.Format.{Format}
 use Rattle.gimli_base.specs.declared.common.SectionId.{SectionId}
 use Rattle.gimli_base.specs.declared.error.Error.{Error}
-use Rattle.gimli_base.specs.Address.{alone, table_address}
+use Rattle.gimli_base.specs.Address.{without_rest, table_address}
 use Rattle.gimli_base.specs.View.{View}
-use Rattle.gimli_base.specs.Reading.{◌>>=◌, made, as_offset, lookup_at, offset_at, skip_at}
+use Rattle.gimli_base.specs.Reading.{◌>>=◌, map_read, as_offset, lookup_at, offset_at, skip_at}
 use Rattle.gimli_base.specs.Reading.{word_size_of}
 use Rattle.gimli_lists.specs.declared.lists.ListsFormat.{ListsFormat}
 use Rattle.gimli_lists.specs.declared.lists.ListsFormat.TheVariants.{Bare, Coded}
 use Rattle.gimli_lists.specs.RawList.{ListEntry, EntryReads, RawList, list_at, next_entry}
 use Rattle.gimli_lists.specs.Resolved.{LookUp, Resolved, base_given, base_before, resolve}
-use Rattle.gimli_lists.specs.Resolved.{entries_read, entry_answers, resolved_list, answered}
+use Rattle.gimli_lists.specs.Resolved.{entries_read, entry_answers, resolved_list, answer_then}
 
 -- the bytes of the two sections of lists: that of versions up to 4, and that of later ones
 pub record ListSections : Type 0 where
@@ -41,12 +41,12 @@ lookup_in old new place s =
 -- number of bytes before it in the table, and the sum, have to be offsets of the reader.
 unfoldable pub list_offset : ℕ → Format → ℕ → ℕ → View → Result ℕ Error
 list_offset limit format base index v =
-    alone
+    without_rest
     (skip_at base v >>= λ table. as_offset limit (Ok (index * word_size_of format, table.1))
     >>= λ before.
     skip_at before.0 before.1
     >>= λ entry. as_offset limit
-    (made (λ offset. base + offset) (offset_at limit format entry.1)))
+    (map_read (λ offset. base + offset) (offset_at limit format entry.1)))
 
 -- where the reading of a list stands: what is left of the section, the encoding of the unit, and
 -- how the list is written
@@ -99,9 +99,9 @@ look_up_of limit p = λ index.
 
 -- what an entry stands for, and the place after it: its base is the one that the entry gives, or
 -- the one before
-unfoldable pub converted : {P : Type 0} → ℕ → ListEntry P → ListPlace
+unfoldable pub entry_conversion : {P : Type 0} → ℕ → ListEntry P → ListPlace
     → Result (Option (Resolved P)) Error × ListPlace
-converted limit e p = (
+entry_conversion limit e p = (
   resolve p.raw.encoding.address_size (look_up_of limit p) p.base e,
   record p { base = unwrap_or (base_given (look_up_of limit p) e) p.base },
 )
@@ -151,7 +151,7 @@ InList p q = q ≡ record p { raw = record p.raw { rest = q.raw.rest }; base = q
 abbrev pub IsNext : {P : Type 0} → Grammar P → ℕ → ListPlace → Result (Option (Resolved P)) Error
     → ListPlace → Type 0
 IsNext grammar limit p a q =
-    (answers_ahead grammar limit p ≡ answered a (answers_ahead grammar limit q))
+    (answers_ahead grammar limit p ≡ answer_then a (answers_ahead grammar limit q))
     × IsAfterEntries grammar limit (read_from grammar limit p) p q
     × InList p q × IsSpent grammar limit p q
 

@@ -3,16 +3,16 @@
 use Rattle.std.specs.Prelude.{ℕ, ◌==◌, if◌then◌else◌, Some, None, Ok, Err}
 use Rattle.gimli_base.specs.declared.error.Error.TheVariants.{UnknownRangeListsEntry}
 use Rattle.gimli_base.specs.View.{View}
-use Rattle.gimli_base.specs.Reading.{Reads, ◌>>=◌, made, byte_at, uleb_at, address_at}
-use Rattle.gimli_lists.specs.declared.rnglists.raw.RawRngListEntry.{RawRngListEntry}
-use Rattle.gimli_lists.specs.declared.rnglists.raw.RawRngListEntry.TheVariants.{AddressOrOffsetPair}
-use Rattle.gimli_lists.specs.declared.rnglists.raw.RawRngListEntry.TheVariants.{BaseAddress}
-use Rattle.gimli_lists.specs.declared.rnglists.raw.RawRngListEntry.TheVariants.{BaseAddressx}
-use Rattle.gimli_lists.specs.declared.rnglists.raw.RawRngListEntry.TheVariants.{StartxEndx}
-use Rattle.gimli_lists.specs.declared.rnglists.raw.RawRngListEntry.TheVariants.{StartxLength}
-use Rattle.gimli_lists.specs.declared.rnglists.raw.RawRngListEntry.TheVariants.{OffsetPair}
-use Rattle.gimli_lists.specs.declared.rnglists.raw.RawRngListEntry.TheVariants.{StartEnd}
-use Rattle.gimli_lists.specs.declared.rnglists.raw.RawRngListEntry.TheVariants.{StartLength}
+use Rattle.gimli_base.specs.Reading.{Reads, ◌>>=◌, map_read, byte_at, uleb_at, address_at}
+use Rattle.gimli_lists.specs.declared.rnglists.entry.RawRngListEntry.{RawRngListEntry}
+use Rattle.gimli_lists.specs.declared.rnglists.entry.RawRngListEntry.TheVariants.{AddressOrOffsetPair}
+use Rattle.gimli_lists.specs.declared.rnglists.entry.RawRngListEntry.TheVariants.{BaseAddress}
+use Rattle.gimli_lists.specs.declared.rnglists.entry.RawRngListEntry.TheVariants.{BaseAddressx}
+use Rattle.gimli_lists.specs.declared.rnglists.entry.RawRngListEntry.TheVariants.{StartxEndx}
+use Rattle.gimli_lists.specs.declared.rnglists.entry.RawRngListEntry.TheVariants.{StartxLength}
+use Rattle.gimli_lists.specs.declared.rnglists.entry.RawRngListEntry.TheVariants.{OffsetPair}
+use Rattle.gimli_lists.specs.declared.rnglists.entry.RawRngListEntry.TheVariants.{StartEnd}
+use Rattle.gimli_lists.specs.declared.rnglists.entry.RawRngListEntry.TheVariants.{StartLength}
 use Rattle.gimli_lists.specs.declared.lists.ListsFormat.TheVariants.{Bare, Coded}
 use Rattle.gimli_lists.specs.Places.{Grammar}
 use Rattle.gimli_lists.specs.RawList.{ListEntry, address_or_offset_pair, base_address}
@@ -43,11 +43,11 @@ nothing_at v = Ok (tt, v)
 unfoldable pub new_entry_at : ℕ → ℕ → EntryReads (Unit {0})
 new_entry_at limit size v = byte_at v >>= λ code.
     if code.0 == 0 then Ok (None, code.1)
-    else if code.0 == 1 then made (λ i. Some (base_addressx i)) (index_at limit code.1)
+    else if code.0 == 1 then map_read (λ i. Some (base_addressx i)) (index_at limit code.1)
     else if code.0 == 2 then two_at nothing_at (index_at limit) (index_at limit) startx_endx code.1
     else if code.0 == 3 then two_at nothing_at (index_at limit) uleb_at startx_length code.1
     else if code.0 == 4 then two_at nothing_at uleb_at uleb_at offset_pair code.1
-    else if code.0 == 5 then made (λ a. Some (base_address a)) (address_at size code.1)
+    else if code.0 == 5 then map_read (λ a. Some (base_address a)) (address_at size code.1)
     else if code.0 == 6 then two_at nothing_at (address_at size) (address_at size) start_end code.1
     else if code.0 == 7 then two_at nothing_at (address_at size) uleb_at start_length code.1
     else Err (UnknownRangeListsEntry (record { 0 = code.0 }))

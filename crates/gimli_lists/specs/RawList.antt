@@ -3,10 +3,10 @@
 use Rattle.std.specs.Prelude.{◌≡◌, ◌⊎◌, ℕ, ◌==◌, ◌&&◌, if◌then◌else◌}
 use Rattle.std.specs.Prelude.{length, Option, Some, None, Result, Ok, Err}
 use Rattle.gimli_base.specs.declared.error.Error.{Error}
-use Rattle.gimli_base.specs.View.{View, ended}
+use Rattle.gimli_base.specs.View.{View, end_of_view}
 use Rattle.gimli_base.specs.Address.{ones_sized}
 use Rattle.gimli_base.specs.Chain.{Chain, no_item, then_item, chain}
-use Rattle.gimli_base.specs.Reading.{Reads, ◌>>=◌, made, as_offset, uleb_at, address_at}
+use Rattle.gimli_base.specs.Reading.{Reads, ◌>>=◌, map_read, as_offset, uleb_at, address_at}
 
 -- an entry of a list, with what stands after its operands: nothing in a range list, and an
 -- expression in a location list, but for a base address
@@ -28,7 +28,7 @@ EntryReads P = View → Reads (Option (ListEntry P))
 -- two addresses, one after the other
 unfoldable pub pair_at : ℕ → View → Reads (ℕ × ℕ)
 pair_at size v = address_at size v
-    >>= λ begin. made (λ end. (begin.0, end)) (address_at size begin.1)
+    >>= λ begin. map_read (λ end. (begin.0, end)) (address_at size begin.1)
 
 -- an entry of the old encoding: two addresses, which are the end where both are 0, and a base
 -- address where the first is all ones; after another pair stands what `payload` reads
@@ -36,7 +36,7 @@ unfoldable pub old_entry_at : {P : Type 0} → (View → Reads P) → ℕ → En
 old_entry_at payload size v = pair_at size v >>= λ pair.
     if pair.0.0 == 0 && pair.0.1 == 0 then Ok (None, pair.1)
     else if pair.0.0 == ones_sized size then Ok (Some (base_address pair.0.1), pair.1)
-    else made (λ p. Some (address_or_offset_pair pair.0.0 pair.0.1 p)) (payload pair.1)
+    else map_read (λ p. Some (address_or_offset_pair pair.0.0 pair.0.1 p)) (payload pair.1)
 
 -- the index of an address, among those of a unit
 abbrev pub index_at : ℕ → View → Reads ℕ
@@ -46,7 +46,7 @@ index_at limit v = as_offset limit (uleb_at v)
 abbrev pub two_at : {P : Type 0} → (View → Reads P) → (View → Reads ℕ) → (View → Reads ℕ)
     → (ℕ → ℕ → P → ListEntry P) → EntryReads P
 two_at payload first second entry v =
-    first v >>= λ a. second a.1 >>= λ b. made (λ p. Some (entry a.0 b.0 p)) (payload b.1)
+    first v >>= λ a. second a.1 >>= λ b. map_read (λ p. Some (entry a.0 b.0 p)) (payload b.1)
 
 -- how entries end: with the entry that says so, where the bytes are used up, or with a refusal
 pub data Ending : Type 0 where
@@ -79,8 +79,8 @@ list_at next v = chain (λ w. length w.bytes) (entry_or_end next) used_up v
 -- after a refusal nothing
 abbrev pub left_by : {P : Type 0} → View → Reads (Option (ListEntry P))
     → Result (Option (ListEntry P)) Error × View
-left_by v (Ok p) = elim p.0 [ Some e ↦ (Ok (Some e), p.1) | None ↦ (Ok None, ended v) ]
-left_by v (Err e) = (Err e, ended v)
+left_by v (Ok p) = elim p.0 [ Some e ↦ (Ok (Some e), p.1) | None ↦ (Ok None, end_of_view v) ]
+left_by v (Err e) = (Err e, end_of_view v)
 
 -- the next entry of a list, and what is left of it: none where no byte is left
 unfoldable pub next_entry : {P : Type 0} → EntryReads P → View

@@ -41,8 +41,8 @@ base_before look_up base entries i = unwrap_or (first_base look_up (reverse (tak
 
 -- addresses that are kept: they begin below the least address that stands for none, and below their
 -- end
-abbrev pub located : {P : Type 0} → ℕ → ℕ → ℕ → P → Option (Resolved P)
-located size begin end payload =
+abbrev pub resolved_if_kept : {P : Type 0} → ℕ → ℕ → ℕ → P → Option (Resolved P)
+resolved_if_kept size begin end payload =
     if nat_lt begin (min_tombstone size)
     && nat_lt begin end then Some (record { begin = begin; end = end; payload = payload })
     else None
@@ -51,7 +51,7 @@ located size begin end payload =
 abbrev pub located_from : {P : Type 0} → ℕ → ℕ → ℕ → ℕ → P → Option (Resolved P)
 located_from size base begin end payload =
     if nat_lt base (min_tombstone size)
-    then located size (wrapped_sum size base begin) (wrapped_sum size base end) payload
+    then resolved_if_kept size (wrapped_sum size base begin) (wrapped_sum size base end) payload
     else None
 
 -- what is made of an address that is found
@@ -69,14 +69,14 @@ resolve size look_up base (address_or_offset_pair begin end p) =
 resolve size look_up base (base_address address) = Ok None
 resolve size look_up base (base_addressx index) = if_found (look_up index) (λ address. Ok None)
 resolve size look_up base (startx_endx begin end p) =
-    if_found (look_up begin) (λ b. if_found (look_up end) (λ e. Ok (located size b e p)))
+    if_found (look_up begin) (λ b. if_found (look_up end) (λ e. Ok (resolved_if_kept size b e p)))
 resolve size look_up base (startx_length begin length p) =
-    if_found (look_up begin) (λ b. Ok (located size b (wrapped_sum size b length) p))
+    if_found (look_up begin) (λ b. Ok (resolved_if_kept size b (wrapped_sum size b length) p))
 resolve size look_up base (offset_pair begin end p) = Ok (located_from size base begin end p)
-resolve size look_up base (default_location p) = Ok (located size 0 (2 ^ 64 - 1) p)
-resolve size look_up base (start_end begin end p) = Ok (located size begin end p)
+resolve size look_up base (default_location p) = Ok (resolved_if_kept size 0 (2 ^ 64 - 1) p)
+resolve size look_up base (start_end begin end p) = Ok (resolved_if_kept size begin end p)
 resolve size look_up base (start_length begin length p) =
-    Ok (located size begin (wrapped_sum size begin length) p)
+    Ok (resolved_if_kept size begin (wrapped_sum size begin length) p)
 
 -- what each entry stands for: entry i with the base before it
 abbrev pub resolve_each : {P : Type 0} → ℕ → LookUp → ℕ → List (ListEntry P)
@@ -122,11 +122,11 @@ entries_read size look_up base entries =
     min (length entries) (prefix_len is_nothing (resolve_each size look_up base entries) + 1)
 
 -- the answer of a call before others: none where there is no other
-abbrev pub answered : {A : Type 0} → Result (Option A) Error → List (Result A Error)
+abbrev pub answer_then : {A : Type 0} → Result (Option A) Error → List (Result A Error)
     → List (Result A Error)
-answered (Ok None) others = []
-answered (Ok (Some x)) others = Ok x ∷ others
-answered (Err e) others = Err e ∷ others
+answer_then (Ok None) others = []
+answer_then (Ok (Some x)) others = Ok x ∷ others
+answer_then (Err e) others = Err e ∷ others
 
 -- addresses that begin below their end, and below the least address that stands for none
 abbrev pub IsSoundRange : {P : Type 0} → ℕ → Resolved P → Type 0

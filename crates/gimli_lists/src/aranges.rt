@@ -1,5 +1,6 @@
 //! Sets of ranges of addresses (DWARF 5, 6.1.2).
 
+ghost use Rattle.std.proofs.Common.{ap};
 ghost use Rattle.std.specs.Prelude.{◌≡◌, ◌+◌, ◌*◌, ◌%◌, ◌<◌, ◌++◌, length, IsTrue, MatchResult};
 ghost use Rattle.std.specs.Prelude.{IfOk, OnSome, Ok, None, []};
 ghost use Rattle.std.specs.Fn.{FnOnceTakesAt, FnOnceReturnsAt};
@@ -7,7 +8,7 @@ ghost use Rattle.std.specs.Iterator.{at_most};
 ghost use Rattle.std.specs.Option.{option_map, option_to_list, option_transpose};
 ghost use Rattle.gimli_base.specs.declared.common.SectionId.TheVariants.{DebugAranges as ArangesSection};
 ghost use Rattle.gimli_base.specs.Offset.{answer_of};
-ghost use Rattle.gimli_base.specs.Reading.{read, is_size};
+ghost use Rattle.gimli_base.specs.Reading.{read_of, is_size};
 ghost use Rattle.gimli_lists.specs.ArangeSets.{ArangeSet, SetsPlace, fields_size, padding_size};
 ghost use Rattle.gimli_lists.specs.ArangeSets.{set_fields_at, set_at, set_from, next_set};
 ghost use Rattle.gimli_lists.specs.ArangeSets.{sets_ahead, sets_of, IsNextSet};
@@ -68,6 +69,8 @@ impl<R: Reader> Section<R> for DebugAranges<R> {
 
     ghost content = { λ s. R.view s.section };
 
+    ghost content_of_from = { λ _ _ same. ap R.view same };
+
     fn id() -> SectionId {
         SectionId::DebugAranges
     }
@@ -78,16 +81,6 @@ impl<R: Reader> Section<R> for DebugAranges<R> {
 }
 
 impl<R: Reader> DebugAranges<R> {
-    /// A section of the same bytes.
-    pub fn copy(&self) -> Self
-        ensures { ⟦<DebugAranges<R> as Section<R>>⟧.content result
-            ≡ ⟦<DebugAranges<R> as Section<R>>⟧.content self.now }
-    {
-        DebugAranges {
-            section: self.section.copy(),
-        }
-    }
-
     /// The sets of the section, from its beginning on: each begins where the one before ends.
     pub fn headers(&self) -> ArangeHeaderIter<R>
         ensures begin { result
@@ -289,7 +282,8 @@ fn parse_fields<R: Reader>(
     input: &mut R,
     format: Format,
 ) -> Result<(Encoding, DebugInfoOffset<R::Offset>)>
-    ensures value { read (answer_of (λ p. (p.0, R.Offset.number p.1.0)) result) (R.view input.new)
+    ensures value { let answer = answer_of (λ p. (p.0, R.Offset.number p.1.0)) result in
+        read_of answer (R.view input.new)
         ≡ set_fields_at R.Offset.limit format (R.view input.old) }
     ensures sized { IfOk result (λ p. IsTrue (is_size p.0.address_size)) }
 {
@@ -319,7 +313,7 @@ fn parse_header<R: Reader>(
     input: &mut R,
     offset: DebugArangesOffset<R::Offset>,
 ) -> Result<ArangeHeader<R>>
-    ensures { read (answer_of ⟦<ArangeHeader<R> as HasArangeSet>⟧.set result) (R.view input.new)
+    ensures { read_of (answer_of ⟦<ArangeHeader<R> as HasArangeSet>⟧.set result) (R.view input.new)
         ≡ set_at R.Offset.limit (R.Offset.number offset.0) (R.view input.old) }
 {
     let (length, format) = input.read_initial_length()?;

@@ -4,9 +4,9 @@
 mod aranges;
 mod lists;
 mod loclists;
-mod raw;
+mod next_item;
 mod rnglists;
-mod walk;
+mod take_entry;
 
 pub use aranges::{
     ArangeEntry, ArangeEntryIter, ArangeHeader, ArangeHeaderIter, DebugAranges, HasArangeSet,

@@ -5,7 +5,7 @@ ghost use Rattle.std.specs.Prelude.{◌≡◌, OnErr};
 ghost use Rattle.gimli_base.specs.declared.common.Format.TheVariants.{Dwarf32};
 ghost use Rattle.gimli_base.specs.ListsBase.{lists_header_size};
 ghost use Rattle.gimli_base.specs.Offset.{answer_of};
-ghost use Rattle.gimli_base.specs.Reading.{read};
+ghost use Rattle.gimli_base.specs.Reading.{read_of};
 ghost use Rattle.gimli_lists.specs.ListsHeader.{header_of, lists_fields_at, lists_header_at};
 ghost use Rattle.gimli_lists.specs.Places.{ListSections, list_offset};
 
@@ -51,7 +51,7 @@ impl ListsHeader {
     /// `UnsupportedSegmentSize` of segment selectors that take bytes.
     #[tactic(auto, unfolding(crate::specs::ListsHeader::lists_header_at))]
     pub fn parse<R: Reader>(input: &mut R) -> Result<ListsHeader>
-        ensures value { read result (R.view input.new)
+        ensures value { read_of result (R.view input.new)
             ≡ lists_header_at R.Offset.limit (R.view input.old) }
         ensures kept { OnErr result (R.view input.new ≡ R.view input.old) }
     {
@@ -67,7 +67,7 @@ impl ListsHeader {
 // The fields after the length; where they are refused, the input is left anywhere.
 #[tactic(auto, unfolding(crate::specs::ListsHeader::lists_fields_at))]
 fn parse_fields<R: Reader>(input: &mut R, format: Format) -> Result<ListsHeader>
-    ensures { read result (R.view input.new) ≡ lists_fields_at format (R.view input.old) }
+    ensures { read_of result (R.view input.new) ≡ lists_fields_at format (R.view input.old) }
 {
     let version = input.read_u16()?;
     if version != 5 {

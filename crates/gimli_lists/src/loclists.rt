@@ -12,19 +12,19 @@ ghost use Rattle.gimli_lists.specs.Places.{lookup_in, list_offset, raw_list_at, 
 
 mod debug_loc;
 mod debug_loclists;
+mod entry;
 mod iter;
-mod raw;
 
 use crate::lists::{HasLists, ListsFormat, offset_of_list};
 use crate::rnglists::Range;
 pub use debug_loc::DebugLoc;
 pub use debug_loclists::DebugLocLists;
+pub use entry::{RawLocListEntry, RawLocListIter};
 use gimli_base::{
     DebugAddr, DebugAddrBase, DebugLocListsBase, DebugLocListsIndex, Encoding, Expression,
     LocationListsOffset, Reader, ReaderOffsetId, Result, Section, SectionId,
 };
 pub use iter::LocListIter;
-pub use raw::{RawLocListEntry, RawLocListIter};
 
 /// The two sections of location lists, of which a unit's version says which one holds its lists.
 #[derive(Clone, Copy, Debug, Default, Drop)]
@@ -129,7 +129,8 @@ impl<R: Reader> LocationLists<R> {
     /// The same of sections of a split file, whose lists have codes in every version: up to version
     /// 4 they lie in `.debug_loc` with the codes of version 5, but the length of an expression has
     /// 2 bytes, and that of a range from an indexed address 4. That is a GNU extension, which no
-    /// version of DWARF defines.
+    /// version of DWARF defines. Refusal: `UnexpectedEof`, where the offset lies after the
+    /// section's end, with the section's first place.
     pub fn raw_locations_dwo(
         &self,
         offset: LocationListsOffset<R::Offset>,
@@ -170,7 +171,8 @@ impl<R: Reader> LocationLists<R> {
     }
 
     /// The same of sections of a split file, whose lists have codes in every version, as
-    /// `raw_locations_dwo` says.
+    /// `raw_locations_dwo` says. Refusal: `UnexpectedEof`, where the offset lies after the
+    /// section's end, with the section's first place.
     #[tactic(auto, unfolding(crate::specs::Places::list_place_at))]
     pub fn locations_dwo(
         &self,

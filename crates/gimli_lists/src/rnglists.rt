@@ -12,22 +12,22 @@ ghost use Rattle.gimli_base.specs.Reading.{is_size};
 ghost use Rattle.gimli_lists.specs.Places.{lookup_in, format_of, list_offset, raw_list_at};
 ghost use Rattle.gimli_lists.specs.Places.{list_place_at};
 ghost use Rattle.gimli_lists.specs.Ranges.{resolved_of};
-ghost use Rattle.gimli_lists.specs.Resolved.{located, located_from};
+ghost use Rattle.gimli_lists.specs.Resolved.{resolved_if_kept, located_from};
 
 mod debug_ranges;
 mod debug_rnglists;
+pub(crate) mod entry;
 pub(crate) mod iter;
-pub(crate) mod raw;
 
 use crate::lists::{HasLists, ListsFormat, offset_of_list};
 pub use debug_ranges::DebugRanges;
 pub use debug_rnglists::DebugRngLists;
+pub use entry::{RawRngListEntry, RawRngListIter};
 use gimli_base::{
     DebugAddr, DebugAddrBase, DebugRngListsBase, DebugRngListsIndex, Encoding, RangeListsOffset,
     Reader, ReaderAddress, ReaderOffsetId, Result, Section, SectionId,
 };
 pub use iter::RngListIter;
-pub use raw::{RawRngListEntry, RawRngListIter};
 
 /// The two sections of range lists, of which a unit's version says which one holds its lists.
 #[derive(Clone, Copy, Debug, Default, Drop)]
@@ -227,7 +227,8 @@ impl Range {
     #[inline]
     fn kept(self, address_size: u8) -> Option<Range>
         requires { IsTrue (is_size address_size) }
-        ensures { option_map resolved_of result ≡ located address_size self.begin self.end tt }
+        ensures { option_map resolved_of result
+            ≡ resolved_if_kept address_size self.begin self.end tt }
     {
         if self.begin >= u64::min_tombstone(address_size) || self.begin >= self.end {
             None

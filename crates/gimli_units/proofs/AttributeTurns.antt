@@ -5,16 +5,16 @@ use Rattle.std.proofs.lemmas.List.{drop_more, drop_all, append-nil}
 use Rattle.gimli_base.specs.declared.common.Encoding.{Encoding}
 use Rattle.gimli_base.specs.declared.error.Error.{Error}
 use Rattle.gimli_base.specs.View.{View}
-use Rattle.gimli_base.specs.Reading.{Reads, made}
+use Rattle.gimli_base.specs.Reading.{Reads, map_read}
 use Rattle.gimli_base.specs.Abbreviations.{Specification}
 use Rattle.gimli_units.specs.Entry.{Attr, attribute_at, attributes_at}
 
 -- a list that was read after another
 abbrev pub after : {A : Type 0} → List A → Reads (List A) → Reads (List A)
-after xs r = made (λ ys. xs ++ ys) r
+after xs r = map_read (λ ys. xs ++ ys) r
 
 with_first : {A : Type 0} → (a : A) (xs : List A) (r : Reads (List A))
-    → after xs (made (λ ys. a ∷ ys) r) ≡ after (xs ++ a ∷ []) r
+    → after xs (map_read (λ ys. a ∷ ys) r) ≡ after (xs ++ a ∷ []) r
 with_first a xs (Ok p) = ap (λ ys. Ok (ys, p.1)) (sym (append_assoc xs (a ∷ []) p.0))
 with_first a xs (Err e) = refl
 

@@ -8,7 +8,7 @@ use Rattle.gimli_base.specs.declared.error.Error.TheVariants.{OffsetOutOfBounds}
 use Rattle.gimli_base.specs.declared.error.Error.TheVariants.{NoEntryAtGivenOffset}
 use Rattle.gimli_base.proofs.Both.{both}
 use Rattle.gimli_base.specs.View.{View, cut}
-use Rattle.gimli_base.specs.Table.{Table, found}
+use Rattle.gimli_base.specs.Table.{Table, codes_of}
 use Rattle.gimli_units.specs.Entry.{Entry, is_null, abbreviation_at, takes_memory, entry_at}
 use Rattle.gimli_units.specs.RawPlace.{RawPlace, next_offset_of}
 use Rattle.gimli_units.specs.Unit.{UnitView, whole_length, header_size, in_bounds, range_from}
@@ -48,14 +48,14 @@ begins_at u t o p fits h = cases (in_bounds u o) (bounds u o) h
 -- what a reader of the entries from an offset on reads first is the entry there
 pub reads_at : (limit : ℕ) (u : UnitView) (t : Table) (o : ℕ) (p : RawPlace)
     → Ok p ≡ entries_from u t (Some o)
-    → unit_entry_at limit u (found t) o
-    ≡ some_entry o (entry_at limit p.encoding (found p.abbreviations) p.rest)
+    → unit_entry_at limit u (codes_of t) o
+    ≡ some_entry o (entry_at limit p.encoding (codes_of p.abbreviations) p.rest)
 unfolding unit_entry_at entries_from
 reads_at limit u t o p h = cases (range_from u o) h
   where
     cases : (r : Result View Error) → Ok p ≡ entries_in u t r
-        → entry_in limit u.encoding (found t) o r
-        ≡ some_entry o (entry_at limit p.encoding (found p.abbreviations) p.rest)
+        → entry_in limit u.encoding (codes_of t) o r
+        ≡ some_entry o (entry_at limit p.encoding (codes_of p.abbreviations) p.rest)
     cases (Ok v) e =
         let same : p
         ≡ record {
@@ -67,19 +67,19 @@ reads_at limit u t o p h = cases (range_from u o) h
         } = cc in
         ap
         (λ (q : RawPlace). some_entry o
-        (entry_at limit q.encoding (found q.abbreviations) q.rest)) (sym same)
+        (entry_at limit q.encoding (codes_of q.abbreviations) q.rest)) (sym same)
     cases (Err x) e = absurd (cc)
 
 -- and it takes memory where that does
 pub memory_at : (u : UnitView) (t : Table) (o : ℕ) (p : RawPlace) → Ok p ≡ entries_from u t (Some o)
-    → takes_memory_in (found t) (range_from u o)
-    ≡ takes_memory (abbreviation_at (found p.abbreviations) p.rest)
+    → takes_memory_in (codes_of t) (range_from u o)
+    ≡ takes_memory (abbreviation_at (codes_of p.abbreviations) p.rest)
 unfolding entries_from
 memory_at u t o p h = cases (range_from u o) h
   where
     cases : (r : Result View Error) → Ok p ≡ entries_in u t r
-        → takes_memory_in (found t) r
-        ≡ takes_memory (abbreviation_at (found p.abbreviations) p.rest)
+        → takes_memory_in (codes_of t) r
+        ≡ takes_memory (abbreviation_at (codes_of p.abbreviations) p.rest)
     cases (Ok v) e =
         let same : p
         ≡ record {
@@ -89,7 +89,7 @@ memory_at u t o p h = cases (range_from u o) h
           end = whole_length u;
           depth = pos 0;
         } = cc in
-        ap (λ (q : RawPlace). takes_memory (abbreviation_at (found q.abbreviations) q.rest))
+        ap (λ (q : RawPlace). takes_memory (abbreviation_at (codes_of q.abbreviations) q.rest))
         (sym same)
     cases (Err x) e = absurd (cc)
 
@@ -116,8 +116,8 @@ depth_at u t o p h = cases (range_from u o) h
 pub some_read : (limit : ℕ) (u : UnitView) (t : Table) (o : ℕ) (p : RawPlace)
     → Ok p ≡ entries_from u t (Some o)
     → (e : Entry) (w : View) (some : Bool) → some ≡ not (is_null e) → some ≡ true
-    → Ok (e, w) ≡ entry_at limit p.encoding (found p.abbreviations) p.rest
-    → Ok e ≡ unit_entry_at limit u (found t) o
+    → Ok (e, w) ≡ entry_at limit p.encoding (codes_of p.abbreviations) p.rest
+    → Ok e ≡ unit_entry_at limit u (codes_of t) o
 some_read limit u t o p h e w some k t-some read =
     let null : is_null e ≡ false = not-true (is_null e) (sym k ∙ t-some) in
     sym (reads_at limit u t o p h ∙ ap (some_entry o) (sym read) ∙ rw null refl)
@@ -126,8 +126,8 @@ some_read limit u t o p h e w some k t-some read =
 pub null_read : (limit : ℕ) (u : UnitView) (t : Table) (o : ℕ) (p : RawPlace)
     → Ok p ≡ entries_from u t (Some o)
     → (e : Entry) (w : View) (some : Bool) → some ≡ not (is_null e) → some ≡ false
-    → Ok (e, w) ≡ entry_at limit p.encoding (found p.abbreviations) p.rest
-    → Err (NoEntryAtGivenOffset o) ≡ unit_entry_at limit u (found t) o
+    → Ok (e, w) ≡ entry_at limit p.encoding (codes_of p.abbreviations) p.rest
+    → Err (NoEntryAtGivenOffset o) ≡ unit_entry_at limit u (codes_of t) o
 null_read limit u t o p h e w some k t-none read =
     let null : is_null e ≡ true = not-false (is_null e) (sym k ∙ t-none) in
     sym (reads_at limit u t o p h ∙ ap (some_entry o) (sym read) ∙ rw null refl)
@@ -135,6 +135,6 @@ null_read limit u t o p h e w some k t-none read =
 -- and so is what could not be read
 pub none_read : (limit : ℕ) (u : UnitView) (t : Table) (o : ℕ) (p : RawPlace)
     → Ok p ≡ entries_from u t (Some o)
-    → (x : Error) → Err x ≡ entry_at limit p.encoding (found p.abbreviations) p.rest
-    → Err x ≡ unit_entry_at limit u (found t) o
+    → (x : Error) → Err x ≡ entry_at limit p.encoding (codes_of p.abbreviations) p.rest
+    → Err x ≡ unit_entry_at limit u (codes_of t) o
 none_read limit u t o p h x read = sym (reads_at limit u t o p h ∙ ap (some_entry o) (sym read))

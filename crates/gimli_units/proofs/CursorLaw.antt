@@ -9,7 +9,7 @@ use Rattle.gimli_base.proofs.Both.{both}
 use Rattle.gimli_base.specs.Offset.{answer_of}
 use Rattle.gimli_base.specs.View.{View, cut}
 use Rattle.gimli_base.specs.Reading.{Reads}
-use Rattle.gimli_base.specs.Table.{Table, found}
+use Rattle.gimli_base.specs.Table.{Table, codes_of}
 use Rattle.gimli_base.specs.View.{IsLater}
 use Rattle.gimli_base.proofs.Later.{IsLater-none, IsLater-trans, cut-cut}
 use Rattle.gimli_units.specs.Entry.{Entry, is_null, entry_at}
@@ -120,11 +120,11 @@ module _ (limit : ℕ) (u : UnitView) (t : Table) (fits : length u.entries.bytes
   unit_has : (o : ℕ) → next_offset_of c.raw ≤ o → o < whole_length u → (r : Result Entry Error)
       → what_at limit c.raw o ≡ r
       → (q : Reads Entry) × (answer_of (λ (x : Entry × View). x.0) q ≡ r)
-      × (unit_entry_at limit u (found t) o ≡ some_entry o q)
+      × (unit_entry_at limit u (codes_of t) o ≡ some_entry o q)
   unfolding unit_entry_at range_from
   unit_has o low high r is =
       let q : Reads Entry =
-      entry_at limit u.encoding (found t) (cut (o - header_size u) u.entries) in
+      entry_at limit u.encoding (codes_of t) (cut (o - header_size u) u.entries) in
       (q, (rw (unit_view o low, s.encoding, s.abbreviations) at is), rw (in_unit o low high) refl)
 
   what_is : (new : CursorView) → IsTrueEntry limit c new
@@ -133,7 +133,7 @@ module _ (limit : ℕ) (u : UnitView) (t : Table) (fits : length u.entries.bytes
 
   -- an entry that was answered is the unit's
   pub entry_law : (new : CursorView) → new.raw.end ≡ c.raw.end → IsTrueEntry limit c new
-      → is_null new.entry ≡ false → unit_entry_at limit u (found t) new.offset ≡ Ok new.entry
+      → is_null new.entry ≡ false → unit_entry_at limit u (codes_of t) new.offset ≡ Ok new.entry
   entry_law new same is entry =
       let h = unit_has new.offset is.after (omega (arith, is.before, same, s.end)) (Ok new.entry)
       (what_is new is) in
@@ -147,7 +147,7 @@ module _ (limit : ℕ) (u : UnitView) (t : Table) (fits : length u.entries.bytes
   -- and so is a null
   pub null_law : (new : CursorView) → new.raw.end ≡ c.raw.end → IsTrueEntry limit c new
       → is_null new.entry ≡ true
-      → unit_entry_at limit u (found t) new.offset ≡ Err (NoEntryAtGivenOffset new.offset)
+      → unit_entry_at limit u (codes_of t) new.offset ≡ Err (NoEntryAtGivenOffset new.offset)
   null_law new same is null =
       let h = unit_has new.offset is.after (omega (arith, is.before, same, s.end)) (Ok new.entry)
       (what_is new is) in
@@ -160,7 +160,7 @@ module _ (limit : ℕ) (u : UnitView) (t : Table) (fits : length u.entries.bytes
 
   -- and so is a refusal of bytes
   pub refusal_law : (new : CursorView) (x : Error) → (x ≡ OutOfMemory → ⊥) → IsRefused limit c x new
-      → IsUnreadAt limit u (found t) new.offset x
+      → IsUnreadAt limit u (codes_of t) new.offset x
   refusal_law new x fine is = (
     in_unit new.offset is.after (omega (arith, is.before, s.end)),
     rw (unit_view new.offset is.after, s.encoding, s.abbreviations) at (is.is fine),

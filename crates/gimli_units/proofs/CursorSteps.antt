@@ -5,9 +5,9 @@ use Rattle.std.specs.Prelude.{unsigned_abs, if◌then◌else◌}
 use Rattle.std.proofs.lemmas.Int.{ints}
 use Rattle.gimli_base.specs.declared.error.Error.{Error}
 use Rattle.gimli_base.specs.declared.error.Error.TheVariants.{OutOfMemory}
-use Rattle.gimli_base.specs.View.{View, cut, ended}
+use Rattle.gimli_base.specs.View.{View, cut, end_of_view}
 use Rattle.gimli_base.specs.Reading.{UnlessMemory}
-use Rattle.gimli_base.specs.Table.{found}
+use Rattle.gimli_base.specs.Table.{codes_of}
 use Rattle.gimli_units.specs.Entry.{Entry, is_null, null_entry, abbreviation_at, takes_memory}
 use Rattle.gimli_units.proofs.EntryReads.{entry_at-shorter}
 use Rattle.gimli_units.specs.RawPlace.{RawPlace, next_offset_of, below_flag, depth_after}
@@ -29,7 +29,7 @@ module _ (limit : ℕ) where
       ≡ then_row (last_row (after_entry c e w)) (rows_of limit (after_entry c e w).raw)
   rows_entry c e w some reads =
       ahead_more (next_of limit c.raw) c.raw.end
-      (λ v u x. entry_at-shorter limit c.raw.encoding (found c.raw.abbreviations) v u x)
+      (λ v u x. entry_at-shorter limit c.raw.encoding (codes_of c.raw.abbreviations) v u x)
       c.raw.depth c.raw.rest e w some reads
 
   -- where nothing is left there is no row
@@ -100,9 +100,9 @@ module _ (limit : ℕ) where
   pub did_refuse : (old : CursorView) (raw mid : RawPlace) (x : Error) (e : Entry) (offset : ℕ)
       (depth : ℤ) → (length old.raw.rest.bytes ≡ 0 → ⊥)
       → ((x ≡ OutOfMemory → ⊥) → Err x ≡ next_of limit old.raw old.raw.rest)
-      → (takes_memory (abbreviation_at (found old.raw.abbreviations) old.raw.rest) ≡ false
+      → (takes_memory (abbreviation_at (codes_of old.raw.abbreviations) old.raw.rest) ≡ false
       → Err x ≡ next_of limit old.raw old.raw.rest)
-      → raw ≡ stands_at mid (ended mid.rest) mid.depth → mid ≡ old.raw → e ≡ null_entry
+      → raw ≡ stands_at mid (end_of_view mid.rest) mid.depth → mid ≡ old.raw → e ≡ null_entry
       → offset ≡ next_offset_of old.raw → depth ≡ old.raw.depth
       → HasRead limit old (Err x)
       (record {
@@ -115,7 +115,7 @@ module _ (limit : ℕ) where
       })
   did_refuse old raw mid x e offset depth some reads bare over kept null at same =
       a_refusal x some refl (rw (over, kept, null, at, same) refl) reads
-      (λ is. memory (takes_memory (abbreviation_at (found old.raw.abbreviations) old.raw.rest))
+      (λ is. memory (takes_memory (abbreviation_at (codes_of old.raw.abbreviations) old.raw.rest))
       refl is)
     where
       here : view_from old.raw (next_offset_of old.raw) ≡ old.raw.rest
@@ -123,13 +123,13 @@ module _ (limit : ℕ) where
           ap (λ n. cut n old.raw.rest) none ∙ rw add-zero refl
 
       memory : (b : Bool) → takes_memory
-          (abbreviation_at (found old.raw.abbreviations) old.raw.rest) ≡ b → x ≡ OutOfMemory
+          (abbreviation_at (codes_of old.raw.abbreviations) old.raw.rest) ≡ b → x ≡ OutOfMemory
           → takes_memory_at old.raw (next_offset_of old.raw) ≡ true
       memory true takes is =
-          ap (λ v. takes_memory (abbreviation_at (found old.raw.abbreviations) v)) here ∙ takes
+          ap (λ v. takes_memory (abbreviation_at (codes_of old.raw.abbreviations) v)) here ∙ takes
       memory false none is =
           absurd
-          (entry_at-never limit old.raw.encoding (found old.raw.abbreviations) old.raw.rest none
+          (entry_at-never limit old.raw.encoding (codes_of old.raw.abbreviations) old.raw.rest none
           (sym (bare none) ∙ ap Err is))
 
 -- a depth changes by one at most
@@ -148,7 +148,8 @@ depth_near e depth = cases (is_null e) e.has_children
 pub sound_read : (limit : ℕ) (old : CursorView) (outcome : Result Bool Error) (new : CursorView)
     → IsSound old → HasRead limit old outcome new → IsSound new
 sound_read limit old outcome new s (an_entry e w some reads is same) =
-    let shorter = entry_at-shorter limit old.raw.encoding (found old.raw.abbreviations) old.raw.rest
+    let shorter = entry_at-shorter limit old.raw.encoding (codes_of old.raw.abbreviations)
+    old.raw.rest
     w e reads in
     let near = depth_near e old.raw.depth in
     rw same (record {

@@ -4,7 +4,7 @@ use Rattle.std.proofs.Common.{refl, sym, ap, ◌∙◌}
 use Rattle.std.specs.Prelude.{if◌then◌else◌}
 use Rattle.gimli_base.specs.declared.common.Encoding.{Encoding}
 use Rattle.gimli_base.specs.View.{View}
-use Rattle.gimli_base.specs.Reading.{Reads, ◌>>=◌, made}
+use Rattle.gimli_base.specs.Reading.{Reads, ◌>>=◌, map_read}
 use Rattle.gimli_base.specs.Abbreviations.{Declaration, Map}
 use Rattle.gimli_units.specs.Entry.{Entry, Attr, is_null, null_entry, entry_of_declared}
 use Rattle.gimli_units.specs.Entry.{attributes_at, abbreviation_at, content_at, entry_at}
@@ -37,7 +37,8 @@ content_flagless limit x None v e w is null =
 content_flagless limit x (Some d) v e w is null = cases (attributes_at limit x d.attributes v) is
   where
     cases : (r : Reads (List Attr))
-        → ◌≡◌ {A = Reads Entry} (Ok (e, w)) (made (entry_of_declared d) r) → e.has_children ≡ false
+        → ◌≡◌ {A = Reads Entry} (Ok (e, w)) (map_read (entry_of_declared d) r) → e.has_children
+        ≡ false
     cases (Ok p) is =
         let same : ◌≡◌ {A = Entry × View} (e, w) (entry_of_declared d p.0, p.1) = cc in
         let one : e ≡ entry_of_declared d p.0 = ap (λ (p : Entry × View). p.0) same in

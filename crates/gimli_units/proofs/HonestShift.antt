@@ -9,7 +9,7 @@ use Rattle.gimli_base.specs.View.{View}
 use Rattle.gimli_base.specs.Reading.{Reads}
 use Rattle.gimli_units.specs.Entry.{Entry, is_null}
 use Rattle.gimli_units.specs.Rows.{Sited, Row, depth_behind, rows_behind, entries_at, ahead_at}
-use Rattle.gimli_units.specs.Honest.{closes, past, AreHonest}
+use Rattle.gimli_units.specs.Honest.{closes, past_closer, AreHonest}
 
 -- a row that is counted from elsewhere
 abbrev pub deeper_by : ℤ → Row → Row
@@ -48,7 +48,8 @@ same_depth a b k = bool_by _ _
 closes_by : (d k : ℤ) (r : Row) → closes (d +ℤ k) (deeper_by k r) ≡ closes d r
 closes_by d k r = ap (λ b. is_null r.entry && b) (same_depth r.depth d k)
 
-past_by : (d k : ℤ) (rows : List Row) → past (d +ℤ k) (map (deeper_by k) rows) ≡ past d rows
+past_by : (d k : ℤ) (rows : List Row) → past_closer (d +ℤ k) (map (deeper_by k) rows)
+    ≡ past_closer d rows
 past_by d k [] = refl
 past_by d k (r ∷ rest) = rw (closes_by d k r, past_by d k rest) refl
 

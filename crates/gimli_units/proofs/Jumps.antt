@@ -17,7 +17,7 @@ use Rattle.gimli_units.specs.Kind.{kind_of, unit_reference, parent, sibling_of}
 use Rattle.gimli_units.specs.RawPlace.{RawPlace, next_offset_of}
 use Rattle.gimli_units.specs.Honest.{within, target}
 use Rattle.gimli_units.specs.CursorMoves.{CursorView, view_from}
-use Rattle.gimli_units.specs.CursorRead.{stands_at, stands_if, reference_for, target_for, following}
+use Rattle.gimli_units.specs.CursorRead.{stands_at, stands_if, reference_for, target_for, leave_entry}
 
 -- the first attribute of a name, by what its readers and offsets stand for
 pub first_of-map : {R O : Type 0}
@@ -152,6 +152,6 @@ pub left_at : (c : CursorView) (sought : ℤ) (t : ℕ) (raw : RawPlace) (e : En
       depth = depth;
       follows = c.follows;
       reads = c.reads;
-    } ≡ following sought c
+    } ≡ leave_entry sought c
 left_at c sought t raw e offset depth looks is null at deep =
     rw (is, some_for sought c t looks, null, at, deep) refl

@@ -12,7 +12,7 @@ use Rattle.gimli_units.proofs.EntryReads.{entry_at-shorter}
 use Rattle.gimli_units.specs.RawPlace.{depth_after}
 use Rattle.gimli_units.specs.Rows.{Row, Ahead, offset_of_view}
 use Rattle.gimli_units.proofs.RowChain.{AreRows, exist_rows}
-use Rattle.gimli_units.specs.Honest.{IsHonest, past, usable, AreHonest}
+use Rattle.gimli_units.specs.Honest.{IsHonest, past_closer, usable_target, AreHonest}
 use Rattle.gimli_units.specs.FirstFalse.{misses, is_false, first_false, IsFalseAt, IsLeastFalse}
 use Rattle.gimli_units.specs.Unit.{UnitView, whole_length}
 use Rattle.gimli_units.specs.UnitRows.{unit_rows_at, unit_rows}
@@ -21,7 +21,7 @@ use Rattle.std.proofs.lemmas.Bool.{eq-eqb, eqb-true}
 -- a row whose reference is not false is honest
 pub not_false : (end : ℕ) (r : Row) (rest : List Row) → is_false end r rest ≡ false
     → IsHonest end r rest
-not_false end r rest = cases (usable end r) (past r.depth rest)
+not_false end r rest = cases (usable_target end r) (past_closer r.depth rest)
   where
     cases : (u p : Option ℕ) → ◌≡◌ {A = Bool} (elim u [ None ↦ false | Some t ↦ misses t p ]) false
         → (t : ℕ) → u ≡ Some t → p ≡ Some t
@@ -36,7 +36,7 @@ not_false end r rest = cases (usable end r) (past r.depth rest)
 -- and the reference of an honest row is not false
 pub honest_is_not : (end : ℕ) (r : Row) (rest : List Row) → IsHonest end r rest
     → is_false end r rest ≡ false
-honest_is_not end r rest = cases (usable end r) (past r.depth rest)
+honest_is_not end r rest = cases (usable_target end r) (past_closer r.depth rest)
   where
     cases : (u p : Option ℕ) → ((t : ℕ) → u ≡ Some t → p ≡ Some t)
         → ◌≡◌ {A = Bool} (elim u [ None ↦ false | Some t ↦ misses t p ]) false

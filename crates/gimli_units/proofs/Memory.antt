@@ -6,7 +6,7 @@ use Rattle.gimli_base.specs.declared.common.Encoding.{Encoding}
 use Rattle.gimli_base.specs.declared.error.Error.TheVariants.{OutOfMemory, InvalidAbbreviationCode}
 use Rattle.gimli_base.specs.declared.error.Error.TheVariants.{BadUnsignedLeb128}
 use Rattle.gimli_base.specs.View.{View, cut}
-use Rattle.gimli_base.specs.Reading.{Reads, ◌>>=◌, made, eof, byte_at, uleb_within, uleb_at}
+use Rattle.gimli_base.specs.Reading.{Reads, ◌>>=◌, map_read, eof, byte_at, uleb_within, uleb_at}
 use Rattle.gimli_base.specs.Abbreviations.{Declaration, Specification, Map}
 use Rattle.gimli_units.specs.Entry.{attributes_at, abbreviation_at, content_at, entry_at}
 use Rattle.gimli_units.specs.Entry.{takes_memory}
@@ -39,7 +39,8 @@ uleb_within-never top zero v =
     never_then (byte_at v) _ (byte_at-never v)
     (λ p. never_if (nat_le p.0 top) (Ok p) (Err BadUnsignedLeb128) (never_ok p) (λ is. cc))
 uleb_within-never top (suc n) v = never_then (byte_at v) _ (byte_at-never v)
-    (λ p. never_if (nat_lt p.0 128) (Ok p) (made (λ m. p.0 - 128 + 128 * m) (uleb_within top n p.1))
+    (λ p. never_if (nat_lt p.0 128) (Ok p)
+    (map_read (λ m. p.0 - 128 + 128 * m) (uleb_within top n p.1))
     (never_ok p)
     (never_then (uleb_within top n p.1) _ (uleb_within-never top n p.1)
     (λ q. never_ok (p.0 - 128 + 128 * q.0, q.1))))

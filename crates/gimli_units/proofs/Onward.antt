@@ -8,9 +8,9 @@ use Rattle.std.proofs.lemmas.Bool.{leb-true}
 use Rattle.gimli_base.specs.declared.error.Error.{Error}
 use Rattle.gimli_base.proofs.Both.{both}
 use Rattle.gimli_base.specs.Offset.{answer_of}
-use Rattle.gimli_base.specs.View.{View, cut, ended}
+use Rattle.gimli_base.specs.View.{View, cut, end_of_view}
 use Rattle.gimli_base.specs.Reading.{Reads, UnlessMemory}
-use Rattle.gimli_base.specs.Table.{found}
+use Rattle.gimli_base.specs.Table.{codes_of}
 use Rattle.gimli_base.specs.View.{IsLater}
 use Rattle.gimli_base.proofs.Later.{IsLater-length, IsLater-none, IsLater-trans}
 use Rattle.gimli_base.proofs.Later.{IsLater-weaker, cut-cut}
@@ -18,14 +18,14 @@ use Rattle.gimli_units.specs.Entry.{Entry, null_entry}
 use Rattle.gimli_units.proofs.EntryReads.{entry_at-later, entry_at-shorter}
 use Rattle.gimli_units.specs.RawPlace.{RawPlace, next_offset_of}
 use Rattle.gimli_units.specs.Kind.{kind_of}
-use Rattle.gimli_units.specs.Honest.{target, within, usable}
+use Rattle.gimli_units.specs.Honest.{target, within, usable_target}
 use Rattle.gimli_units.specs.Rows.{ahead_at}
 use Rattle.gimli_units.specs.CursorMoves.{CursorView, next_of, rows_of, rows_from, reads_ahead}
 use Rattle.gimli_units.specs.CursorMoves.{last_row, followed_to, view_from, what_at}
 use Rattle.gimli_units.specs.CursorMoves.{takes_memory_at, IsSameUnit, IsTrueEntry, IsRefused}
 use Rattle.gimli_units.specs.CursorMoves.{IsFurther, AreFewReads, IsReadOnce, IsReadUpTo, IsSound}
 use Rattle.gimli_units.specs.CursorRead.{stands_at, stands_if, HasRead, an_entry, the_end}
-use Rattle.gimli_units.specs.CursorRead.{a_refusal, following}
+use Rattle.gimli_units.specs.CursorRead.{a_refusal, leave_entry}
 use Rattle.gimli_units.proofs.CursorSteps.{rows_entry, rows_refusal, rows_over, sound_read}
 
 -- a cursor that began at `start` stands at `here`
@@ -52,7 +52,7 @@ onward_start c s =
     }
 
 -- no byte of what is ended is left, and it is the same view
-ended-later : (v : View) → IsLater 0 v (ended v)
+ended-later : (v : View) → IsLater 0 v (end_of_view v)
 ended-later v =
     record {
       count = length v.bytes;
@@ -64,7 +64,8 @@ ended-later v =
 read_on : (limit : ℕ) (start here : CursorView) (outcome : Result Bool Error) (new : CursorView)
     → Onward start here → IsSound new → HasRead limit here outcome new → Onward start new
 read_on limit start here outcome new o sound (an_entry e w some reads is same) =
-    let l = entry_at-later limit here.raw.encoding (found here.raw.abbreviations) here.raw.rest e w
+    let l = entry_at-later limit here.raw.encoding (codes_of here.raw.abbreviations) here.raw.rest e
+    w
     reads in
     let shorter = IsLater-length 1 here.raw.rest w l in
     let few = o.few in
@@ -110,7 +111,7 @@ read_on limit start here outcome new o sound (a_refusal x some is same why memor
             end = o.unit.end;
             follows = o.unit.follows;
           };
-      further = IsLater-trans 0 0 start.raw.rest here.raw.rest (ended here.raw.rest) o.further
+      further = IsLater-trans 0 0 start.raw.rest here.raw.rest (end_of_view here.raw.rest) o.further
           (ended-later here.raw.rest);
       few = omega (arith, few, some);
       more = omega (arith, more);
@@ -126,7 +127,8 @@ onward_read limit start here outcome new o h =
 
 -- a reference that is followed leads from what is read next to the end
 pub followed_bounds : (c : CursorView) (t : ℕ) → followed_to c ≡ Some t
-    → (c.follows ≡ true) × (usable c.raw.end (last_row c) ≡ Some t) × (next_offset_of c.raw ≤ t)
+    → (c.follows ≡ true) × (usable_target c.raw.end (last_row c) ≡ Some t)
+    × (next_offset_of c.raw ≤ t)
     × (t ≤ c.raw.end)
 followed_bounds c t = cases c.follows (target (kind_of c.entry)) refl
   where
@@ -162,7 +164,7 @@ jump-later c t fits high =
 
 -- leaving an entry goes on
 pub onward_follow : (start here : CursorView) (sought : ℤ) → Onward start here
-    → Onward start (following sought here)
+    → Onward start (leave_entry sought here)
 onward_follow start here sought o = cases (int_le sought here.depth) (followed_to here) refl
   where
     stays : Onward start
@@ -313,7 +315,7 @@ pub true_entry : (limit : ℕ) (start here : CursorView) (outcome : Result Bool 
     (new : CursorView) → Onward start here → HasRead limit here outcome new → outcome ≡ Ok true
     → IsTrueEntry limit start new
 true_entry limit start here outcome new o (an_entry e w some reads is same) holds =
-    let shorter = entry_at-shorter limit here.raw.encoding (found here.raw.abbreviations)
+    let shorter = entry_at-shorter limit here.raw.encoding (codes_of here.raw.abbreviations)
     here.raw.rest w e reads in
     let low = later_offset start here o in
     rw same (record {

@@ -5,7 +5,7 @@ use Rattle.std.proofs.Common.{refl, sym, ap, ◌∙◌}
 use Rattle.gimli_base.specs.declared.common.Encoding.{Encoding}
 use Rattle.gimli_base.specs.declared.error.Error.TheVariants.{UnknownForm, InvalidImplicitConst}
 use Rattle.gimli_base.specs.View.{View}
-use Rattle.gimli_base.specs.Reading.{Reads, ◌>>=◌, made, byte_at, uint_at, uint_offset_at}
+use Rattle.gimli_base.specs.Reading.{Reads, ◌>>=◌, map_read, byte_at, uint_at, uint_offset_at}
 use Rattle.gimli_base.specs.Reading.{offset_at, sized_offset_at, address_at, split_at, text_at}
 use Rattle.gimli_base.specs.Reading.{uleb_at, sleb_at, word_size_of, skip_at, skip_leb_at}
 use Rattle.gimli_base.specs.Reading.{PassesAs}
@@ -30,7 +30,7 @@ Passed = Reads (Unit {0})
 
 -- a value made of what was read
 made_passed : {A : Type 0} → (p : Passed) (f : A → Value) (r : Reads A) → PassesAs p r
-    → PassesAs p (made f r)
+    → PassesAs p (map_read f r)
 made_passed p f r h x w e = let m = made_read f r x w e in h m.0 w m.1
 
 if_passed : {A : Type 0} → (p : Passed) (t : Bool) (x y : Reads A) → PassesAs p x → PassesAs p y
@@ -49,12 +49,12 @@ block-passed (Err x) a w e = absurd (cc)
 
 -- n bytes, after a number that passes as it is read
 behind-passed : (n : ℕ) (p : Passed) (r : Reads ℕ) (f : ℕ → ℕ → Value) → PassesAs p r
-    → PassesAs (p >>= λ q. skip_at n q.1) (r >>= λ q. made (f q.0) (uint_at n q.1))
+    → PassesAs (p >>= λ q. skip_at n q.1) (r >>= λ q. map_read (f q.0) (uint_at n q.1))
 behind-passed n p (Ok q) f h a w e =
     rw (h q.0 q.1 refl) (made_passed _ (f q.0) (uint_at n q.1) (uint_at-passed n q.1) a w e)
 behind-passed n p (Err x) f h a w e = absurd (cc)
 
-text-passed : (r : Reads View) → PassesAs (made (λ _. tt) r) r
+text-passed : (r : Reads View) → PassesAs (map_read (λ _. tt) r) r
 text-passed (Ok p) a w e =
     ap (λ (q : View × View). Ok (tt, q.1)) (let same : ◌≡◌ {A = View × View} p (a, w) = cc in same)
 text-passed (Err x) a w e = absurd (cc)
@@ -143,15 +143,15 @@ attributes-passed limit e (s ∷ ss) v =
     (value-passed limit e s.name.0 s.constant s.form.0 v) (λ u. attributes-passed limit e ss u)
   where
     rest : (a : Attr) (u : View) → PassesAs (pass_all limit e ss u) (attributes_at limit e ss u)
-        → PassesAs (pass_all limit e ss u) (made (λ xs. a ∷ xs) (attributes_at limit e ss u))
+        → PassesAs (pass_all limit e ss u) (map_read (λ xs. a ∷ xs) (attributes_at limit e ss u))
     rest a u others xs w h = let m = made_read (λ ys. a ∷ ys) (attributes_at limit e ss u) xs w h in
         others m.0 w m.1
 
     first : (r : Reads Value) → PassesAs (pass_at limit e s.form.0 v) r
         → ((u : View) → PassesAs (pass_all limit e ss u) (attributes_at limit e ss u))
         → PassesAs (pass_at limit e s.form.0 v >>= λ p. pass_all limit e ss p.1)
-        (made (λ x. record { name = s.name; form = s.form; value = x }) r
-        >>= λ p. made (λ xs. p.0 ∷ xs) (attributes_at limit e ss p.1))
+        (map_read (λ x. record { name = s.name; form = s.form; value = x }) r
+        >>= λ p. map_read (λ xs. p.0 ∷ xs) (attributes_at limit e ss p.1))
     first (Ok p) h others xs w k =
         rw (h p.0 p.1 refl)
         (rest (record { name = s.name; form = s.form; value = p.0 }) p.1 (others p.1) xs w k)

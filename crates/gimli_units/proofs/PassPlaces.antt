@@ -9,8 +9,9 @@ use Rattle.gimli_base.specs.declared.error.Error.TheVariants.{BadUnsignedLeb128,
 use Rattle.gimli_base.specs.declared.error.Error.TheVariants.{UnknownForm}
 use Rattle.gimli_base.specs.declared.common.ReaderOffsetId.{ReaderOffsetId}
 use Rattle.gimli_base.specs.Offset.{offset_of}
-use Rattle.gimli_base.specs.View.{View, cut, ended}
-use Rattle.gimli_base.specs.Reading.{Reads, ◌>>=◌, made, eof, byte_at, bytes_at, uint_at, as_offset}
+use Rattle.gimli_base.specs.View.{View, cut, end_of_view}
+use Rattle.gimli_base.specs.Reading.{Reads, ◌>>=◌, map_read, eof, byte_at, bytes_at, uint_at}
+use Rattle.gimli_base.specs.Reading.{as_offset}
 use Rattle.gimli_base.specs.Reading.{uint_offset_at, uleb_within, uleb_at, uleb16_at, split_at}
 use Rattle.gimli_base.specs.Reading.{find_at, text_at, word_size_of, skip_at, skip_leb_at}
 use Rattle.gimli_base.specs.View.{IsLater}
@@ -46,7 +47,7 @@ place_here v n is =
     let same : v.place ≡ n = ap (λ (r : ReaderOffsetId). r.0) id in
     (omega (arith, same), omega (arith, same))
 
-place_end : (v : View) → NamesPlaceOf v (eof (ended v))
+place_end : (v : View) → NamesPlaceOf v (eof (end_of_view v))
 place_end v n is =
     let id : ◌≡◌ {A = ReaderOffsetId} (record { 0 = v.place + length v.bytes }) (record { 0 = n }) =
     cc in
@@ -70,7 +71,7 @@ then_refuses v (Ok p) f later first second e is =
 then_refuses v (Err x) f later first second e is = first e (let same : x ≡ e = cc in cc)
 
 made_refuses : {A B : Type 0} → (v : View) (f : A → B) (r : Reads A) → RefusesIn v r
-    → RefusesIn v (made f r)
+    → RefusesIn v (map_read f r)
 made_refuses v f (Ok p) h e is = absurd (cc)
 made_refuses v f (Err x) h e is = h e (let same : x ≡ e = cc in cc)
 
@@ -155,9 +156,9 @@ unfolding skip_leb_at
 leb_refuses v = by (position (λ b. nat_lt b 128) v.bytes)
   where
     by : (o : Option ℕ) → RefusesIn {A = Unit {0}} v
-        (elim o [ Some n ↦ Ok (tt, cut (n + 1) v) | None ↦ Err (eof (ended v)) ])
+        (elim o [ Some n ↦ Ok (tt, cut (n + 1) v) | None ↦ Err (eof (end_of_view v)) ])
     by (Some n) = ok_refuses v _
-    by None = err_refuses v (eof (ended v)) (place_end v)
+    by None = err_refuses v (eof (end_of_view v)) (place_end v)
 
 find_refuses : (v : View) (e : Error) → Err e ≡ find_at 0 v → NamesPlaceOf v e
 unfolding find_at
@@ -177,7 +178,7 @@ text_refuses v = found (find_at 0 v) (find_refuses v)
     found : (r : Result ℕ Error) → ((e : Error) → Err e ≡ r → NamesPlaceOf v e)
         → RefusesIn v
         (elim r
-        [ Ok n ↦ split_at n v >>= (λ p. made (λ _. p.0) (byte_at p.1)) | Err e ↦ Err e ])
+        [ Ok n ↦ split_at n v >>= (λ p. map_read (λ _. p.0) (byte_at p.1)) | Err e ↦ Err e ])
     found (Ok n) none = then_refuses v (split_at n v) _ (none_later n v _ (split_at-later n v))
         (split_refuses n v)
         (λ p. made_refuses p.1 _ (byte_at p.1) (byte_refuses p.1))

@@ -6,13 +6,13 @@ use Rattle.std.proofs.Common.{refl, sym, ap, ◌∙◌}
 use Rattle.gimli_base.specs.declared.error.Error.{Error}
 use Rattle.gimli_base.specs.View.{View}
 use Rattle.gimli_base.specs.Reading.{Reads}
-use Rattle.gimli_base.specs.Table.{found}
+use Rattle.gimli_base.specs.Table.{codes_of}
 use Rattle.gimli_units.specs.Entry.{Entry, is_null}
 use Rattle.gimli_units.proofs.EntryReads.{entry_at-shorter}
 use Rattle.gimli_units.specs.RawPlace.{RawPlace, next_offset_of, depth_after}
 use Rattle.gimli_units.specs.Rows.{Row, Ahead, offset_of_view}
 use Rattle.gimli_units.proofs.RowChain.{AreRows, AreAhead, exist_rows}
-use Rattle.gimli_units.specs.Honest.{usable, IsHonest, AreHonest, AreHonestUntil}
+use Rattle.gimli_units.specs.Honest.{usable_target, IsHonest, AreHonest, AreHonestUntil}
 use Rattle.gimli_units.specs.CursorPlace.{Moved, some_of, is_entry, has_depth, arrive, skip_until}
 use Rattle.gimli_units.specs.CursorPlace.{last_offset, last_depth, next_row}
 use Rattle.gimli_units.specs.CursorPlace.{next_in_depth_first_order, seek, next_of_depth}
@@ -83,7 +83,7 @@ module _ (limit : ℕ) where
 
   chain : (p : RawPlace) → AreAhead (next_of limit p) p.end p.rest p.depth (rows_of limit p)
   chain p = exist_rows (next_of limit p) p.end
-      (λ v w e. entry_at-shorter limit p.encoding (found p.abbreviations) v w e) p.rest p.depth
+      (λ v w e. entry_at-shorter limit p.encoding (codes_of p.abbreviations) v w e) p.rest p.depth
 
   -- the next offset and the next depth are those of the next row, or of the place after the last
   pub offset_is : (p : RawPlace) → next_offset_of p ≡ next_offset (rows_of limit p)
@@ -104,7 +104,7 @@ module _ (limit : ℕ) where
   pub null_honest : (c : CursorView) (rows : List Row) → is_null c.entry ≡ true
       → IsHonest c.raw.end (last_row c) rows
   null_honest c rows is_none t leads =
-      let nowhere : usable c.raw.end (last_row c) ≡ None = rw is_none refl in
+      let nowhere : usable_target c.raw.end (last_row c) ≡ None = rw is_none refl in
       let e : ◌≡◌ {A = Option ℕ} None (Some t) = sym nowhere ∙ leads in absurd (cc)
 
   pub honest_start : (c : CursorView) → is_null c.entry ≡ true

@@ -11,19 +11,19 @@ use Rattle.gimli_base.proofs.Later.{IsLater-length}
 use Rattle.gimli_base.specs.declared.error.Error.{Error}
 use Rattle.gimli_base.specs.View.{View}
 use Rattle.gimli_base.specs.Reading.{UnlessMemory}
-use Rattle.gimli_base.specs.Table.{found}
+use Rattle.gimli_base.specs.Table.{codes_of}
 use Rattle.gimli_units.specs.Entry.{Entry, is_null, null_entry}
 use Rattle.gimli_units.proofs.EntryReads.{entry_at-later}
 use Rattle.gimli_units.specs.RawPlace.{next_offset_of, below_flag, depth_after}
 use Rattle.gimli_units.specs.Kind.{null, leaf, parent, sibling_of}
-use Rattle.gimli_units.specs.Honest.{target, within, usable, AreHonestUntil}
+use Rattle.gimli_units.specs.Honest.{target, within, usable_target, AreHonestUntil}
 use Rattle.gimli_units.specs.CursorPlace.{seek, first_of_rows, has_depth}
 use Rattle.gimli_units.specs.CursorMoves.{CursorView, next_of, rows_of, rows_from, place_of}
 use Rattle.gimli_units.specs.CursorMoves.{last_row, followed_to, view_from, IsHonestFor}
 use Rattle.gimli_units.specs.CursorMoves.{IsPlaceAhead, IsReadOnce, IsReadUpTo, reads_ahead}
 use Rattle.gimli_units.specs.CursorMoves.{one_if_left, IsSound, IsTrueEntry, IsRefused}
 use Rattle.gimli_units.specs.CursorRead.{stands_at, stands_if, after_entry, after_refusal, HasRead}
-use Rattle.gimli_units.specs.CursorRead.{an_entry, the_end, a_refusal, following, at_depth, at_end}
+use Rattle.gimli_units.specs.CursorRead.{an_entry, the_end, a_refusal, leave_entry, at_depth, at_end}
 use Rattle.gimli_units.specs.CursorRead.{at_refusal, Searches, HasSought}
 use Rattle.gimli_units.proofs.CursorSteps.{rows_entry, rows_end, rows_refusal, rows_over}
 use Rattle.gimli_units.proofs.Flagless.{entry_at-flagless}
@@ -34,7 +34,7 @@ use Rattle.gimli_units.proofs.Onward.{unless_then}
 use Rattle.gimli_units.proofs.Walking.{place_on, refused_place, read_shorter}
 
 -- where a reference is followed, the entry has children: the depth after it is one more
-parent_depth : (c : CursorView) (t : ℕ) → usable c.raw.end (last_row c) ≡ Some t
+parent_depth : (c : CursorView) (t : ℕ) → usable_target c.raw.end (last_row c) ≡ Some t
     → (is_null c.entry ≡ false) × (depth_after c.entry c.depth ≡ c.depth +ℤ pos 1)
 parent_depth c t leads = cases (is_null c.entry) refl c.entry.has_children refl leads
   where
@@ -70,7 +70,7 @@ module _ (limit : ℕ) (depth : ℤ) (offset : ℕ) where
   -- leaving an entry, for where its reference leads or not, keeps what is sought, where it is
   -- honest
   follow_keeps : (c : CursorView) → IsSound c → (c.follows ≡ true → IsHonestFor limit depth c)
-      → Keeps c (following depth c)
+      → Keeps c (leave_entry depth c)
   follow_keeps c s honest = cases (int_le depth c.depth) refl (followed_to c) refl
     where
       stays : Keeps c
@@ -100,8 +100,8 @@ module _ (limit : ℕ) (depth : ℤ) (offset : ℕ) where
           let up = parent_depth c t b.1 in
           let behind = s.behind up.0 ∙ up.1 in
           let k = jump (next_of limit c.raw) c.raw.end
-          (λ v w e. entry_at-later limit c.raw.encoding (found c.raw.abbreviations) v e w)
-          (entry_at-flagless limit c.raw.encoding (found c.raw.abbreviations))
+          (λ v w e. entry_at-later limit c.raw.encoding (codes_of c.raw.abbreviations) v e w)
+          (entry_at-flagless limit c.raw.encoding (codes_of c.raw.abbreviations))
           c.raw.rest c.raw.depth c.depth depth offset t s.fits (omega (arith, ints, behind))
           (at_least depth c.depth deep) (h.current deep t b.1) in
           record { same = k.same; ahead = λ f. k.honest h.ahead; places = k.places }
@@ -170,7 +170,7 @@ module _ (limit : ℕ) (depth : ℤ) (offset : ℕ) where
   }
 
   -- the depth is never above the one that is sought
-  low_follow : (c : CursorView) → depth ≤ℤ c.raw.depth → depth ≤ℤ (following depth c).raw.depth
+  low_follow : (c : CursorView) → depth ≤ℤ c.raw.depth → depth ≤ℤ (leave_entry depth c).raw.depth
   low_follow c low = cases (int_le depth c.depth) refl (followed_to c)
     where
       cases : (deep : Bool) → int_le depth c.depth ≡ deep → (to : Option ℕ)
@@ -202,7 +202,7 @@ module _ (limit : ℕ) (depth : ℤ) (offset : ℕ) where
   -- where the first entry's reference is followed, the reader stands where it leads, at the depth
   -- that is sought
   first_follow : (c : CursorView) (t : ℕ) → followed_to c ≡ Some t → c.depth ≡ depth
-      → following depth c
+      → leave_entry depth c
       ≡ record {
         raw = stands_at c.raw (view_from c.raw t) depth;
         entry = null_entry;
@@ -220,7 +220,7 @@ module _ (limit : ℕ) (depth : ℤ) (offset : ℕ) where
 
   -- where nothing is followed the reader stays
   plain_follow : (c : CursorView) → c.follows ≡ false
-      → following depth c
+      → leave_entry depth c
       ≡ record {
         raw = c.raw;
         entry = null_entry;
@@ -258,31 +258,31 @@ module _ (limit : ℕ) (depth : ℤ) (offset : ℕ) where
 
   -- where nothing is followed, what was passed was read once
   plain_once : (start here : CursorView) (outcome : Result Bool Error) (new : CursorView)
-      → Seeking start here → HasRead limit (following depth here) outcome new
+      → Seeking start here → HasRead limit (leave_entry depth here) outcome new
       → start.follows ≡ false → UnlessMemory outcome (IsReadOnce limit start new)
   plain_once start here outcome new k h never =
-      let mid : IsReadOnce limit here (following depth here) =
+      let mid : IsReadOnce limit here (leave_entry depth here) =
       ap (λ (c : CursorView). c.reads + reads_ahead (rows_of limit c.raw))
       (plain_follow here (k.onward.unit.follows ∙ never)) in
-      unless_then outcome (read_once limit (following depth here) outcome new h)
+      unless_then outcome (read_once limit (leave_entry depth here) outcome new h)
       (λ r. r ∙ mid ∙ k.plain never)
 
   -- and so was what was refused
   plain_up_to : (start here : CursorView) (outcome : Result Bool Error) (new : CursorView)
       → Seeking start here
-      → HasRead limit (following depth here) outcome new → start.follows ≡ false
+      → HasRead limit (leave_entry depth here) outcome new → start.follows ≡ false
       → OnErr outcome (IsReadUpTo limit start new)
   plain_up_to start here outcome new k h never =
-      let mid : IsReadOnce limit here (following depth here) =
+      let mid : IsReadOnce limit here (leave_entry depth here) =
       ap (λ (c : CursorView). c.reads + reads_ahead (rows_of limit c.raw))
       (plain_follow here (k.onward.unit.follows ∙ never)) in
-      read_up_to limit start (following depth here) outcome new
+      read_up_to limit start (leave_entry depth here) outcome new
       (onward_follow start here depth k.onward) (mid ∙ k.plain never) h
 
   -- the first entry's reference is followed
   first_mid : (start here : CursorView) → Seeking start here → (t : ℕ) → followed_to start ≡ Some t
       → start.depth ≡ depth
-      → following depth here
+      → leave_entry depth here
       ≡ record {
         raw = stands_at start.raw (view_from start.raw t) depth;
         entry = null_entry;
@@ -292,12 +292,12 @@ module _ (limit : ℕ) (depth : ℤ) (offset : ℕ) where
         reads = start.reads;
       }
   first_mid start here k t leads same =
-      ap (following depth) (k.first t leads same) ∙ first_follow start t leads same
+      ap (leave_entry depth) (k.first t leads same) ∙ first_follow start t leads same
 
   -- the reader stands at the reference
   first_place : (start here : CursorView) → Seeking start here → (t : ℕ)
       → followed_to start ≡ Some t → start.depth ≡ depth
-      → (next_offset_of (following depth here).raw ≡ t) × ((following depth here).raw.depth ≡ depth)
+      → (next_offset_of (leave_entry depth here).raw ≡ t) × ((leave_entry depth here).raw.depth ≡ depth)
   first_place start here k t leads same =
       let m = first_mid start here k t leads same in
       let b = followed_bounds start t leads in
@@ -310,8 +310,8 @@ module _ (limit : ℕ) (depth : ℤ) (offset : ℕ) where
 
   first_rows : (start here : CursorView) → Seeking start here → (t : ℕ) → followed_to start ≡ Some t
       → start.depth ≡ depth
-      → first_of_rows (following depth here).raw.end depth offset
-      (rows_of limit (following depth here).raw)
+      → first_of_rows (leave_entry depth here).raw.end depth offset
+      (rows_of limit (leave_entry depth here).raw)
       ≡ first_of_rows start.raw.end depth offset (rows_from limit start.raw t depth)
   first_rows start here k t leads same =
       ap (λ (c : CursorView). first_of_rows c.raw.end depth offset (rows_of limit c.raw))
@@ -320,23 +320,23 @@ module _ (limit : ℕ) (depth : ℤ) (offset : ℕ) where
   -- what is sought where the rows are honest
   sought_there : (start here : CursorView) → Seeking start here
       → (start.follows ≡ true → IsHonestFor limit depth start)
-      → seek (following depth here).raw.end depth offset (rows_of limit (following depth here).raw)
+      → seek (leave_entry depth here).raw.end depth offset (rows_of limit (leave_entry depth here).raw)
       ≡ seek start.raw.end depth offset (rows_of limit start.raw)
   sought_there start here k h =
       (follow_keeps here k.onward.sound (k.honestly h).honest).same ∙ (k.honestly h).same
 
   -- an entry of another depth is passed
   pub seeking_on : (start here : CursorView) (outcome : Result Bool Error) (new : CursorView)
-      → Seeking start here → HasRead limit (following depth here) outcome new
+      → Seeking start here → HasRead limit (leave_entry depth here) outcome new
       → outcome ≡ Ok true → int_eq new.depth depth ≡ false → Seeking start new
   seeking_on start here outcome new k h holds other =
       cases h
-      (onward_read limit start (following depth here) outcome new
+      (onward_read limit start (leave_entry depth here) outcome new
       (onward_follow start here depth k.onward) h) (plain_once start here outcome new k h)
       (λ n o x s. k.steps (suc n) o x (new, rw holds at h, other, s))
     where
       mid : CursorView
-      mid = following depth here
+      mid = leave_entry depth here
 
       cases : HasRead limit mid outcome new → Onward start new
           → (start.follows ≡ false → UnlessMemory outcome (IsReadOnce limit start new))
@@ -384,19 +384,19 @@ module _ (limit : ℕ) (depth : ℤ) (offset : ℕ) where
   first_at c e w some reads = rw (rows_entry limit c e w some reads) refl
 
   pub sought_to : (start here : CursorView) (outcome : Result Bool Error) (new : CursorView)
-      → Seeking start here → HasRead limit (following depth here) outcome new
+      → Seeking start here → HasRead limit (leave_entry depth here) outcome new
       → outcome ≡ Ok true → int_eq new.depth depth ≡ true
       → HasSought limit depth offset start (Ok (not (is_null new.entry))) new
   sought_to start here outcome new k h holds there =
       cases h
-      (onward_read limit start (following depth here) outcome new
+      (onward_read limit start (leave_entry depth here) outcome new
       (onward_follow start here depth k.onward) h) (plain_once start here outcome new k h)
-      (true_entry limit start (following depth here) outcome new
+      (true_entry limit start (leave_entry depth here) outcome new
       (onward_follow start here depth k.onward) h holds)
       (k.steps zero _ new (at_depth (rw holds at h) there refl))
     where
       mid : CursorView
-      mid = following depth here
+      mid = leave_entry depth here
 
       cases : HasRead limit mid outcome new → Onward start new
           → (start.follows ≡ false → UnlessMemory outcome (IsReadOnce limit start new))
@@ -478,16 +478,16 @@ module _ (limit : ℕ) (depth : ℤ) (offset : ℕ) where
       }
 
   pub sought_end : (start here : CursorView) (outcome : Result Bool Error) (new : CursorView)
-      → Seeking start here → HasRead limit (following depth here) outcome new
+      → Seeking start here → HasRead limit (leave_entry depth here) outcome new
       → outcome ≡ Ok false → HasSought limit depth offset start (Ok false) (paired new)
   sought_end start here outcome new k h ends =
       cases h
-      (onward_read limit start (following depth here) outcome new
+      (onward_read limit start (leave_entry depth here) outcome new
       (onward_follow start here depth k.onward) h) (plain_once start here outcome new k h)
       (k.steps zero _ (paired new) (at_end new (rw ends at h) refl refl))
     where
       mid : CursorView
-      mid = following depth here
+      mid = leave_entry depth here
 
       cases : HasRead limit mid outcome new → Onward start new
           → (start.follows ≡ false → UnlessMemory outcome (IsReadOnce limit start new))
@@ -546,20 +546,20 @@ module _ (limit : ℕ) (depth : ℤ) (offset : ℕ) where
       rw (rows_refusal limit c.raw e some reads, rows_over limit c) refl
 
   pub sought_out : (start here : CursorView) (outcome : Result Bool Error) (new : CursorView)
-      → Seeking start here → HasRead limit (following depth here) outcome new
+      → Seeking start here → HasRead limit (leave_entry depth here) outcome new
       → (x : Error) → outcome ≡ Err x → HasSought limit depth offset start (Err x) new
   sought_out start here outcome new k h x fails =
       cases h
-      (onward_read limit start (following depth here) outcome new
+      (onward_read limit start (leave_entry depth here) outcome new
       (onward_follow start here depth k.onward) h) (plain_once start here outcome new k h)
       (plain_up_to start here outcome new k h)
-      (λ y same. true_refusal limit start (following depth here) outcome new
+      (λ y same. true_refusal limit start (leave_entry depth here) outcome new
       (onward_follow start here depth k.onward) h y (fails ∙ same))
-      (refused_place limit (has_depth depth) (following depth here) outcome new h x fails)
+      (refused_place limit (has_depth depth) (leave_entry depth here) outcome new h x fails)
       (k.steps zero _ new (at_refusal x (rw fails at h) refl))
     where
       mid : CursorView
-      mid = following depth here
+      mid = leave_entry depth here
 
       cases : HasRead limit mid outcome new → Onward start new
           → (start.follows ≡ false → UnlessMemory outcome (IsReadOnce limit start new))
@@ -610,10 +610,10 @@ module _ (limit : ℕ) (depth : ℤ) (offset : ℕ) where
 
   -- each turn leaves fewer bytes
   pub seeking_shorter : (here : CursorView) (outcome : Result Bool Error) (new : CursorView)
-      → IsSound here → HasRead limit (following depth here) outcome new → outcome ≡ Ok true
+      → IsSound here → HasRead limit (leave_entry depth here) outcome new → outcome ≡ Ok true
       → length new.raw.rest.bytes < length here.raw.rest.bytes
   seeking_shorter here outcome new s h holds =
       let o = onward_follow here here depth (onward_start here s) in
-      let fewer = IsLater-length 0 here.raw.rest (following depth here).raw.rest o.further in
-      let one = read_shorter limit (following depth here) outcome new h holds in
+      let fewer = IsLater-length 0 here.raw.rest (leave_entry depth here).raw.rest o.further in
+      let one = read_shorter limit (leave_entry depth here) outcome new h holds in
       omega (arith, fewer, one)

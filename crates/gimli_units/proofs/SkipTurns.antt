@@ -9,7 +9,7 @@ use Rattle.gimli_base.specs.declared.error.Error.{Error}
 use Rattle.gimli_base.specs.declared.error.Error.TheVariants.{UnknownForm}
 use Rattle.gimli_base.specs.Abbreviations.{Specification}
 use Rattle.gimli_base.specs.View.{View, cut}
-use Rattle.gimli_base.specs.Reading.{Reads, read, ◌>>=◌, eof, skip_at}
+use Rattle.gimli_base.specs.Reading.{Reads, read_of, ◌>>=◌, eof, skip_at}
 use Rattle.gimli_base.specs.View.{IsLater}
 use Rattle.gimli_base.proofs.Later.{IsLater-none, IsLater-trans, cut-cut, skip_at-later}
 use Rattle.gimli_base.proofs.Passed.{skip_at-none}
@@ -177,7 +177,7 @@ module _ (limit : ℕ) (e : Encoding) (ss : List Specification) (all v : View) (
       place_later all v r s.later
       (place_later v u r (skipped x u h) (pass_at_refuses limit e form u r k))
 
-  pub end_place : (r : Result (Unit {0}) Error) (w : View) → read r w ≡ skip_at pending v
+  pub end_place : (r : Result (Unit {0}) Error) (w : View) → read_of r w ≡ skip_at pending v
       → IfErr r (NamesPlaceOf all)
   end_place (Ok x) w h = tt
   end_place (Err r) w h = flush_place r h
@@ -205,8 +205,8 @@ module _ (limit : ℕ) (e : Encoding) (ss : List Specification) (all v : View) (
   }
 
   pub turn_end : (r : Result (Unit {0}) Error) (w : View) → length ss ≤ i
-      → read r w ≡ skip_at pending v
-      → without_place (read r w) ≡ without_place (pass_all limit e ss all)
+      → read_of r w ≡ skip_at pending v
+      → without_place (read_of r w) ≡ without_place (pass_all limit e ss all)
   unfolding pass_all
   turn_end r w le h =
       let none = ap (λ fs. without_place (skip_at pending v >>= λ p. pass_all limit e fs p.1))

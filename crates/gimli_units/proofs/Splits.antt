@@ -15,7 +15,7 @@ use Rattle.gimli_units.specs.Entry.{Entry, is_null}
 use Rattle.gimli_units.specs.RawPlace.{below_flag, depth_after}
 use Rattle.gimli_units.specs.Rows.{Row, Ahead, offset_of_view, ahead_at}
 use Rattle.gimli_units.proofs.RowChain.{AreRows, exist_rows, unique_rows}
-use Rattle.gimli_units.specs.Honest.{closes, past, AreHonestUntil}
+use Rattle.gimli_units.specs.Honest.{closes, past_closer, AreHonestUntil}
 use Rattle.gimli_units.specs.CursorPlace.{skip_until, has_depth, seek, IsPlaceUntil}
 
 pub false_is_true : false ≡ true → ⊥
@@ -84,7 +84,7 @@ module _ (next : View → Reads Entry) (end : ℕ)
   -- after the closer.
   pub splits : (rows : List Row) (v : View) (depth : ℤ) (refusal : Option Error) (stop : ℕ)
       (stop_depth : ℤ) → AreRows next end v depth rows refusal stop stop_depth
-      → (d sought : ℤ) (t : ℕ) → (d +ℤ pos 1) ≤ℤ depth → sought ≤ℤ d → past d rows ≡ Some t
+      → (d sought : ℤ) (t : ℕ) → (d +ℤ pos 1) ≤ℤ depth → sought ≤ℤ d → past_closer d rows ≡ Some t
       → Split next end v d sought t rows refusal stop stop_depth
   splits [] v depth refusal stop stop_depth are d sought t above low leads = absurd (cc)
   splits (r ∷ rows) v depth refusal stop stop_depth (w, is, more) d sought t above low leads =
@@ -96,7 +96,7 @@ module _ (next : View → Reads Entry) (end : ℕ)
       deeper = not_equal r.depth sought (λ e. let at_depth = is.depth_is in omega (arith, ints))
 
       cases : (b : Bool) → closes d r ≡ b
-          → ((d +ℤ pos 1) ≤ℤ depth_after r.entry depth → past d rows ≡ Some t
+          → ((d +ℤ pos 1) ≤ℤ depth_after r.entry depth → past_closer d rows ≡ Some t
           → Split next end w d sought t rows refusal stop stop_depth)
           → Split next end v d sought t (r ∷ rows) refusal stop stop_depth
       cases true closed on =
@@ -114,7 +114,7 @@ module _ (next : View → Reads Entry) (end : ℕ)
             places = λ o x p. inr (deeper, p);
           }
       cases false other on =
-          let leads_on : past d rows ≡ Some t = rw other at leads in
+          let leads_on : past_closer d rows ≡ Some t = rw other at leads in
           let up = stays_above r.entry d depth above (rw is.depth_is at other) in
           let s = on up leads_on in
           record {
@@ -157,7 +157,7 @@ module _ (next : View → Reads Entry) (end : ℕ)
 
   pub jump : (v : View) (depth d sought : ℤ) (offset t : ℕ) → length v.bytes ≤ end
       → (d +ℤ pos 1) ≤ℤ depth → sought ≤ℤ d
-      → past d (ahead_at next end depth v).rows ≡ Some t
+      → past_closer d (ahead_at next end depth v).rows ≡ Some t
       → Kept sought offset v depth (cut (t - offset_of_view end v) v) d
   unfolding seek
   jump v depth d sought offset t fits above low leads =

@@ -4,7 +4,7 @@ use Rattle.std.specs.Prelude.{◌≡◌, ℕ, ◌-◌, ◌<◌, ◌≤◌, ℤ, 
 use Rattle.std.specs.Prelude.{Ok}
 use Rattle.std.proofs.Common.{refl, arith, le-leb, lt-ltb}
 use Rattle.gimli_base.specs.declared.error.Error.{Error}
-use Rattle.gimli_base.specs.Table.{Table, found}
+use Rattle.gimli_base.specs.Table.{Table, codes_of}
 use Rattle.gimli_base.specs.View.{cut}
 use Rattle.gimli_units.specs.Entry.{entry_at}
 use Rattle.gimli_units.specs.RawPlace.{RawPlace, next_offset_of}
@@ -58,7 +58,7 @@ module _ (limit : ℕ) where
 pub unit_reads : (limit : ℕ) (u : UnitView) (t : Table)
     (fits : length u.entries.bytes ≤ whole_length u) (c : CursorView) (s : StandsIn u t c) (o : ℕ)
     → next_offset_of c.raw ≤ o → o < whole_length u
-    → unit_entry_at limit u (found t) o ≡ some_entry o (next_of limit c.raw (view_from c.raw o))
+    → unit_entry_at limit u (codes_of t) o ≡ some_entry o (next_of limit c.raw (view_from c.raw o))
 unfolding unit_entry_at range_from
 unit_reads limit u t fits c s o low high =
     let below = header_low limit u t fits c s in
@@ -72,7 +72,7 @@ pub unit_bytes : (limit : ℕ) (u : UnitView) (t : Table)
     (fits : length u.entries.bytes ≤ whole_length u) (c : CursorView) (s : StandsIn u t c) (o : ℕ)
     → next_offset_of c.raw ≤ o
     → next_of limit c.raw (view_from c.raw o)
-    ≡ entry_at limit u.encoding (found t) (cut (o - header_size u) u.entries)
+    ≡ entry_at limit u.encoding (codes_of t) (cut (o - header_size u) u.entries)
 unit_bytes limit u t fits c s o low =
     rw (unit_view limit u t fits c s o low, s.encoding, s.abbreviations) refl
 
@@ -80,7 +80,7 @@ unit_bytes limit u t fits c s o low =
 pub root_law : (limit : ℕ) (u : UnitView) (t : Table) → length u.entries.bytes ≤ whole_length u
     → (old new : TreeView) → StandsIn u t (before_first true old.start)
     → HasBegun limit old (Ok tt) new
-    → unit_entry_at limit u (found t) new.cursor.offset ≡ Ok new.cursor.entry
+    → unit_entry_at limit u (codes_of t) new.cursor.offset ≡ Ok new.cursor.entry
 root_law limit u t fits old new s h =
     let y = h.yes refl in
     entry_law limit u t fits (before_first true old.start) s new.cursor h.unit.end y.0 y.1
@@ -89,7 +89,7 @@ root_law limit u t fits old new s h =
 pub next_law : (limit : ℕ) (u : UnitView) (t : Table) → length u.entries.bytes ≤ whole_length u
     → (depth : ℤ) (old new : TreeView) → StandsIn u t old.cursor
     → HasGoneOn limit depth old (Ok true) new
-    → unit_entry_at limit u (found t) new.cursor.offset ≡ Ok new.cursor.entry
+    → unit_entry_at limit u (codes_of t) new.cursor.offset ≡ Ok new.cursor.entry
 next_law limit u t fits depth old new s h =
     let y = h.sought.yes refl in
     entry_law limit u t fits old.cursor s new.cursor h.sought.unit.end y.0 y.1

@@ -25,9 +25,10 @@ use Rattle.gimli_units.specs.CursorMoves.{IsTrueEntry, IsSound}
 use Rattle.gimli_units.specs.CursorRead.{after_entry, after_refusal, HasRead, an_entry, the_end}
 use Rattle.gimli_units.specs.CursorRead.{a_refusal, HasSought, Stands}
 use Rattle.gimli_units.specs.CursorStart.{before_first}
-use Rattle.gimli_units.specs.TreePlace.{TreeMoved, Lists, list_end, a_fault, rooted, to_root}
+use Rattle.gimli_units.specs.TreePlace.{TreeMoved, Lists, list_end, a_fault, at_root, to_root}
 use Rattle.gimli_units.specs.TreePlace.{found_in, to_next}
-use Rattle.gimli_units.specs.TreeMoves.{TreeView, before_root, IsTree, list_of, in_lists, begun}
+use Rattle.gimli_units.specs.TreeMoves.{TreeView, before_root, IsTree, list_of, in_lists}
+use Rattle.gimli_units.specs.TreeMoves.{root_moved}
 use Rattle.gimli_units.specs.TreeMoves.{gone_on, HasBegun, HasGoneOn}
 use Rattle.gimli_units.proofs.CursorSteps.{rows_entry, rows_refusal, rows_over}
 use Rattle.gimli_units.proofs.Onward.{Onward, onward_start, onward_read, true_entry, unless_then}
@@ -123,13 +124,14 @@ module _ (limit : ℕ) (t : TreeView) (s : IsTree t) where
 
   -- some entry of a read
   rooted_entry : (b : Bool) (c : CursorView) → is_null c.entry ≡ false
-      → rooted (record { outcome = Ok b; place = place_of limit c })
-      ≡ begun limit (Ok tt) (record { start = t.start; cursor = c })
+      → at_root (record { outcome = Ok b; place = place_of limit c })
+      ≡ root_moved limit (Ok tt) (record { start = t.start; cursor = c })
   rooted_entry b c entry = rw entry refl
 
   rooted_null : (b : Bool) (c : CursorView) → is_null c.entry ≡ true
-      → rooted (record { outcome = Ok b; place = place_of limit c })
-      ≡ begun limit (Err (NoEntryAtGivenOffset c.offset)) (record { start = t.start; cursor = c })
+      → at_root (record { outcome = Ok b; place = place_of limit c })
+      ≡ root_moved limit (Err (NoEntryAtGivenOffset c.offset))
+      (record { start = t.start; cursor = c })
   rooted_null b c null = rw null refl
 
   first_entry : (e : Entry) (w : View) → (length t.start.rest.bytes ≡ 0 → ⊥)
@@ -149,29 +151,29 @@ module _ (limit : ℕ) (t : TreeView) (s : IsTree t) where
 
   goes_root : (e : Entry) (w : View) → (length t.start.rest.bytes ≡ 0 → ⊥)
       → Ok (e, w) ≡ next_of limit t.start t.start.rest → is_null e ≡ false
-      → begun limit (Ok tt) (record { start = t.start; cursor = after_entry first e w })
+      → root_moved limit (Ok tt) (record { start = t.start; cursor = after_entry first e w })
       ≡ to_root t.start.end (rows_of limit t.start)
   unfolding to_root
   goes_root e w some reads entry =
       sym (rooted_entry (not (is_null e)) (after_entry first e w) entry)
-      ∙ ap rooted (first_entry e w some reads)
+      ∙ ap at_root (first_entry e w some reads)
 
   goes_null : (e : Entry) (w : View) → (length t.start.rest.bytes ≡ 0 → ⊥)
       → Ok (e, w) ≡ next_of limit t.start t.start.rest → is_null e ≡ true
-      → begun limit (Err (NoEntryAtGivenOffset (next_offset_of t.start)))
+      → root_moved limit (Err (NoEntryAtGivenOffset (next_offset_of t.start)))
       (record { start = t.start; cursor = after_entry first e w })
       ≡ to_root t.start.end (rows_of limit t.start)
   unfolding to_root
   goes_null e w some reads null =
       sym (rooted_null (not (is_null e)) (after_entry first e w) null)
-      ∙ ap rooted (first_entry e w some reads)
+      ∙ ap at_root (first_entry e w some reads)
 
   goes_fault : (e : Error) → (length t.start.rest.bytes ≡ 0 → ⊥)
       → Err e ≡ next_of limit t.start t.start.rest
-      → begun limit (Err e) (record { start = t.start; cursor = after_refusal first })
+      → root_moved limit (Err e) (record { start = t.start; cursor = after_refusal first })
       ≡ to_root t.start.end (rows_of limit t.start)
   unfolding to_root
-  goes_fault e some reads = ap rooted (first_refusal e some reads)
+  goes_fault e some reads = ap at_root (first_refusal e some reads)
 
   null_refused : (e : Entry) (w : View) → Ok (e, w) ≡ next_of limit t.start t.start.rest
       → is_null e ≡ true

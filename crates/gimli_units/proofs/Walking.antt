@@ -9,7 +9,7 @@ use Rattle.gimli_base.specs.declared.error.Error.{Error}
 use Rattle.gimli_base.specs.View.{View}
 use Rattle.gimli_base.specs.Reading.{Reads, UnlessMemory}
 use Rattle.gimli_units.specs.Entry.{Entry, is_null, null_entry}
-use Rattle.gimli_base.specs.Table.{found}
+use Rattle.gimli_base.specs.Table.{codes_of}
 use Rattle.gimli_units.proofs.EntryReads.{entry_at-shorter}
 use Rattle.gimli_units.specs.RawPlace.{RawPlace, next_offset_of}
 use Rattle.gimli_units.specs.Rows.{Row}
@@ -164,7 +164,7 @@ module _ (limit : ℕ) where
       → length new.raw.rest.bytes < length here.raw.rest.bytes
   read_shorter here outcome new (an_entry e w some reads is same) holds =
       rw same
-      (entry_at-shorter limit here.raw.encoding (found here.raw.abbreviations) here.raw.rest w e
+      (entry_at-shorter limit here.raw.encoding (codes_of here.raw.abbreviations) here.raw.rest w e
       reads)
   read_shorter here outcome new (the_end none is same) holds =
       let x : ◌≡◌ {A = Result Bool Error} (Ok false) (Ok true) = sym is ∙ holds in absurd (cc)

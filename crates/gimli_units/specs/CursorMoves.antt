@@ -7,14 +7,14 @@ use Rattle.gimli_base.specs.declared.error.Error.TheVariants.{OutOfMemory}
 use Rattle.gimli_base.specs.Offset.{answer_of}
 use Rattle.gimli_base.specs.View.{View, cut}
 use Rattle.gimli_base.specs.Reading.{Reads}
-use Rattle.gimli_base.specs.Table.{found}
+use Rattle.gimli_base.specs.Table.{codes_of}
 use Rattle.gimli_base.specs.View.{IsLater}
 use Rattle.gimli_units.specs.declared.entry.DebuggingInformationEntry.{DebuggingInformationEntry}
 use Rattle.gimli_units.specs.Entry.{Entry, entry_of, entry_at, abbreviation_at, takes_memory}
 use Rattle.gimli_units.specs.Entry.{null_entry, is_null}
 use Rattle.gimli_units.specs.RawPlace.{RawPlace, next_offset_of, depth_after}
 use Rattle.gimli_units.specs.Rows.{Row, Ahead, ahead_at}
-use Rattle.gimli_units.specs.Honest.{usable, IsHonest, AreHonestUntil}
+use Rattle.gimli_units.specs.Honest.{usable_target, IsHonest, AreHonestUntil}
 use Rattle.gimli_units.specs.CursorPlace.{Place, Moved, some_of, IsPlaceUntil}
 
 -- A cursor: where its reader stands, the entry that it read last (a null, where there is no current
@@ -44,7 +44,7 @@ cursor_held f g raw e follows reads =
 
 -- the next entry of a reader's unit
 abbrev pub next_of : ℕ → RawPlace → View → Reads Entry
-next_of limit p = entry_at limit p.encoding (found p.abbreviations)
+next_of limit p = entry_at limit p.encoding (codes_of p.abbreviations)
 
 -- the rows ahead of a reader
 abbrev pub rows_of : ℕ → RawPlace → Ahead
@@ -80,7 +80,7 @@ pub record IsHonestFor (limit : ℕ) (sought : ℤ) (c : CursorView) : Type 0 wh
 
 -- where the reference of the current entry leads, if it is followed
 abbrev pub followed_to : CursorView → Option ℕ
-followed_to c = if c.follows then usable c.raw.end (last_row c) else None
+followed_to c = if c.follows then usable_target c.raw.end (last_row c) else None
 
 -- the bytes from an offset on, which is not before what a reader reads next
 abbrev pub view_from : RawPlace → ℕ → View
@@ -98,7 +98,7 @@ what_at limit p offset =
 -- whether reading what stands at an offset takes memory
 abbrev pub takes_memory_at : RawPlace → ℕ → Bool
 takes_memory_at p offset =
-    takes_memory (abbreviation_at (found p.abbreviations) (view_from p offset))
+    takes_memory (abbreviation_at (codes_of p.abbreviations) (view_from p offset))
 
 -- the same unit, read in the same way
 pub record IsSameUnit (old new : CursorView) : Type 0 where

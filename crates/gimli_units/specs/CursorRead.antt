@@ -6,7 +6,7 @@ use Rattle.std.specs.Prelude.{Err, OnErr}
 use Rattle.std.specs.Ordering.{int_eq}
 use Rattle.gimli_base.specs.declared.error.Error.{Error}
 use Rattle.gimli_base.specs.declared.error.Error.TheVariants.{OutOfMemory}
-use Rattle.gimli_base.specs.View.{View, ended}
+use Rattle.gimli_base.specs.View.{View, end_of_view}
 use Rattle.gimli_base.specs.Reading.{UnlessMemory}
 use Rattle.gimli_units.specs.Entry.{Entry, null_entry, is_null}
 use Rattle.gimli_units.specs.RawPlace.{RawPlace, next_offset_of, depth_after}
@@ -51,7 +51,7 @@ after_entry c e w =
 abbrev pub after_refusal : CursorView → CursorView
 after_refusal c =
     record {
-      raw = stands_at c.raw (ended c.raw.rest) c.raw.depth;
+      raw = stands_at c.raw (end_of_view c.raw.rest) c.raw.depth;
       entry = null_entry;
       offset = next_offset_of c.raw;
       depth = c.raw.depth;
@@ -95,8 +95,8 @@ reference_for sought c =
     if int_le sought c.depth then (if c.follows then target (kind_of c.entry) else None) else None
 
 -- the entry is left: for where its reference leads, at its depth, if that is followed
-abbrev pub following : ℤ → CursorView → CursorView
-following sought c =
+abbrev pub leave_entry : ℤ → CursorView → CursorView
+leave_entry sought c =
     record {
       raw = stands_if c.raw (target_for sought c) c.depth;
       entry = null_entry;
@@ -114,12 +114,12 @@ Stands limit outcome new m =
 -- where a search for a depth ends: at what has that depth, at the end of the bytes, or at a refusal
 pub data EndsSearch (limit : ℕ) (depth : ℤ) (offset : ℕ) (here : CursorView)
     (outcome : Result Bool Error) (new : CursorView) : Type 0 where
-  at_depth : HasRead limit (following depth here) (Ok true) new → int_eq new.depth depth ≡ true
+  at_depth : HasRead limit (leave_entry depth here) (Ok true) new → int_eq new.depth depth ≡ true
       → outcome ≡ Ok (not (is_null new.entry)) → EndsSearch limit depth offset here outcome new
-  at_end : (last : CursorView) → HasRead limit (following depth here) (Ok false) last
+  at_end : (last : CursorView) → HasRead limit (leave_entry depth here) (Ok false) last
       → outcome ≡ Ok false → new ≡ record last { offset = offset; depth = depth }
       → EndsSearch limit depth offset here outcome new
-  at_refusal : (e : Error) → HasRead limit (following depth here) (Err e) new
+  at_refusal : (e : Error) → HasRead limit (leave_entry depth here) (Err e) new
       → outcome ≡ Err e → EndsSearch limit depth offset here outcome new
 
 -- A search for a depth, read by read, whatever the references: n entries of other depths are
@@ -127,7 +127,7 @@ pub data EndsSearch (limit : ℕ) (depth : ℤ) (offset : ℕ) (here : CursorVie
 abbrev pub Searches : ℕ → ℕ → ℤ → ℕ → CursorView → Result Bool Error → CursorView → Type 0
 Searches limit zero depth offset here outcome new = EndsSearch limit depth offset here outcome new
 Searches limit (suc n) depth offset here outcome new =
-    (mid : CursorView) × HasRead limit (following depth here) (Ok true) mid
+    (mid : CursorView) × HasRead limit (leave_entry depth here) (Ok true) mid
     × (int_eq mid.depth depth ≡ false) × Searches limit n depth offset mid outcome new
 
 -- An entry of this depth was sought: where the rows are honest, the first row ahead that has it was

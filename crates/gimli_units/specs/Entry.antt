@@ -6,7 +6,7 @@ use Rattle.gimli_base.specs.declared.common.Encoding.{Encoding}
 use Rattle.gimli_base.specs.declared.constants.DwTag.{DwTag}
 use Rattle.gimli_base.specs.declared.error.Error.TheVariants.{InvalidAbbreviationCode}
 use Rattle.gimli_base.specs.View.{View}
-use Rattle.gimli_base.specs.Reading.{Reads, ◌>>=◌, made, uleb_at}
+use Rattle.gimli_base.specs.Reading.{Reads, ◌>>=◌, map_read, uleb_at}
 use Rattle.gimli_base.specs.Abbreviations.{Specification, Declaration, Map}
 use Rattle.gimli_units.specs.declared.attribute.Attribute.{Attribute}
 use Rattle.gimli_units.specs.declared.entry.DebuggingInformationEntry.{DebuggingInformationEntry}
@@ -20,14 +20,14 @@ Attr = Attribute View ℕ
 -- the attribute of a specification
 unfoldable pub attribute_at : ℕ → Encoding → Specification → View → Reads Attr
 attribute_at limit e s v =
-    made (λ x. record { name = s.name; form = s.form; value = x })
+    map_read (λ x. record { name = s.name; form = s.form; value = x })
     (value_at limit e s.name.0 s.constant s.form.0 v)
 
 -- the attributes of these specifications, in their order
 unfoldable pub attributes_at : ℕ → Encoding → List Specification → View → Reads (List Attr)
 attributes_at limit e [] v = Ok ([], v)
 attributes_at limit e (s ∷ ss) v =
-    attribute_at limit e s v >>= λ p. made (λ xs. p.0 ∷ xs) (attributes_at limit e ss p.1)
+    attribute_at limit e s v >>= λ p. map_read (λ xs. p.0 ∷ xs) (attributes_at limit e ss p.1)
 
 -- an entry: a tag, whether children follow, and attributes. A null has the tag 0, which no other
 -- entry has.
@@ -75,7 +75,8 @@ entry_of_declared d xs =
 -- the entry of a declaration, or the null
 abbrev pub content_at : ℕ → Encoding → Option Declaration → View → Reads Entry
 content_at limit e None v = Ok (null_entry, v)
-content_at limit e (Some d) v = made (entry_of_declared d) (attributes_at limit e d.attributes v)
+content_at limit e (Some d) v =
+    map_read (entry_of_declared d) (attributes_at limit e d.attributes v)
 
 -- the next entry
 unfoldable pub entry_at : ℕ → Encoding → Map → View → Reads Entry

@@ -3,7 +3,7 @@
 use Rattle.std.specs.Prelude.{◌≡◌, ℕ, ◌==◌, Bool, true, false, not, if◌then◌else◌, List, [], ◌∷◌}
 use Rattle.std.specs.Prelude.{Option, Some, None, ◌⊎◌, ◌≤◌}
 use Rattle.gimli_units.specs.Rows.{Row}
-use Rattle.gimli_units.specs.Honest.{past, usable, IsHonest}
+use Rattle.gimli_units.specs.Honest.{past_closer, usable_target, IsHonest}
 
 -- a reference that leads to t does not lead just past a closer, or there is none
 abbrev pub misses : ℕ → Option ℕ → Bool
@@ -13,7 +13,10 @@ misses t (Some p) = not (p == t)
 -- a row, with the rows after it, whose reference can be followed and does not lead just past the
 -- closer
 abbrev pub is_false : ℕ → Row → List Row → Bool
-is_false end r rest = elim (usable end r) [ None ↦ false | Some t ↦ misses t (past r.depth rest) ]
+is_false end r rest = elim (usable_target end r) [
+  | None ↦ false
+  | Some t ↦ misses t (past_closer r.depth rest)
+]
 
 -- the offset of the first row whose reference is false
 abbrev pub first_false : ℕ → List Row → Option ℕ

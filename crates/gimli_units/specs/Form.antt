@@ -4,7 +4,8 @@ use Rattle.std.specs.Prelude.{List, [], ◌∷◌, length, Option, Some, None, O
 use Rattle.gimli_base.specs.declared.common.Encoding.{Encoding}
 use Rattle.gimli_base.specs.declared.error.Error.TheVariants.{UnknownForm, InvalidImplicitConst}
 use Rattle.gimli_base.specs.View.{View}
-use Rattle.gimli_base.specs.Reading.{Reads, ◌>>=◌, made, eof, byte_at, uint_at, split_at, uleb_at}
+use Rattle.gimli_base.specs.Reading.{Reads, ◌>>=◌, map_read, eof, byte_at, uint_at, split_at}
+use Rattle.gimli_base.specs.Reading.{uleb_at}
 use Rattle.gimli_base.specs.Reading.{uleb16_at, sleb_at, as_offset, uint_offset_at, offset_at}
 use Rattle.gimli_base.specs.Reading.{sized_offset_at, address_at, text_at, word_size_of}
 use Rattle.gimli_units.specs.Value.{Value}
@@ -47,26 +48,28 @@ uleb_offset_at limit v = as_offset limit (uleb_at v)
 
 -- the value in a layout, under a name and with the number of its declaration
 abbrev pub value_in : ℕ → Encoding → ℕ → Option ℤ → Layout → View → Reads Value
-value_in limit e name c (byte f) v = made f (byte_at v)
-value_in limit e name c (number n f) v = made f (uint_at n v)
+value_in limit e name c (byte f) v = map_read f (byte_at v)
+value_in limit e name c (number n f) v = map_read f (uint_at n v)
 value_in limit e name c (section_or n f) v =
     if word_size_of e.format == n
-    && is_section_name name e.version then made SecOffset (uint_offset_at limit n v)
-    else made f (uint_at n v)
-value_in limit e name c (address f) v = made f (address_at e.address_size v)
-value_in limit e name c (uleb f) v = made f (uleb_at v)
-value_in limit e name c (sleb f) v = made f (sleb_at v)
-value_in limit e name c (offset n f) v = made f (uint_offset_at limit n v)
-value_in limit e name c (word_offset f) v = made f (offset_at limit e.format v)
+    && is_section_name name e.version then map_read SecOffset (uint_offset_at limit n v)
+    else map_read f (uint_at n v)
+value_in limit e name c (address f) v = map_read f (address_at e.address_size v)
+value_in limit e name c (uleb f) v = map_read f (uleb_at v)
+value_in limit e name c (sleb f) v = map_read f (sleb_at v)
+value_in limit e name c (offset n f) v = map_read f (uint_offset_at limit n v)
+value_in limit e name c (word_offset f) v = map_read f (offset_at limit e.format v)
 value_in limit e name c (reference f) v =
-    made f
+    map_read f
     (if e.version == 2 then sized_offset_at limit e.address_size v else offset_at limit e.format v)
-value_in limit e name c (offset_leb f) v = made f (uleb_offset_at limit v)
+value_in limit e name c (offset_leb f) v = map_read f (uleb_offset_at limit v)
 value_in limit e name c (offset_leb_and n f) v =
-    uleb_offset_at limit v >>= λ p. made (f p.0) (uint_at n p.1)
-value_in limit e name c (block n f) v = made f (uint_offset_at limit n v >>= λ p. split_at p.0 p.1)
-value_in limit e name c (block_leb f) v = made f (uleb_offset_at limit v >>= λ p. split_at p.0 p.1)
-value_in limit e name c (text f) v = made f (text_at v)
+    uleb_offset_at limit v >>= λ p. map_read (f p.0) (uint_at n p.1)
+value_in limit e name c (block n f) v =
+    map_read f (uint_offset_at limit n v >>= λ p. split_at p.0 p.1)
+value_in limit e name c (block_leb f) v =
+    map_read f (uleb_offset_at limit v >>= λ p. split_at p.0 p.1)
+value_in limit e name c (text f) v = map_read f (text_at v)
 value_in limit e name c (nothing x) v = Ok (x, v)
 value_in limit e name c (constant f) v =
     elim c [ Some n ↦ Ok (f n, v) | None ↦ Err InvalidImplicitConst ]
@@ -83,7 +86,8 @@ direct_at limit e name c form v = elim (layout_of form) [
 -- the number of bytes, is enough.
 unfoldable pub form_within : ℕ → ℕ → View → Reads ℕ
 form_within zero form v = if form == 0x16 then Err (eof v) else Ok (form, v)
-form_within (suc n) form v = if form == 0x16 then (uleb16_at v >>= λ p. form_within n p.0 p.1) else Ok (form, v)
+form_within (suc n) form v =
+    if form == 0x16 then (uleb16_at v >>= λ p. form_within n p.0 p.1) else Ok (form, v)
 
 unfoldable pub form_at : ℕ → View → Reads ℕ
 form_at form v = form_within (length v.bytes) form v

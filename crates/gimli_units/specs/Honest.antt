@@ -12,9 +12,9 @@ abbrev pub closes : ℤ → Row → Bool
 closes depth r = is_null r.entry && int_eq r.depth (depth +ℤ pos 1)
 
 -- the offset just past the closer, which is the first null one deeper among the rows that follow
-abbrev pub past : ℤ → List Row → Option ℕ
-past depth [] = None
-past depth (r ∷ rest) = if closes depth r then Some r.next else past depth rest
+abbrev pub past_closer : ℤ → List Row → Option ℕ
+past_closer depth [] = None
+past_closer depth (r ∷ rest) = if closes depth r then Some r.next else past_closer depth rest
 
 -- where the reference of an entry with children leads
 abbrev pub target : Kind → Option ℕ
@@ -28,12 +28,12 @@ within low high (Some t) = if nat_le low t && nat_le t high then Some t else Non
 
 -- where it leads, if it can be followed: not before what is after the row, and not past the end of
 -- the bytes
-abbrev pub usable : ℕ → Row → Option ℕ
-usable end r = within r.next end (target (kind_of r.entry))
+abbrev pub usable_target : ℕ → Row → Option ℕ
+usable_target end r = within r.next end (target (kind_of r.entry))
 
 -- a row, with the rows after it: if its reference can be followed, it leads just past the closer
 abbrev pub IsHonest : ℕ → Row → List Row → Type 0
-IsHonest end r rest = (t : ℕ) → usable end r ≡ Some t → past r.depth rest ≡ Some t
+IsHonest end r rest = (t : ℕ) → usable_target end r ≡ Some t → past_closer r.depth rest ≡ Some t
 
 -- each row is honest
 abbrev pub AreHonest : ℕ → List Row → Type 0

@@ -37,15 +37,15 @@ udata_of (Sdata (pos n)) = Some n
 udata_of _ = None
 
 -- the number of n bits with a sign
-abbrev pub signed : ℕ → ℕ → ℤ
-signed n x = if nat_lt x (2 ^ (n - 1)) then pos x else pos x -ℤ pos (2 ^ n)
+abbrev pub signed_of : ℕ → ℕ → ℤ
+signed_of n x = if nat_lt x (2 ^ (n - 1)) then pos x else pos x -ℤ pos (2 ^ n)
 
 -- a signed number
 abbrev pub sdata_of : Value → Option ℤ
-sdata_of (Data1 n) = Some (signed 8 n)
-sdata_of (Data2 n) = Some (signed 16 n)
-sdata_of (Data4 n) = Some (signed 32 n)
-sdata_of (Data8 n) = Some (signed 64 n)
+sdata_of (Data1 n) = Some (signed_of 8 n)
+sdata_of (Data2 n) = Some (signed_of 16 n)
+sdata_of (Data4 n) = Some (signed_of 32 n)
+sdata_of (Data8 n) = Some (signed_of 64 n)
 sdata_of (Sdata z) = Some z
 sdata_of (Udata n) = if nat_lt n (2 ^ 63) then Some (pos n) else None
 sdata_of _ = None
@@ -144,8 +144,8 @@ ordering n = Ordering (record { 0 = n })
 abbrev pub visibility : ℕ → Value
 visibility n = Visibility (record { 0 = n })
 
-abbrev pub inlined : ℕ → Value
-inlined n = Inline (record { 0 = n })
+abbrev pub inline_value : ℕ → Value
+inline_value n = Inline (record { 0 = n })
 
 abbrev pub accessibility : ℕ → Value
 accessibility n = Accessibility (record { 0 = n })
@@ -196,7 +196,7 @@ conversions =
     (0x13, as_u16 language ∷ []) ∷  -- language
     (0x09, as_u8 ordering ∷ []) ∷  -- ordering
     (0x17, as_u8 visibility ∷ []) ∷  -- visibility
-    (0x20, as_u8 inlined ∷ []) ∷  -- inline
+    (0x20, as_u8 inline_value ∷ []) ∷  -- inline
     (0x32, as_u8 accessibility ∷ []) ∷  -- accessibility
     (0x36, as_u8 calling_convention ∷ []) ∷  -- calling_convention
     (0x3e, as_u8 base_type ∷ []) ∷  -- encoding
@@ -240,6 +240,6 @@ abbrev pub by_name : ℕ → List (ℕ × List (Value → Option Value)) → Val
 by_name name [] x = x
 by_name name (r ∷ rs) x = if name == r.0 then first_of_them r.1 x else by_name name rs x
 
-unfoldable pub normal : ℕ → Value → Value
+unfoldable pub normal_value : ℕ → Value → Value
 unfolding conversions
-normal name x = by_name name conversions x
+normal_value name x = by_name name conversions x

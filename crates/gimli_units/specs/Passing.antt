@@ -5,7 +5,7 @@ use Rattle.gimli_base.specs.declared.common.Encoding.{Encoding}
 use Rattle.gimli_base.specs.declared.error.Error.{Error}
 use Rattle.gimli_base.specs.declared.error.Error.TheVariants.{UnknownForm, UnexpectedEof}
 use Rattle.gimli_base.specs.View.{View}
-use Rattle.gimli_base.specs.Reading.{Reads, ◌>>=◌, made, uint_offset_at, text_at, word_size_of}
+use Rattle.gimli_base.specs.Reading.{Reads, ◌>>=◌, map_read, uint_offset_at, text_at, word_size_of}
 use Rattle.gimli_base.specs.Reading.{skip_at, skip_leb_at}
 use Rattle.gimli_base.specs.Abbreviations.{Specification}
 use Rattle.gimli_units.specs.Layout.{Layout, byte, number, section_or, address, uleb, sleb, offset}
@@ -50,7 +50,7 @@ pass limit e (offset_leb f) v = skip_leb_at v
 pass limit e (offset_leb_and n f) v = skip_leb_at v >>= λ p. skip_at n p.1
 pass limit e (block n f) v = uint_offset_at limit n v >>= λ p. skip_at p.0 p.1
 pass limit e (block_leb f) v = uleb_offset_at limit v >>= λ p. skip_at p.0 p.1
-pass limit e (text f) v = made (λ _. tt) (text_at v)
+pass limit e (text f) v = map_read (λ _. tt) (text_at v)
 
 -- the number of bytes of a form, where it does not depend on the bytes
 unfoldable pub known_size : Encoding → ℕ → Option ℕ

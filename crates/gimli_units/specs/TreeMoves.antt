@@ -66,9 +66,9 @@ abbrev pub in_lists : ℕ → TreeView → Lists → TreePlace
 in_lists limit t lists = record { ahead = rows_of limit t.cursor.raw; node = None; lists = lists }
 
 -- the root was asked for
-abbrev pub begun : ℕ → Result (Unit {0}) Error → TreeView → TreeMoved
-begun limit (Ok u) t = record { told = a_node (node_at t); place = on_node limit t [] }
-begun limit (Err e) t = record { told = a_fault e; place = in_lists limit t [] }
+abbrev pub root_moved : ℕ → Result (Unit {0}) Error → TreeView → TreeMoved
+root_moved limit (Ok u) t = record { told = a_node (node_at t); place = on_node limit t [] }
+root_moved limit (Err e) t = record { told = a_fault e; place = in_lists limit t [] }
 
 -- the next node of an open list was asked for
 abbrev pub gone_on : ℕ → ℤ → Lists → Result Bool Error → TreeView → TreeMoved
@@ -108,7 +108,7 @@ pub record HasBegun (limit : ℕ) (old : TreeView) (outcome : Result (Unit {0}) 
       × (record { outcome = b; place = place_of limit new.cursor }
       ≡ first_of_rows old.start.end (pos 0) 0 (rows_of limit old.start)))
   pub goes : UnlessMemory outcome
-      (begun limit outcome new ≡ to_root old.start.end (rows_of limit old.start))
+      (root_moved limit outcome new ≡ to_root old.start.end (rows_of limit old.start))
   pub yes : outcome ≡ Ok tt
       → IsTrueEntry limit (before_first true old.start) new.cursor
       × (is_null new.cursor.entry ≡ false)

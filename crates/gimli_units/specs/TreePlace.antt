@@ -47,8 +47,8 @@ node_of p = elim p.current [
 ]
 
 -- the first row was looked at: it is the root; a null is refused, and so is what can't be read
-abbrev pub rooted : Moved → TreeMoved
-rooted m = elim m.outcome [
+abbrev pub at_root : Moved → TreeMoved
+at_root m = elim m.outcome [
   | Err e ↦
       record { told = a_fault e; place = record { ahead = m.place.ahead; node = None; lists = [] } }
   | Ok b ↦ elim (node_of m.place) [
@@ -67,7 +67,7 @@ rooted m = elim m.outcome [
 
 -- Root: the first of a unit's rows, and no list. `end` is the offset of the end of the bytes.
 unfoldable pub to_root : ℕ → Ahead → TreeMoved
-to_root end rows = rooted (first_of_rows end (pos 0) 0 rows)
+to_root end rows = at_root (first_of_rows end (pos 0) 0 rows)
 
 -- A row of an open list's depth was sought: an entry is the node, and a null, or the end of the
 -- bytes, closes the list. After a refusal no row is ahead, so that every list ends.

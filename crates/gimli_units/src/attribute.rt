@@ -3,7 +3,7 @@
 ghost use Rattle.std.specs.Prelude.{◌≡◌, ◌^◌};
 ghost use Rattle.std.specs.Option.{option_map};
 ghost use Rattle.gimli_base.specs.Offset.{answer_of};
-ghost use Rattle.gimli_base.specs.Reading.{read};
+ghost use Rattle.gimli_base.specs.Reading.{read_of};
 ghost use Rattle.gimli_units.specs.Value.{map_value, map_attribute};
 ghost use Rattle.gimli_units.specs.Kind.{unit_reference};
 ghost use Rattle.gimli_units.specs.NormalValue.{udata_of, sdata_of, sec_offset_of, exprloc_of};
@@ -155,7 +155,7 @@ pub(crate) fn parse_attribute<R: Reader>(
     encoding: Encoding,
     specification: AttributeSpecification,
 ) -> Result<Attribute<R>>
-    ensures { read (answer_of (map_attribute R.view R.Offset.number) result) (R.view input.new)
+    ensures { read_of (answer_of (map_attribute R.view R.Offset.number) result) (R.view input.new)
         ≡ attribute_at R.Offset.limit encoding specification (R.view input.old) }
 {
     let value = parse_value(input, encoding, specification)?;

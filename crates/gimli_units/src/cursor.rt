@@ -11,7 +11,7 @@ ghost use Rattle.gimli_units.specs.CursorPlace.{some_of, has_depth};
 ghost use Rattle.gimli_units.specs.CursorMoves.{CursorView, cursor_held, Goes, IsSound};
 ghost use Rattle.gimli_units.specs.CursorStart.{before_first};
 ghost use Rattle.gimli_units.specs.CursorLent.{HasReadOn, HasWalked, HasWalkedOver};
-ghost use Rattle.gimli_units.specs.CursorRead.{HasRead, HasSought, following, reference_for};
+ghost use Rattle.gimli_units.specs.CursorRead.{HasRead, HasSought, leave_entry, reference_for};
 
 use crate::{DebuggingInformationEntry, EntriesRaw, UnitOffset};
 use gimli_base::{Reader, ReaderOffset, Result};
@@ -207,7 +207,7 @@ impl<'abbrev, R: Reader, A: Allocator> EntriesCursor<'abbrev, R, A> {
 
     // Leaves the entry: for where its reference leads, if that is followed.
     fn follow(&mut self, sought: isize)
-        ensures { self.new ≡ following sought self.old }
+        ensures { self.new ≡ leave_entry sought self.old }
     {
         match self.reference(sought) {
             Some(target) => {

@@ -4,7 +4,7 @@ ghost use Rattle.std.specs.Prelude.{◌≡◌, [], false, pos, map, IsOk, IfOk, 
 ghost use Rattle.std.specs.Option.{option_map, option_copied, is_some};
 ghost use Rattle.gimli_base.specs.declared.error.Error.TheVariants.{OutOfMemory};
 ghost use Rattle.gimli_units.specs.Value.{map_value, map_attribute};
-ghost use Rattle.gimli_units.specs.NormalValue.{normal};
+ghost use Rattle.gimli_units.specs.NormalValue.{normal_value};
 ghost use Rattle.gimli_units.specs.Kind.{kind_of};
 ghost use Rattle.gimli_units.specs.Honest.{target};
 ghost use Rattle.gimli_units.specs.Entry.{Entry, null_entry, is_null, entry_of, first_of};
@@ -169,7 +169,7 @@ impl<R: Reader, A: Allocator> DebuggingInformationEntry<R, A> {
     /// The value of the first attribute of this name, as the name makes it.
     pub fn attr_value(&self, name: DwAt) -> Option<AttributeValue<R>>
         ensures { option_map (map_value R.view R.Offset.number) result
-            ≡ option_map (λ a. normal a.name.0 (map_value R.view R.Offset.number a.value))
+            ≡ option_map (λ a. normal_value a.name.0 (map_value R.view R.Offset.number a.value))
             (first_of name.0 self.now.attrs.items) }
     {
         self.attr(name).map(|attr| attr.value())

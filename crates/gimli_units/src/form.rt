@@ -2,7 +2,7 @@
 
 ghost use Rattle.std.specs.Prelude.{◌≡◌, ◌≤◌};
 ghost use Rattle.gimli_base.specs.Offset.{answer_of};
-ghost use Rattle.gimli_base.specs.Reading.{read, address_at, uint_offset_at};
+ghost use Rattle.gimli_base.specs.Reading.{read_of, address_at, uint_offset_at};
 ghost use Rattle.gimli_units.specs.Value.{map_value};
 ghost use Rattle.gimli_units.specs.Form.{is_section_name, uleb_offset_at, direct_at, form_at};
 ghost use Rattle.gimli_units.specs.Form.{value_at};
@@ -57,7 +57,7 @@ fn allow_section_offset(name: DwAt, version: u16) -> bool
 #[inline(always)]
 #[tactic(auto, unfolding(gimli_base::specs::Reading::address_at))]
 fn address<R: Reader>(input: &mut R, size: u8) -> Result<u64>
-    ensures { read result (R.view input.new) ≡ address_at size (R.view input.old) }
+    ensures { read_of result (R.view input.new) ≡ address_at size (R.view input.old) }
 {
     if size == 8 {
         return input.read_u64();
@@ -70,7 +70,7 @@ fn address<R: Reader>(input: &mut R, size: u8) -> Result<u64>
 
 // The next three bytes as an offset; where they are refused, the input is left anywhere.
 fn three_byte_offset<R: Reader>(input: &mut R) -> Result<R::Offset>
-    ensures { read (answer_of R.Offset.number result) (R.view input.new)
+    ensures { read_of (answer_of R.Offset.number result) (R.view input.new)
         ≡ uint_offset_at R.Offset.limit 3 (R.view input.old) }
 {
     R::Offset::from_u64(input.read_uint(3)?)
@@ -79,7 +79,7 @@ fn three_byte_offset<R: Reader>(input: &mut R) -> Result<R::Offset>
 // The next LEB128 number as an offset; where it is refused, the input is left anywhere.
 #[inline(always)]
 pub(crate) fn uleb128_offset<R: Reader>(input: &mut R) -> Result<R::Offset>
-    ensures { read (answer_of R.Offset.number result) (R.view input.new)
+    ensures { read_of (answer_of R.Offset.number result) (R.view input.new)
         ≡ uleb_offset_at R.Offset.limit (R.view input.old) }
 {
     R::Offset::from_u64(input.read_uleb128()?)
@@ -95,7 +95,7 @@ fn direct<R: Reader>(
     constant: Option<i64>,
     form: DwForm,
 ) -> Result<AttributeValue<R>>
-    ensures { read (answer_of (map_value R.view R.Offset.number) result) (R.view input.new)
+    ensures { read_of (answer_of (map_value R.view R.Offset.number) result) (R.view input.new)
         ≡ direct_at R.Offset.limit encoding name.0 constant form.0 (R.view input.old) }
 {
     match form {
@@ -229,7 +229,7 @@ fn direct<R: Reader>(
 // anywhere.
 #[tactic(auto, unfolding(crate::specs::Form::form_at))]
 pub(crate) fn direct_form<R: Reader>(input: &mut R, form: DwForm) -> Result<DwForm>
-    ensures { read (answer_of (λ f. f.0) result) (R.view input.new)
+    ensures { read_of (answer_of (λ f. f.0) result) (R.view input.new)
         ≡ form_at form.0 (R.view input.old) }
 {
     let mut form = form;
@@ -247,7 +247,7 @@ pub(crate) fn parse_value<R: Reader>(
     encoding: Encoding,
     specification: AttributeSpecification,
 ) -> Result<AttributeValue<R>>
-    ensures { read (answer_of (map_value R.view R.Offset.number) result) (R.view input.new)
+    ensures { read_of (answer_of (map_value R.view R.Offset.number) result) (R.view input.new)
         ≡ value_at R.Offset.limit encoding specification.name.0 specification.constant
         specification.form.0 (R.view input.old) }
 {

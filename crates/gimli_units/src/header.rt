@@ -6,7 +6,7 @@ ghost use Rattle.std.specs.Option.{option_map};
 ghost use Rattle.gimli_base.specs.Offset.{answer_of};
 ghost use Rattle.gimli_base.specs.Abbreviations.{map_at};
 ghost use Rattle.gimli_base.specs.Address.{min_tombstone};
-ghost use Rattle.gimli_base.specs.Table.{found};
+ghost use Rattle.gimli_base.specs.Table.{codes_of};
 ghost use Rattle.gimli_base.specs.Reading.{initial_length_size_of, is_size, UnlessMemory};
 ghost use Rattle.gimli_units.specs.Entry.{entry_of};
 ghost use Rattle.gimli_units.specs.UnitKind.{map_type};
@@ -298,7 +298,7 @@ impl<R: Reader> UnitHeader<R> {
         debug_abbrev: &DebugAbbrev<R>,
     ) -> Result<Abbreviations<A>>
         ensures { UnlessMemory result
-            (answer_of found result
+            (answer_of codes_of result
             ≡ map_at (unit_view self.now).abbreviations
             (⟦<DebugAbbrev<R> as Section<R>>⟧.content debug_abbrev.now)) }
     {
@@ -378,12 +378,12 @@ impl<R: Reader> UnitHeader<R> {
     ) -> Result<DebuggingInformationEntry<R, A>>
         ensures value { UnlessMemory result
             (answer_of (entry_of R.view R.Offset.number) result
-            ≡ unit_entry_at R.Offset.limit (unit_view self.now) (found abbreviations.now)
+            ≡ unit_entry_at R.Offset.limit (unit_view self.now) (codes_of abbreviations.now)
             (R.Offset.number offset.0)) }
-        ensures without_memory { takes_memory_in (found abbreviations.now)
+        ensures without_memory { takes_memory_in (codes_of abbreviations.now)
             (range_from (unit_view self.now) (R.Offset.number offset.0)) ≡ false
             → answer_of (entry_of R.view R.Offset.number) result
-            ≡ unit_entry_at R.Offset.limit (unit_view self.now) (found abbreviations.now)
+            ≡ unit_entry_at R.Offset.limit (unit_view self.now) (codes_of abbreviations.now)
             (R.Offset.number offset.0) }
         ensures offset { IfOk result (λ e. R.Offset.number e.offset.0 ≡ R.Offset.number offset.0) }
         ensures depth { IfOk result (λ e. e.depth ≡ pos 0) }

@@ -1,4 +1,6 @@
-//! Units and their entries: headers, attributes, and the reading of entries one after the other.
+//! Units and their entries: headers, attributes, entries read one after the other, and cursors and
+//! trees over them. Begin with `UnitHeader`, which gives the readers of a unit's entries:
+//! `EntriesRaw`, `EntriesCursor` and `EntriesTree`.
 #![tactic(auto)]
 
 mod attribute;

@@ -5,10 +5,10 @@ ghost use Rattle.std.specs.Prelude.{length, map, IsTrue, IsOk, IfOk, IfErr, OnOk
 ghost use Rattle.std.specs.Prelude.{[], true, false, unsigned_abs, Some};
 ghost use Rattle.std.specs.Option.{option_copied};
 ghost use Rattle.gimli_base.specs.Offset.{answer_of};
-ghost use Rattle.gimli_base.specs.View.{View, ended};
-ghost use Rattle.gimli_base.specs.Reading.{read, filled, UnlessMemory};
+ghost use Rattle.gimli_base.specs.View.{View, end_of_view};
+ghost use Rattle.gimli_base.specs.Reading.{read_of, answer_leaving, UnlessMemory};
 ghost use Rattle.gimli_base.specs.Reading.{PassesAs};
-ghost use Rattle.gimli_base.specs.Table.{Table, found};
+ghost use Rattle.gimli_base.specs.Table.{Table, codes_of};
 ghost use Rattle.gimli_units.specs.Value.{map_attribute};
 ghost use Rattle.gimli_units.specs.Entry.{attribute_at, attributes_at, abbreviation_at, entry_at};
 ghost use Rattle.gimli_units.specs.Entry.{entry_of, null_entry, is_null, takes_memory};
@@ -127,7 +127,7 @@ impl<'abbrev, R: Reader, A: Allocator> EntriesRaw<'abbrev, R, A> {
 
     // Leaves nothing to read.
     pub(crate) fn empty(&mut self)
-        ensures { self.new ≡ stands_at self.old (ended self.old.rest) self.old.depth }
+        ensures { self.new ≡ stands_at self.old (end_of_view self.old.rest) self.old.depth }
     {
         self.input.empty();
     }
@@ -158,8 +158,8 @@ impl<'abbrev, R: Reader, A: Allocator> EntriesRaw<'abbrev, R, A> {
     /// Refusals: `UnexpectedEof`, `BadUnsignedLeb128`, `InvalidAbbreviationCode`.
     #[inline(always)]
     pub fn read_abbreviation(&mut self) -> Result<Option<&'abbrev Abbreviation<A>>>
-        ensures value { read (answer_of option_copied result) self.new.rest
-            ≡ abbreviation_at (found self.old.abbreviations) self.old.rest }
+        ensures value { read_of (answer_of option_copied result) self.new.rest
+            ≡ abbreviation_at (codes_of self.old.abbreviations) self.old.rest }
         ensures depth { IfOk result
             (λ r. self.new.depth ≡ depth_read (option_copied r) self.old.depth) }
         ensures same { self.new ≡ record self.old { rest = self.new.rest; depth = self.new.depth } }
@@ -207,13 +207,13 @@ impl<'abbrev, R: Reader, A: Allocator> EntriesRaw<'abbrev, R, A> {
     #[tactic(auto, unfolding(crate::specs::Entry::entry_at))]
     pub fn read_entry(&mut self, entry: &mut DebuggingInformationEntry<R, A>) -> Result<bool>
         ensures value { let e = entry_of R.view R.Offset.number entry.new in
-            let declared = found self.old.abbreviations in
-            UnlessMemory result (read (filled e result) self.new.rest
+            let declared = codes_of self.old.abbreviations in
+            UnlessMemory result (read_of (answer_leaving e result) self.new.rest
             ≡ entry_at R.Offset.limit self.old.encoding declared self.old.rest) }
         ensures without_memory { let e = entry_of R.view R.Offset.number entry.new in
-            let declared = found self.old.abbreviations in
+            let declared = codes_of self.old.abbreviations in
             takes_memory (abbreviation_at declared self.old.rest) ≡ false
-            → read (filled e result) self.new.rest
+            → read_of (answer_leaving e result) self.new.rest
             ≡ entry_at R.Offset.limit self.old.encoding declared self.old.rest }
         ensures some { IfOk result
             (λ some. some ≡ not (is_null (entry_of R.view R.Offset.number entry.new))) }
@@ -263,9 +263,9 @@ impl<'abbrev, R: Reader, A: Allocator> EntriesRaw<'abbrev, R, A> {
     ) -> Result<()>
         requires shorter { length (R.view start.now).bytes < length self.old.rest.bytes }
         requires empty { attrs.old.items ≡ [] }
-        ensures value { UnlessMemory result
-            (read (filled (map (map_attribute R.view R.Offset.number) attrs.new.items) result)
-            self.new.rest ≡ attributes_at R.Offset.limit self.old.encoding specifications.now
+        ensures value { let read = map (map_attribute R.view R.Offset.number) attrs.new.items in
+            UnlessMemory result (read_of (answer_leaving read result) self.new.rest
+            ≡ attributes_at R.Offset.limit self.old.encoding specifications.now
             (R.view start.now)) }
         ensures none { specifications.now ≡ [] → IsOk result }
         ensures depth { OnOk result (self.new.depth ≡ below_flag has_children self.old.depth) }
@@ -284,7 +284,8 @@ impl<'abbrev, R: Reader, A: Allocator> EntriesRaw<'abbrev, R, A> {
     /// `UnsupportedOffset`, `UnsupportedOffsetSize`, `UnknownForm`, `InvalidImplicitConst`.
     #[inline(never)]
     pub fn read_attribute(&mut self, specification: AttributeSpecification) -> Result<Attribute<R>>
-        ensures value { read (answer_of (map_attribute R.view R.Offset.number) result) self.new.rest
+        ensures value { let answer = answer_of (map_attribute R.view R.Offset.number) result in
+            read_of answer self.new.rest
             ≡ attribute_at R.Offset.limit self.old.encoding specification self.old.rest }
         ensures same { self.new ≡ record self.old { rest = self.new.rest } }
         ensures kept { OnErr result (self.new ≡ self.old) }
@@ -293,12 +294,16 @@ impl<'abbrev, R: Reader, A: Allocator> EntriesRaw<'abbrev, R, A> {
     }
 
     /// The same as `read_attribute`, put in place where it is called.
+    ///
+    /// Refusals: `UnexpectedEof`, `BadUnsignedLeb128`, `BadSignedLeb128`, `UnsupportedAddressSize`,
+    /// `UnsupportedOffset`, `UnsupportedOffsetSize`, `UnknownForm`, `InvalidImplicitConst`.
     #[inline(always)]
     pub fn read_attribute_inline(
         &mut self,
         specification: AttributeSpecification,
     ) -> Result<Attribute<R>>
-        ensures value { read (answer_of (map_attribute R.view R.Offset.number) result) self.new.rest
+        ensures value { let answer = answer_of (map_attribute R.view R.Offset.number) result in
+            read_of answer self.new.rest
             ≡ attribute_at R.Offset.limit self.old.encoding specification self.old.rest }
         ensures same { self.new ≡ record self.old { rest = self.new.rest } }
         ensures kept { OnErr result (self.new ≡ self.old) }
@@ -315,11 +320,11 @@ impl<'abbrev, R: Reader, A: Allocator> EntriesRaw<'abbrev, R, A> {
     /// call's start and the input's end, `BadUnsignedLeb128`, `UnsupportedOffset`, `UnknownForm`.
     #[inline(always)]
     pub fn skip_attributes(&mut self, specifications: &[AttributeSpecification]) -> Result<()>
-        ensures value { without_place (read result self.new.rest)
+        ensures value { without_place (read_of result self.new.rest)
             ≡ without_place
             (pass_all R.Offset.limit self.old.encoding specifications.now self.old.rest) }
         ensures place { IfErr result (NamesPlaceOf self.old.rest) }
-        ensures as_read { PassesAs (read result self.new.rest)
+        ensures as_read { PassesAs (read_of result self.new.rest)
             (attributes_at R.Offset.limit self.old.encoding specifications.now self.old.rest) }
         ensures same { self.new ≡ record self.old { rest = self.new.rest } }
         ensures kept { OnErr result (self.new ≡ self.old) }
@@ -339,10 +344,9 @@ impl<'abbrev, R: Reader, A: Allocator> EntriesRaw<'abbrev, R, A> {
         specifications: &[AttributeSpecification],
         attrs: &mut Vec<Attribute<R>, A>,
     ) -> Result<()>
-        ensures value { UnlessMemory result
-            (read (filled (map (map_attribute R.view R.Offset.number) attrs.new.items) result)
-            self.new.rest ≡ attributes_at R.Offset.limit self.old.encoding specifications.now
-            self.old.rest) }
+        ensures value { let read = map (map_attribute R.view R.Offset.number) attrs.new.items in
+            UnlessMemory result (read_of (answer_leaving read result) self.new.rest
+            ≡ attributes_at R.Offset.limit self.old.encoding specifications.now self.old.rest) }
         ensures none { specifications.now ≡ [] → IsOk result }
         ensures empty { OnErr result (attrs.new.items ≡ []) }
         ensures same { self.new ≡ record self.old { rest = self.new.rest } }
@@ -371,8 +375,8 @@ fn parse_abbreviation<'abbrev, R: Reader, A: Allocator>(
     input: &mut R,
     abbreviations: &'abbrev Abbreviations<A>,
 ) -> Result<Option<&'abbrev Abbreviation<A>>>
-    ensures { read (answer_of option_copied result) (R.view input.new)
-        ≡ abbreviation_at (found abbreviations.now) (R.view input.old) }
+    ensures { read_of (answer_of option_copied result) (R.view input.new)
+        ≡ abbreviation_at (codes_of abbreviations.now) (R.view input.old) }
 {
     let code = input.read_uleb128()?;
     if code == 0 {
@@ -394,10 +398,9 @@ fn parse_attributes<R: Reader, A: Allocator>(
     attrs: &mut Vec<Attribute<R>, A>,
 ) -> Result<()>
     requires { attrs.old.items ≡ [] }
-    ensures value { UnlessMemory result
-        (read (filled (map (map_attribute R.view R.Offset.number) attrs.new.items) result)
-        (R.view input.new) ≡ attributes_at R.Offset.limit encoding specifications.now
-        (R.view input.old)) }
+    ensures value { let read = map (map_attribute R.view R.Offset.number) attrs.new.items in
+        UnlessMemory result (read_of (answer_leaving read result) (R.view input.new)
+        ≡ attributes_at R.Offset.limit encoding specifications.now (R.view input.old)) }
     ensures none { specifications.now ≡ [] → IsOk result }
 {
     attrs.reserve(specifications.len())?;

@@ -1,7 +1,7 @@
 //! Passing attributes without reading them.
 
 ghost use Rattle.std.specs.Prelude.{◌≡◌, IfErr};
-ghost use Rattle.gimli_base.specs.Reading.{read};
+ghost use Rattle.gimli_base.specs.Reading.{read_of};
 ghost use Rattle.gimli_units.specs.Passing.{pass_direct, pass_at, pass_all, without_place};
 ghost use Rattle.gimli_units.specs.Passing.{NamesPlaceOf};
 
@@ -23,7 +23,7 @@ use gimli_base::{
 // Passes a form that is not indirect; where it is refused, the input is left anywhere.
 #[tactic(auto, unfolding(crate::specs::Passing::pass_direct, gimli_base::specs::Reading::sized_offset_at))]
 fn skip_direct<R: Reader>(input: &mut R, encoding: Encoding, form: DwForm) -> Result<()>
-    ensures { read result (R.view input.new)
+    ensures { read_of result (R.view input.new)
         ≡ pass_direct R.Offset.limit encoding form.0 (R.view input.old) }
 {
     match form {
@@ -95,7 +95,7 @@ fn skip_direct<R: Reader>(input: &mut R, encoding: Encoding, form: DwForm) -> Re
 // Passes a value on a reader of its own; where it is refused, the input is left anywhere.
 #[inline(always)]
 fn skip_value<R: Reader>(input: &mut R, encoding: Encoding, form: DwForm) -> Result<()>
-    ensures { read result (R.view input.new)
+    ensures { read_of result (R.view input.new)
         ≡ pass_at R.Offset.limit encoding form.0 (R.view input.old) }
 {
     let mut rest = input.copy();
@@ -108,7 +108,7 @@ fn skip_value<R: Reader>(input: &mut R, encoding: Encoding, form: DwForm) -> Res
 #[inline(never)]
 #[tactic(auto, unfolding(crate::specs::Passing::pass_at))]
 fn skip_rare<R: Reader>(input: &mut R, encoding: Encoding, form: DwForm) -> Result<()>
-    ensures { read result (R.view input.new)
+    ensures { read_of result (R.view input.new)
         ≡ pass_at R.Offset.limit encoding form.0 (R.view input.old) }
 {
     let form = direct_form(input, form)?;
@@ -123,7 +123,7 @@ pub(crate) fn skip_all<R: Reader>(
     encoding: Encoding,
     specifications: &[AttributeSpecification],
 ) -> Result<()>
-    ensures value { without_place (read result (R.view input.new))
+    ensures value { without_place (read_of result (R.view input.new))
         ≡ without_place (pass_all R.Offset.limit encoding specifications.now (R.view input.old)) }
     ensures place { IfErr result (NamesPlaceOf (R.view input.old)) }
 {

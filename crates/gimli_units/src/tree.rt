@@ -129,6 +129,10 @@ impl<'abbrev, R: Reader, A: Allocator> EntriesTree<'abbrev, R, A> {
     }
 
     /// Goes to the root, as `root` does, without lending the tree.
+    ///
+    /// Refusals: those of `EntriesRaw::read_entry`, with `OutOfMemory` only where the declaration
+    /// has attributes, and `NoEntryAtGivenOffset` at a null. `entry` is then a null with the offset
+    /// and the depth of what was refused, and the tree is ready for another root.
     pub fn go_to_root(&mut self) -> Result<()>
         ensures begun { HasBegun R.Offset.limit self.old result self.new }
         ensures tree { IsTree self.new }
@@ -146,6 +150,10 @@ impl<'abbrev, R: Reader, A: Allocator> EntriesTree<'abbrev, R, A> {
     /// Goes to the next entry of a depth, as `EntriesTreeIter::next` does, without lending the
     /// tree; the depth is not the least of its type. Answers false at a null of that depth, and at
     /// the end of the bytes.
+    ///
+    /// Refusals: those of `EntriesRaw::read_entry`, with `OutOfMemory` only where the declaration
+    /// has attributes. Nothing is then left to read until the root is asked for, and `entry` is a
+    /// null with the offset and the depth of what was refused.
     pub fn go_to_next(&mut self, depth: isize) -> Result<bool>
         requires { unsigned_abs depth < 2 ^ 63 }
         ensures gone_on { HasGoneOn R.Offset.limit depth self.old result self.new }

@@ -10,7 +10,7 @@ use Rattle.gimli_base.specs.View.{View}
 use Rattle.gimli_base.specs.Abbreviations.{Map}
 use Rattle.gimli_units.specs.Unit.{UnitView, whole_length}
 use Rattle.gimli_walk.specs.declared.cursor.CursorStep.{CursorStep}
-use Rattle.gimli_base.specs.Table.{Table, found}
+use Rattle.gimli_base.specs.Table.{Table, codes_of}
 use Rattle.gimli_units.specs.CursorMoves.{CursorView}
 use Rattle.gimli_units.specs.CursorStart.{cursor_of}
 use Rattle.gimli_walk.specs.Runs.{run_of, IsRunOf, RunsAs}
@@ -80,7 +80,7 @@ module _ (limit : ℕ) (u : UnitView) (follows : Bool) (steps : List CursorStep)
       → length u.entries.bytes ≤ whole_length u → c ≡ cursor_of u t follows
       → ToldSteps (HasRun limit c steps)
       (λ all. Appends old new (concat (map answer_line all)) × (status ≡ status_of all))
-      (length steps) false → WroteSteps limit u (found t) follows steps old new status
+      (length steps) false → WroteSteps limit u (codes_of t) follows steps old new status
   told_wrote t c status fits is told = record {
     run = run_of told.all false;
     told = run_from limit u t follows None steps told.all false (length told.all) c fits (ap Ok is)
@@ -93,7 +93,7 @@ module _ (limit : ℕ) (u : UnitView) (follows : Bool) (steps : List CursorStep)
       → length u.entries.bytes ≤ whole_length u → c ≡ cursor_of u t follows
       → ToldSteps (HasRun limit c steps) (λ all. Appends old mid (concat (map answer_line all)))
       (length steps) true → Appends mid new memory_line
-      → WroteSteps limit u (found t) follows steps old new 1
+      → WroteSteps limit u (codes_of t) follows steps old new 1
   told_stopped t c mid fits is told h = record {
     run = run_of told.all true;
     told = run_from limit u t follows None steps told.all true (length told.all) c fits (ap Ok is)

@@ -6,7 +6,7 @@ use Rattle.std.proofs.Common.{◌∙◌, subst, arith, add-zero}
 use Rattle.std.specs.Prelude.{◌&&◌, nat_le, if◌then◌else◌}
 use Rattle.std.proofs.lemmas.Bool.{leb-true}
 use Rattle.gimli_base.specs.declared.error.Error.{Error}
-use Rattle.gimli_base.specs.Table.{Table, found}
+use Rattle.gimli_base.specs.Table.{Table, codes_of}
 use Rattle.gimli_base.proofs.Both.{both}
 use Rattle.gimli_base.specs.Offset.{answer_of}
 use Rattle.gimli_base.specs.View.{View, cut}
@@ -16,7 +16,7 @@ use Rattle.gimli_units.specs.Rows.{Ahead, ahead_at, offset_of_view}
 use Rattle.gimli_units.specs.Unit.{UnitView, whole_length, entries_of}
 use Rattle.gimli_units.specs.CursorStart.{before_first, raw_start, cursor_start}
 use Rattle.gimli_units.specs.Kind.{kind_of}
-use Rattle.gimli_units.specs.Honest.{IsHonest, AreHonestUntil, target, within, usable}
+use Rattle.gimli_units.specs.Honest.{IsHonest, AreHonestUntil, target, within, usable_target}
 use Rattle.gimli_units.specs.CursorPlace.{Place, some_of, next_of_depth, first_of_rows}
 use Rattle.gimli_units.specs.CursorMoves.{CursorView, next_of, rows_of, rows_from, view_from}
 use Rattle.gimli_units.specs.CursorMoves.{place_of, last_row, followed_to, IsHonestFor, IsTrueEntry}
@@ -30,7 +30,8 @@ use Rattle.gimli_walk.specs.declared.cursor.CursorStep.{CursorStep}
 use Rattle.gimli_walk.specs.declared.cursor.CursorStep.TheVariants.{NextEntry, NextDfs, NextSibling}
 use Rattle.gimli_walk.specs.Runs.{run_of, RunsAs}
 use Rattle.gimli_units.specs.UnitRows.{unit_rows_at, start_view, IsHonestFrom}
-use Rattle.gimli_walk.specs.Cursors.{Answer, step_of, told, start_of, answers_at, HoldsFrom}
+use Rattle.gimli_walk.specs.Cursors.{Answer, step_of, answer_of_move, start_of, answers_at}
+use Rattle.gimli_walk.specs.Cursors.{HoldsFrom}
 use Rattle.gimli_walk.specs.Cursors.{IsStopped, is_sibling, any_sibling}
 use Rattle.gimli_walk.specs.TrueAnswers.{IsAfterEntry, IsTrueAnswer, AreTrueAnswers, place_behind}
 use Rattle.gimli_walk.specs.TrueAnswers.{IsHonestBeside, IsNoSibling, a_null, at_end, IsStepped}
@@ -101,7 +102,7 @@ module _ (limit : ℕ) (u : UnitView) (t : Table)
   -- what is read next stands after an entry, or a null, that was read
   behind_entry : (c new : CursorView) (o : Result Bool Error) → StandsIn u t c
       → new.raw.end ≡ c.raw.end → IsTrueEntry limit c new
-      → IsAfterEntry limit u (found t) (answer_at o new) new.entry
+      → IsAfterEntry limit u (codes_of t) (answer_at o new) new.entry
   behind_entry c new o stands same y = record {
     rest = new.raw.rest;
     read = y.is ∙ unit_bytes limit u t fits c stands new.offset y.after;
@@ -111,7 +112,7 @@ module _ (limit : ℕ) (u : UnitView) (t : Table)
 
   -- an answer is true
   true_answer : (s : CursorStep) (c new : CursorView) (a : Answer) → StandsIn u t c
-      → HasAnswered limit s c a new → IsTrueAnswer limit u (found t) a
+      → HasAnswered limit s c a new → IsTrueAnswer limit u (codes_of t) a
   true_answer s c new a stands answered =
       let at = ap (λ (x : Answer). x.offset) answered.is in
       let end = answered.step.unit.end ∙ stands.end in
@@ -146,7 +147,7 @@ module _ (limit : ℕ) (u : UnitView) (t : Table)
 
   -- all answers are
   pub run_true : (steps : List CursorStep) (c : CursorView) (all : List Answer) → StandsIn u t c
-      → HasRun limit c steps all → AreTrueAnswers limit u (found t) all
+      → HasRun limit c steps all → AreTrueAnswers limit u (codes_of t) all
   run_true steps c [] stands run = tt
   run_true [] c (a ∷ all) stands run = absurd run
   run_true (s ∷ steps) c (a ∷ all) stands (new, answered, more) = (
@@ -163,7 +164,7 @@ module _ (limit : ℕ) (u : UnitView) (t : Table)
       ∙ unit_rows limit u t fits c stands (next_offset_of c.raw) c.raw.depth (omega arith)
 
   place_told : (o : Result Bool Error) (c : CursorView) → StandsIn u t c
-      → place_behind limit u (found t) (answer_at o c) ≡ place_of limit c
+      → place_behind limit u (codes_of t) (answer_at o c) ≡ place_of limit c
   place_told o c stands =
       let f : Ahead → Place = λ a.
       record { ahead = a; current = some_of c.entry; offset = c.offset; depth = c.depth } in
@@ -207,25 +208,25 @@ module _ (limit : ℕ) (u : UnitView) (t : Table)
       → HasAnswered limit s c a new
       → (c.follows ≡ true → is_sibling s ≡ true
       → IsHonestBeside (whole_length u) (place_of limit c))
-      → a ≡ told (step_of (whole_length u) s (place_of limit c))
+      → a ≡ answer_of_move (step_of (whole_length u) s (place_of limit c))
   moved s c new a stands answered honest = cases s refl (is_null c.entry) refl
     where
       gone : (is_sibling s ≡ true → c.follows ≡ true → IsHonestFor limit c.depth c)
-          → a ≡ told (step_of (whole_length u) s (place_of limit c))
+          → a ≡ answer_of_move (step_of (whole_length u) s (place_of limit c))
       gone h =
           let goes = unless_fine a.outcome (answered.step.moves h) answered.fine in
           answered.is ∙ told_is limit s c new a.outcome goes
-          ∙ ap (λ n. told (step_of n s (place_of limit c))) stands.end
+          ∙ ap (λ n. answer_of_move (step_of n s (place_of limit c))) stands.end
 
       still : is_sibling s ≡ true → is_null c.entry ≡ true
-          → a ≡ told (next_of_depth (whole_length u) (place_of limit c))
+          → a ≡ answer_of_move (next_of_depth (whole_length u) (place_of limit c))
       still sibling null =
           let k = answered.step.idle sibling null in
           answered.is ∙ ap (λ o. answer_at o new) k.0 ∙ ap (answer_at (Ok false)) k.1
-          ∙ seen_at limit (Ok false) c ∙ ap told (sym (idle_is (whole_length u) c null))
+          ∙ seen_at limit (Ok false) c ∙ ap answer_of_move (sym (idle_is (whole_length u) c null))
 
       cases : (x : CursorStep) → s ≡ x → (b : Bool) → is_null c.entry ≡ b
-          → a ≡ told (step_of (whole_length u) s (place_of limit c))
+          → a ≡ answer_of_move (step_of (whole_length u) s (place_of limit c))
       cases NextEntry is b null =
           gone (λ k. let x : false ≡ true = sym (ap is_sibling is) ∙ k in absurd (cc))
       cases NextDfs is b null =
@@ -237,17 +238,18 @@ module _ (limit : ℕ) (u : UnitView) (t : Table)
   -- no sibling was found
   not_found : (c new : CursorView) (a : Answer) (o : Result Bool Error) → StandsIn u t c
       → new.raw.end ≡ c.raw.end → a ≡ answer_at o new → IsNotFound limit c.depth c.offset c new
-      → (a.depth ≡ c.depth) × IsNoSibling limit u (found t) (place_of limit c) a
+      → (a.depth ≡ c.depth) × IsNoSibling limit u (codes_of t) (place_of limit c) a
   not_found c new a o stands same is (null, deep, either) = rw is (deep, cases either)
     where
       cases : IsTrueEntry limit c new ⊎ (IsOver new × (new.offset ≡ c.offset))
-          → IsNoSibling limit u (found t) (place_of limit c) (answer_at o new)
+          → IsNoSibling limit u (codes_of t) (place_of limit c) (answer_at o new)
       cases (inl y) = a_null (rw (← offset_is limit c.raw) y.after) new.entry null
           (behind_entry c new o stands same y)
       cases (inr (over, at)) = let end = stands.end in at_end (omega (arith, over, same, end)) at
 
   stepped : (s : CursorStep) (c new : CursorView) (a : Answer) → StandsIn u t c
-      → HasAnswered limit s c a new → IsStepped limit u (found t) c.follows s (place_of limit c) a
+      → HasAnswered limit s c a new
+      → IsStepped limit u (codes_of t) c.follows s (place_of limit c) a
   stepped s c new a stands answered =
       let at = ap (λ (x : Answer). x.offset) answered.is in
       record {
@@ -270,15 +272,16 @@ module _ (limit : ℕ) (u : UnitView) (t : Table)
   -- all answers are those of their steps
   pub run_stepped : (steps : List CursorStep) (c : CursorView) (all : List Answer) → StandsIn u t c
       → HasRun limit c steps all
-      → AreStepped limit u (found t) c.follows (place_of limit c) steps all
+      → AreStepped limit u (codes_of t) c.follows (place_of limit c) steps all
   run_stepped [] c all stands run = tt
   run_stepped (s ∷ steps) c [] stands run = tt
   run_stepped (s ∷ steps) c (a ∷ all) stands (new, answered, more) =
       let inside = step_stands u t c new stands answered.step.unit answered.step.further in
-      let place = ap (place_behind limit u (found t)) answered.is
+      let place = ap (place_behind limit u (codes_of t)) answered.is
       ∙ place_told a.outcome new inside in
-      let P : Place → Type 0 = λ p. AreStepped limit u (found t) c.follows p steps all in
-      let Q : Bool → Type 0 = λ f. AreStepped limit u (found t) f (place_of limit new) steps all in (
+      let P : Place → Type 0 = λ p. AreStepped limit u (codes_of t) c.follows p steps all in
+      let Q : Bool → Type 0 = λ f. AreStepped limit u (codes_of t) f (place_of limit new) steps all
+      in (
         stepped s c new a stands answered,
         subst P (sym place)
             (subst Q answered.step.unit.follows (run_stepped steps new all inside more)),
@@ -289,16 +292,16 @@ module _ (limit : ℕ) (u : UnitView) (t : Table)
       (c : CursorView) (all : List Answer) → StandsIn u t c → c.follows ≡ follows
       → Ok c ≡ cursor_start u t follows start → HasRun limit c steps all
       → HoldsFrom (start_view u start)
-      (λ v. AreStepped limit u (found t) follows
-      (start_of (unit_rows_at limit u (found t) (pos 0) v)) steps all)
+      (λ v. AreStepped limit u (codes_of t) follows
+      (start_of (unit_rows_at limit u (codes_of t) (pos 0) v)) steps all)
   run_stepped_from follows start steps c all stands same begins run =
       cases (raw_start u t start) refl begins
     where
       cases : (r : Result RawPlace Error) → r ≡ raw_start u t start
           → Ok c ≡ answer_of (before_first follows) r
           → HoldsFrom (start_view u start)
-          (λ v. AreStepped limit u (found t) follows
-          (start_of (unit_rows_at limit u (found t) (pos 0) v)) steps all)
+          (λ v. AreStepped limit u (codes_of t) follows
+          (start_of (unit_rows_at limit u (codes_of t) (pos 0) v)) steps all)
       cases (Err x) is e = absurd (cc)
       cases (Ok p) is e =
           let one : c ≡ before_first follows p = cc in
@@ -316,7 +319,7 @@ module _ (limit : ℕ) (u : UnitView) (t : Table)
   -- a reference that an answer's entry has is the cursor's
   usable_is : (o : Result Bool Error) (c : CursorView) → c.raw.end ≡ whole_length u → (to : ℕ)
       → usable_of (whole_length u) (answer_at o c) ≡ Some to
-      → usable c.raw.end (last_row c) ≡ Some to
+      → usable_target c.raw.end (last_row c) ≡ Some to
   usable_is o c same to = cases (is_null c.entry) refl
     where
       cases : (b : Bool) → is_null c.entry ≡ b
@@ -324,7 +327,7 @@ module _ (limit : ℕ) (u : UnitView) (t : Table)
           (elim (if b then None else Some c.entry) [
             | None ↦ None
             | Some e ↦
-                usable (whole_length u)
+                usable_target (whole_length u)
                 (record {
                   offset = c.offset;
                   next = next_offset_of c.raw;
@@ -332,15 +335,15 @@ module _ (limit : ℕ) (u : UnitView) (t : Table)
                   entry = e;
                 })
           ]) (Some to)
-          → usable c.raw.end (last_row c) ≡ Some to
+          → usable_target c.raw.end (last_row c) ≡ Some to
       cases true h is = absurd (cc)
-      cases false h is = let P : ℕ → Type 0 = λ n. usable n (last_row c) ≡ Some to in
+      cases false h is = let P : ℕ → Type 0 = λ n. usable_target n (last_row c) ≡ Some to in
           subst P (sym same) is
 
   -- references are followed
   pub run_taken_from : (steps : List CursorStep) (o : Result Bool Error) (c : CursorView)
       (all : List Answer) → StandsIn u t c → c.follows ≡ true → HasRun limit c steps all
-      → AreTakenFrom limit u (found t) (answer_at o c) steps all
+      → AreTakenFrom limit u (codes_of t) (answer_at o c) steps all
   run_taken_from [] o c all stands follows run = tt
   run_taken_from (s ∷ steps) o c [] stands follows run = tt
   run_taken_from (s ∷ steps) o c (b ∷ all) stands follows (new, answered, more) = (
@@ -351,20 +354,21 @@ module _ (limit : ℕ) (u : UnitView) (t : Table)
         (answered.step.unit.follows ∙ follows) more),
   )
     where
-      taken : IsTaken limit u (found t) s (answer_at o c) b
+      taken : IsTaken limit u (codes_of t) s (answer_at o c) b
       taken sibling to leads =
           let used = usable_is o c stands.end to leads in
           let follow : followed_to c ≡ Some to = rw follows used in
           let low = low_bound (next_offset_of c.raw) c.raw.end (target (kind_of c.entry)) to used in
           let at = unless_fine b.outcome (answered.step.taken sibling to follow) answered.fine in
-          answered.is ∙ seen_at limit b.outcome new ∙ ap told at
-          ∙ ap (λ n. told (first_of_rows n c.depth c.offset (rows_from limit c.raw to c.depth)))
+          answered.is ∙ seen_at limit b.outcome new ∙ ap answer_of_move at
+          ∙ ap (λ n. answer_of_move
+          (first_of_rows n c.depth c.offset (rows_from limit c.raw to c.depth)))
           stands.end
-          ∙ ap (λ a. told (first_of_rows (whole_length u) c.depth c.offset a))
+          ∙ ap (λ a. answer_of_move (first_of_rows (whole_length u) c.depth c.offset a))
           (unit_rows limit u t fits c stands to c.depth low)
 
   pub run_taken : (steps : List CursorStep) (c : CursorView) (all : List Answer) → StandsIn u t c
-      → c.follows ≡ true → HasRun limit c steps all → AreTaken limit u (found t) steps all
+      → c.follows ≡ true → HasRun limit c steps all → AreTaken limit u (codes_of t) steps all
   run_taken [] c all stands follows run = tt
   run_taken (s ∷ steps) c [] stands follows run = tt
   run_taken (s ∷ steps) c (a ∷ all) stands follows (new, answered, more) =
@@ -380,7 +384,7 @@ module _ (limit : ℕ) (u : UnitView) (t : Table) (follows : Bool) (start : Opti
       → length u.entries.bytes ≤ whole_length u → Ok c ≡ cursor_start u t follows start
       → HasRun limit c steps all
       → count ≡ length all → IsStopped stopped count (length steps)
-      → IsRunFrom limit u (found t) follows steps (start_view u start) (Ok (run_of all stopped))
+      → IsRunFrom limit u (codes_of t) follows steps (start_view u start) (Ok (run_of all stopped))
   run_from all stopped count c fits begins run counted stop =
       let inside = start_in limit u t start steps follows c fits begins in
       parts (start_view u start)
@@ -391,15 +395,15 @@ module _ (limit : ℕ) (u : UnitView) (t : Table) (follows : Bool) (start : Opti
       (λ f. run_taken limit u t fits steps c all inside.0 (inside.1 ∙ f) run) (rw (← counted) stop)
     where
       parts : (r : Result View Error)
-          → ((follows ≡ true → any_sibling steps ≡ true → IsHonestFrom limit u (found t) r)
-          → RunsAs (Ok (run_of all stopped)) (answer_of (answers_at limit u (found t) steps) r))
-          → AreTrueAnswers limit u (found t) all
+          → ((follows ≡ true → any_sibling steps ≡ true → IsHonestFrom limit u (codes_of t) r)
+          → RunsAs (Ok (run_of all stopped)) (answer_of (answers_at limit u (codes_of t) steps) r))
+          → AreTrueAnswers limit u (codes_of t) all
           → HoldsFrom r
-          (λ v. AreStepped limit u (found t) follows
-          (start_of (unit_rows_at limit u (found t) (pos 0) v)) steps all)
-          → (follows ≡ true → AreTaken limit u (found t) steps all)
+          (λ v. AreStepped limit u (codes_of t) follows
+          (start_of (unit_rows_at limit u (codes_of t) (pos 0) v)) steps all)
+          → (follows ≡ true → AreTaken limit u (codes_of t) steps all)
           → IsStopped stopped (length all) (length steps)
-          → IsRunFrom limit u (found t) follows steps r (Ok (run_of all stopped))
+          → IsRunFrom limit u (codes_of t) follows steps r (Ok (run_of all stopped))
       parts (Ok v) answers are_true are_stepped are_taken stopped =
           record {
             answers = answers;
@@ -412,5 +416,5 @@ module _ (limit : ℕ) (u : UnitView) (t : Table) (follows : Bool) (start : Opti
 
   -- and one that is refused
   pub refused_from : (e : Error) → Err e ≡ cursor_start u t follows start
-      → IsRunFrom limit u (found t) follows steps (start_view u start) (Err e)
+      → IsRunFrom limit u (codes_of t) follows steps (start_view u start) (Err e)
   refused_from e is = rw (start_refused limit u t start steps follows e is) refl

@@ -6,7 +6,7 @@ use Rattle.std.specs.Prelude.{◌||◌}
 use Rattle.gimli_base.specs.declared.error.Error.{Error}
 use Rattle.gimli_base.specs.declared.error.Error.TheVariants.{OutOfMemory}
 use Rattle.gimli_base.specs.Reading.{UnlessMemory}
-use Rattle.gimli_base.specs.Table.{Table, found}
+use Rattle.gimli_base.specs.Table.{Table, codes_of}
 use Rattle.std.proofs.lemmas.List.{append-nil}
 use Rattle.gimli_base.specs.Offset.{answer_of}
 use Rattle.gimli_base.specs.View.{View}
@@ -22,7 +22,7 @@ use Rattle.gimli_walk.specs.declared.cursor.CursorStep.{CursorStep}
 use Rattle.gimli_walk.specs.declared.cursor.CursorStep.TheVariants.{NextEntry, NextDfs, NextSibling}
 use Rattle.gimli_walk.specs.Runs.{IsFront, run_of, IsRunOf, RunsAs}
 use Rattle.gimli_units.specs.UnitRows.{unit_rows_at, start_view, IsHonestFrom}
-use Rattle.gimli_walk.specs.Cursors.{Answer, step_of, told, answers, start_of, answers_at}
+use Rattle.gimli_walk.specs.Cursors.{Answer, step_of, answer_of_move, answers, start_of, answers_at}
 use Rattle.gimli_walk.specs.Cursors.{run_answers, IsStopped, is_sibling, any_sibling}
 use Rattle.gimli_walk.specs.CursorTurns.{answer_at, HasRun}
 
@@ -50,7 +50,8 @@ module _ (limit : ℕ) where
 
   -- the answer of a step tells where the cursor stands
   pub seen_at : (outcome : Result Bool Error) (new : CursorView)
-      → answer_at outcome new ≡ told (record { outcome = outcome; place = place_of limit new })
+      → answer_at outcome new
+      ≡ answer_of_move (record { outcome = outcome; place = place_of limit new })
   seen_at outcome new =
       let f : ℕ → ℤ → Answer = λ o d.
       record {
@@ -67,8 +68,8 @@ module _ (limit : ℕ) where
   -- the answer of a step is that of the place
   pub told_is : (s : CursorStep) (c new : CursorView) (outcome : Result Bool Error)
       → Goes limit (step_of c.raw.end s) c outcome new
-      → answer_at outcome new ≡ told (step_of c.raw.end s (place_of limit c))
-  told_is s c new outcome is = seen_at outcome new ∙ ap told is
+      → answer_at outcome new ≡ answer_of_move (step_of c.raw.end s (place_of limit c))
+  told_is s c new outcome is = seen_at outcome new ∙ ap answer_of_move is
 
   -- where the rows are honest, if any step looks for a sibling, a run gives the first of the
   -- definition's answers
@@ -91,7 +92,7 @@ module _ (limit : ℕ) where
       (honest (or_second (is_sibling s) (any_sibling steps) any)
       (sym step.unit.follows ∙ follows)) goes in
       let rest = run_front steps new all more behind in
-      let first : a ≡ told (step_of c.raw.end s (place_of limit c)) = answered.is
+      let first : a ≡ answer_of_move (step_of c.raw.end s (place_of limit c)) = answered.is
       ∙ told_is s c new a.outcome goes in
       let place : place_of limit new
       ≡ (step_of c.raw.end s (place_of limit c)).place = ap (λ (m : Moved). m.place) goes in
@@ -100,7 +101,7 @@ module _ (limit : ℕ) where
       ap (answers c.raw.end steps) (sym place)
       ∙ ap (λ (e : ℕ). answers e steps (place_of limit new)) (sym step.unit.end) in (
         rest.0,
-        ap (λ xs. told (step_of c.raw.end s (place_of limit c)) ∷ xs) (others ∙ rest.1)
+        ap (λ xs. answer_of_move (step_of c.raw.end s (place_of limit c)) ∷ xs) (others ∙ rest.1)
             ∙ ap (λ x. x ∷ (all ++ rest.0)) (sym first),
       )
 
@@ -172,14 +173,14 @@ module _ (limit : ℕ) (u : UnitView) (t : Table) (start : Option ℕ) (steps : 
       → Ok c ≡ cursor_start u t follows start → HasRun limit c steps all
       → count ≡ length all → IsStopped stopped count (length steps)
       → (any_sibling steps ≡ true → follows ≡ true
-      → IsHonestFrom limit u (found t) (start_view u start))
-      → RunsAs (Ok (run_of all stopped)) (run_answers limit u (found t) start steps)
+      → IsHonestFrom limit u (codes_of t) (start_view u start))
+      → RunsAs (Ok (run_of all stopped)) (run_answers limit u (codes_of t) start steps)
   run_as follows c all stopped count begins run counted stop honest =
       cases (raw_start u t start) refl begins
     where
       cases : (r : Result RawPlace Error) → r ≡ raw_start u t start
           → Ok c ≡ answer_of (before_first follows) r
-          → RunsAs (Ok (run_of all stopped)) (run_answers limit u (found t) start steps)
+          → RunsAs (Ok (run_of all stopped)) (run_answers limit u (codes_of t) start steps)
       cases (Err x) is e = absurd (cc)
       cases (Ok p) is e =
           let one : c ≡ before_first follows p = cc in
@@ -194,32 +195,32 @@ module _ (limit : ℕ) (u : UnitView) (t : Table) (start : Option ℕ) (steps : 
           }) = one ∙ ap (before_first follows) s.2 in
           let run_at = rw at at run in
           let honest_at = rw s.1 at honest in
-          let front : IsFront all (answers_at limit u (found t) steps s.0) =
+          let front : IsFront all (answers_at limit u (codes_of t) steps s.0) =
           run_front limit steps _ all run_at
           (λ any f. honest_start limit _ refl (honest_at any f)) in
-          let p0 : Place = start_of (unit_rows_at limit u (found t) (pos 0) s.0) in
+          let p0 : Place = start_of (unit_rows_at limit u (codes_of t) (pos 0) s.0) in
           rw s.1
-          (run_of_front all (answers_at limit u (found t) steps s.0) stopped count
+          (run_of_front all (answers_at limit u (codes_of t) steps s.0) stopped count
           (length steps) front counted (answers_length (whole_length u) steps p0) stop)
 
   -- and it is refused where they are
   pub run_refused : (follows : Bool) (e : Error) → Err e ≡ cursor_start u t follows start
-      → RunsAs (Err e) (run_answers limit u (found t) start steps)
+      → RunsAs (Err e) (run_answers limit u (codes_of t) start steps)
   unfolding entries_from
   run_refused follows e is = first start is
     where
       range : (r : Result View Error) → Err e ≡ answer_of (before_first follows) (entries_in u t r)
-          → RunsAs (Err e) (answer_of (answers_at limit u (found t) steps) r)
+          → RunsAs (Err e) (answer_of (answers_at limit u (codes_of t) steps) r)
       range (Ok v) k = absurd (cc)
       range (Err x) k = cc
 
       first : (o : Option ℕ) → Err e ≡ cursor_start u t follows o
-          → RunsAs (Err e) (run_answers limit u (found t) o steps)
+          → RunsAs (Err e) (run_answers limit u (codes_of t) o steps)
       first None k = absurd (cc)
       first (Some o) k = at_offset o k
         where
           at_offset : (o : ℕ) → Err e ≡ cursor_start u t follows (Some o)
-              → RunsAs (Err e) (run_answers limit u (found t) (Some o) steps)
+              → RunsAs (Err e) (run_answers limit u (codes_of t) (Some o) steps)
           at_offset o k = range (range_from u o) k
 
   pub start_refused : (follows : Bool) (e : Error) → Err e ≡ cursor_start u t follows start

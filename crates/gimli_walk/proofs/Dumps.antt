@@ -12,7 +12,7 @@ use Rattle.gimli_base.specs.declared.common.SectionId.TheVariants.{DebugInfo}
 use Rattle.gimli_base.specs.declared.error.Error.{Error}
 use Rattle.gimli_base.specs.Refusal.{number_of}
 use Rattle.gimli_base.specs.Reading.{Reads}
-use Rattle.gimli_base.specs.View.{View, ended}
+use Rattle.gimli_base.specs.View.{View, end_of_view}
 use Rattle.gimli_base.specs.Abbreviations.{Map}
 use Rattle.gimli_units.specs.Entry.{entry_at}
 use Rattle.gimli_units.specs.Rows.{ahead_at}
@@ -24,7 +24,7 @@ use Rattle.gimli_walk.specs.declared.lines.Stop.TheVariants.{Memory, Write}
 use Rattle.gimli_walk.specs.Lines.{Text, error_line}
 use Rattle.gimli_walk.specs.Text.{WroteAll, has_unit, is_read, declared_text, unit_text}
 use Rattle.gimli_walk.specs.Stops.{WroteFront, WroteUntil}
-use Rattle.gimli_walk.specs.Dump.{led_by, joined, unit_dump, units_dump}
+use Rattle.gimli_walk.specs.Dump.{led_by, join_texts, unit_dump, units_dump}
 use Rattle.gimli_walk.proofs.WrittenLines.{Appends-trans, Appends-none}
 use Rattle.gimli_walk.proofs.StoppedLines.{until_only, until_more, until_same}
 use Rattle.gimli_walk.proofs.RowLines.{some_lines_of}
@@ -37,7 +37,7 @@ behind_status status (Err s) = Err s
 -- all of a text, and then another
 pub until_joined : (a b c : Option (List ℕ)) (t u : Text) (status : ℕ) (r : Result ℕ Stop)
     → WroteAll a b t status → WroteUntil b c u r
-    → WroteUntil a c (joined t u) (behind_status status r)
+    → WroteUntil a c (join_texts t u) (behind_status status r)
 until_joined a b c t u status (Ok next) first second = record {
   lines = rw concat-append
       (Appends-trans a b c (concat t.lines) (concat u.lines) first.lines second.lines);
@@ -61,7 +61,7 @@ until_joined a b c t u status (Err Write) first second = tt
 
 -- a text that is stopped, and nothing of another
 pub until_cut : (a b : Option (List ℕ)) (t u : Text) (s : Stop) → WroteUntil a b t (Err s)
-    → WroteUntil a b (joined t u) (Err s)
+    → WroteUntil a b (join_texts t u) (Err s)
 until_cut a b t u Memory front =
     let within : front.count ≤ length t.lines = let k = front.fewer in omega (arith, k) in
     record {
@@ -139,7 +139,7 @@ unit_first limit v u next is = cases (length v.bytes == 0) (unit_at limit DebugI
         → ◌≡◌ {A = Result (Option UnitView) Error × UnitsPlace} (Ok (Some u), next)
         (if none then (Ok None, record { rest = v; offset = 0 }) else elim r [
           | Ok q ↦ (Ok (Some q.0), record { rest = q.1; offset = 0 + whole_length q.0 })
-          | Err e ↦ (Err e, record { rest = ended v; offset = 0 })
+          | Err e ↦ (Err e, record { rest = end_of_view v; offset = 0 })
         ])
         → is_read r ≡ true
     cases true r h = absurd

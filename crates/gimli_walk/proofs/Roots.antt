@@ -7,7 +7,7 @@ use Rattle.std.proofs.lemmas.Bool.{le-leb, lt-ltb, le-ltb, cases_lt}
 use Rattle.gimli_base.specs.declared.error.Error.{Error}
 use Rattle.gimli_base.specs.declared.error.Error.TheVariants.{OffsetOutOfBounds}
 use Rattle.gimli_base.specs.View.{View, cut}
-use Rattle.gimli_base.specs.Table.{Table, found}
+use Rattle.gimli_base.specs.Table.{Table, codes_of}
 use Rattle.gimli_units.specs.Entry.{entry_at}
 use Rattle.gimli_units.specs.RawPlace.{RawPlace}
 use Rattle.gimli_units.specs.Rows.{ahead_at}
@@ -71,26 +71,26 @@ module _ (limit : ℕ) (u : UnitView) (t : Table) where
   -- the rows are those from the root on
   pub root_text : (p : RawPlace) → Ok p ≡ entries_from u t None
       → rows_text
-      (ahead_at (entry_at limit p.encoding (found p.abbreviations)) p.end p.depth p.rest)
-      ≡ unit_text limit u (found t)
+      (ahead_at (entry_at limit p.encoding (codes_of p.abbreviations)) p.end p.depth p.rest)
+      ≡ unit_text limit u (codes_of t)
   root_text p is = elim (root_cases u t) [
     | inl none ↦ absurd (let e : Ok p ≡ Err (OffsetOutOfBounds (header_size u)) = is ∙ none.1 in cc)
     | inr read ↦
         let same : p ≡ root_place u t = (let e : Ok p ≡ Ok (root_place u t) = is ∙ read in cc) in
         ap
         (λ (q : RawPlace). rows_text
-        (ahead_at (entry_at limit q.encoding (found q.abbreviations)) q.end q.depth q.rest))
+        (ahead_at (entry_at limit q.encoding (codes_of q.abbreviations)) q.end q.depth q.rest))
         same
   ]
 
   -- where the reader is refused there is no row
   pub root_refused : (old new : Option (List ℕ)) (e : Error) → Err e ≡ entries_from u t None
-      → Appends old new end_line → WroteUntil old new (unit_text limit u (found t)) (Ok 0)
+      → Appends old new end_line → WroteUntil old new (unit_text limit u (codes_of t)) (Ok 0)
   root_refused old new e is h = elim (root_cases u t) [
     | inl none ↦
         rw
         (ap rows_text
-        (ahead_ended (entry_at limit u.encoding (found t)) (whole_length u) (pos 0) u.entries
+        (ahead_ended (entry_at limit u.encoding (codes_of t)) (whole_length u) (pos 0) u.entries
         none.0)) (until_only old new end_line 0 h)
     | inr read ↦ absurd (let e : Err e ≡ Ok (root_place u t) = is ∙ read in cc)
   ]

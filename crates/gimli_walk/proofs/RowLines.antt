@@ -5,7 +5,7 @@ use Rattle.std.specs.Io.KnownBytes.{Appends}
 use Rattle.gimli_base.specs.declared.error.Error.{Error}
 use Rattle.gimli_base.specs.Refusal.{number_of}
 use Rattle.gimli_base.specs.View.{View}
-use Rattle.gimli_base.specs.Table.{found}
+use Rattle.gimli_base.specs.Table.{codes_of}
 use Rattle.gimli_units.specs.Entry.{Entry, entry_at}
 use Rattle.gimli_units.proofs.EntryReads.{entry_at-shorter}
 use Rattle.gimli_units.specs.RawPlace.{RawPlace, next_offset_of, depth_after}
@@ -21,7 +21,7 @@ use Rattle.gimli_walk.proofs.StoppedLines.{until_more, until_only, front_none}
 -- the text of the rows that are ahead of a reader of entries
 abbrev pub place_text : ℕ → RawPlace → Text
 place_text limit p = rows_text
-    (ahead_at (entry_at limit p.encoding (found p.abbreviations)) p.end p.depth p.rest)
+    (ahead_at (entry_at limit p.encoding (codes_of p.abbreviations)) p.end p.depth p.rest)
 
 pub some_lines_of : (a : Ahead) → 0 < length (rows_text a).lines
 some_lines_of a = simp length-append (omega arith)
@@ -31,7 +31,7 @@ module _ (limit : ℕ) (old new : Option (List ℕ)) (p : RawPlace) where
   pub rows_memory : WroteUntil old old (place_text limit p) (Err Memory)
   rows_memory = front_none old (place_text limit p)
       (some_lines_of
-      (ahead_at (entry_at limit p.encoding (found p.abbreviations)) p.end p.depth p.rest))
+      (ahead_at (entry_at limit p.encoding (codes_of p.abbreviations)) p.end p.depth p.rest))
 
   -- no row is left
   pub rows_ended : length p.rest.bytes ≡ 0 → Appends old new end_line
@@ -39,18 +39,18 @@ module _ (limit : ℕ) (old new : Option (List ℕ)) (p : RawPlace) where
   rows_ended none h =
       let e =
       ap rows_text
-      (ahead_ended (entry_at limit p.encoding (found p.abbreviations)) p.end p.depth p.rest
+      (ahead_ended (entry_at limit p.encoding (codes_of p.abbreviations)) p.end p.depth p.rest
       none) in
       rw e (until_only old new end_line 0 h)
 
   -- a refusal ends the rows
   pub rows_refused : (e : Error) → (length p.rest.bytes ≡ 0 → ⊥)
-      → Err e ≡ entry_at limit p.encoding (found p.abbreviations) p.rest
+      → Err e ≡ entry_at limit p.encoding (codes_of p.abbreviations) p.rest
       → Appends old new (error_line_at (number_of e) (next_offset_of p))
       → WroteUntil old new (place_text limit p) (Ok 1)
   rows_refused e some refused h =
       let is = ap rows_text
-      (ahead_refused (entry_at limit p.encoding (found p.abbreviations)) p.end p.depth p.rest
+      (ahead_refused (entry_at limit p.encoding (codes_of p.abbreviations)) p.end p.depth p.rest
       e some refused) in
       rw is (until_only old new (error_line_at (number_of e) (next_offset_of p)) 1 h)
 
@@ -58,14 +58,14 @@ module _ (limit : ℕ) (old new : Option (List ℕ)) (p : RawPlace) where
 pub rows_more : (limit : ℕ) (old mid new : Option (List ℕ)) (p : RawPlace) (e : Entry) (w : View)
     (r : Result ℕ Stop)
     → (length p.rest.bytes ≡ 0 → ⊥)
-    → Ok (e, w) ≡ entry_at limit p.encoding (found p.abbreviations) p.rest
+    → Ok (e, w) ≡ entry_at limit p.encoding (codes_of p.abbreviations) p.rest
     → Appends old mid (row_line (next_offset_of p) p.depth e.tag.0 e.has_children)
     → WroteUntil mid new (place_text limit (record p { rest = w; depth = depth_after e p.depth })) r
     → WroteUntil old new (place_text limit p) r
 rows_more limit old mid new p e w r some read h rest =
-    let next = entry_at limit p.encoding (found p.abbreviations) in
+    let next = entry_at limit p.encoding (codes_of p.abbreviations) in
     let is = ap rows_text
     (ahead_more next p.end
-    (λ v u x. entry_at-shorter limit p.encoding (found p.abbreviations) v u x) p.depth p.rest e
+    (λ v u x. entry_at-shorter limit p.encoding (codes_of p.abbreviations) v u x) p.depth p.rest e
     w some read) in
     rw is (until_more old mid new _ _ _ r h rest)

@@ -7,14 +7,14 @@ use Rattle.std.specs.List.{concat}
 use Rattle.std.specs.Io.KnownBytes.{Appends}
 use Rattle.gimli_walk.specs.declared.lines.Stop.{Stop}
 use Rattle.gimli_walk.specs.declared.lines.Stop.TheVariants.{Memory, Write}
-use Rattle.gimli_walk.specs.Lines.{Text, only, memory_line}
+use Rattle.gimli_walk.specs.Lines.{Text, one_line, memory_line}
 use Rattle.gimli_walk.specs.Text.{Wrote, some_lines}
 use Rattle.gimli_walk.specs.Stops.{WroteFront, WroteUntil}
 use Rattle.gimli_walk.proofs.WrittenLines.{Appends-trans, Appends-none}
 
 -- the only line
 pub until_only : (a b : Option (List ℕ)) (line : List ℕ) (status : ℕ) → Appends a b line
-    → WroteUntil a b (only line status) (Ok status)
+    → WroteUntil a b (one_line line status) (Ok status)
 until_only a b line status h = record { lines = rw append-nil h; same_status = refl }
 
 -- no line

@@ -9,7 +9,7 @@ use Rattle.gimli_base.specs.Refusal.{number_of}
 use Rattle.gimli_base.specs.View.{View}
 use Rattle.gimli_base.specs.Abbreviations.{Map}
 use Rattle.gimli_base.specs.Offset.{answer_of}
-use Rattle.gimli_base.specs.Table.{Table, found}
+use Rattle.gimli_base.specs.Table.{Table, codes_of}
 use Rattle.gimli_units.specs.Unit.{UnitView, whole_length}
 use Rattle.gimli_units.specs.UnitRows.{IsHonestFrom}
 use Rattle.gimli_units.specs.TreePlace.{Told}
@@ -98,7 +98,7 @@ module _ (limit : ℕ) (u : UnitView) (t : Table) (steps : List TreeStep)
   told_from : (tree : TreeView) (stopped : Bool) (all : List Told)
       → length u.entries.bytes ≤ whole_length u → Ok tree ≡ tree_from u t None
       → HasTreeRun limit (at_none tree []) steps all → IsStopped stopped (length all) (length steps)
-      → IsTreeRunFrom limit u (found t) steps (tree_view u None) (Ok (run_of all stopped))
+      → IsTreeRunFrom limit u (codes_of t) steps (tree_view u None) (Ok (run_of all stopped))
   told_from tree stopped all fits begins runs count =
       tree_run_from limit u t None steps all stopped (length all) tree fits begins runs refl count
 
@@ -108,33 +108,33 @@ module _ (limit : ℕ) (u : UnitView) (t : Table) (steps : List TreeStep)
     pub tree_told_text : (status : ℕ)
         → HasWrittenSteps (HasTreeRun limit (at_none tree []) steps) tolds_text old new
         (length steps) (Ok status)
-        → IsHonestFrom limit u (found t) (tree_view u None)
-        → Wrote old new (run_text_of (run_tree_answers limit u (found t) None steps)) status
+        → IsHonestFrom limit u (codes_of t) (tree_view u None)
+        → Wrote old new (run_text_of (run_tree_answers limit u (codes_of t) None steps)) status
     tree_told_text status told honest =
         let from = told_from tree false told.all fits begins told.runs told.count in
-        tree_run_text limit u (found t) steps old new told.all false status
-        (tree_run_as_said limit u (found t) steps (run_of told.all false) from honest)
+        tree_run_text limit u (codes_of t) steps old new told.all false status
+        (tree_run_as_said limit u (codes_of t) steps (run_of told.all false) from honest)
         told.are_told
 
     pub tree_told_true : (status : ℕ)
         → HasWrittenSteps (HasTreeRun limit (at_none tree []) steps) tolds_text old new
         (length steps) (Ok status)
-        → WroteTrueTree limit u (found t) steps old new status
+        → WroteTrueTree limit u (codes_of t) steps old new status
     tree_told_true status told =
         let from = told_from tree false told.all fits begins told.runs told.count in
-        tree_true_lines limit u (found t) steps old new (run_of told.all false) status from
+        tree_true_lines limit u (codes_of t) steps old new (run_of told.all false) status from
         told.are_told
 
     -- the lines of a run that was stopped, and then the line that says so
     pub tree_stopped_text : (mid : Option (List ℕ))
         → HasWrittenSteps (HasTreeRun limit (at_none tree []) steps) tolds_text old mid
         (length steps) (Err Memory)
-        → Appends mid new memory_line → IsHonestFrom limit u (found t) (tree_view u None)
-        → Wrote old new (run_text_of (run_tree_answers limit u (found t) None steps)) 1
+        → Appends mid new memory_line → IsHonestFrom limit u (codes_of t) (tree_view u None)
+        → Wrote old new (run_text_of (run_tree_answers limit u (codes_of t) None steps)) 1
     tree_stopped_text mid told h honest =
         let from = told_from tree true told.all fits begins told.runs told.count in
-        tree_run_text limit u (found t) steps old new told.all true 1
-        (tree_run_as_said limit u (found t) steps (run_of told.all true) from honest) (
+        tree_run_text limit u (codes_of t) steps old new told.all true 1
+        (tree_run_as_said limit u (codes_of t) steps (run_of told.all true) from honest) (
           Appends-trans old mid new (concat (map told_line told.all)) memory_line told.are_told h,
           refl,
         )
@@ -142,10 +142,10 @@ module _ (limit : ℕ) (u : UnitView) (t : Table) (steps : List TreeStep)
     pub tree_stopped_true : (mid : Option (List ℕ))
         → HasWrittenSteps (HasTreeRun limit (at_none tree []) steps) tolds_text old mid
         (length steps) (Err Memory)
-        → Appends mid new memory_line → WroteTrueTree limit u (found t) steps old new 1
+        → Appends mid new memory_line → WroteTrueTree limit u (codes_of t) steps old new 1
     tree_stopped_true mid told h =
         let from = told_from tree true told.all fits begins told.runs told.count in
-        tree_true_lines limit u (found t) steps old new (run_of told.all true) 1 from (
+        tree_true_lines limit u (codes_of t) steps old new (run_of told.all true) 1 from (
           Appends-trans old mid new (concat (map told_line told.all)) memory_line told.are_told h,
           refl,
         )

@@ -9,13 +9,13 @@ use Rattle.gimli_base.specs.declared.error.Error.TheVariants.{OutOfMemory}
 use Rattle.gimli_base.specs.Offset.{answer_of}
 use Rattle.gimli_base.proofs.Later.{IsLater-length}
 use Rattle.gimli_base.specs.Reading.{Reads}
-use Rattle.gimli_base.specs.Table.{Table, found}
+use Rattle.gimli_base.specs.Table.{Table, codes_of}
 use Rattle.gimli_base.specs.View.{View, cut}
 use Rattle.gimli_units.specs.Entry.{Entry, is_null, entry_at}
 use Rattle.gimli_units.specs.RawPlace.{RawPlace, next_offset_of}
 use Rattle.gimli_units.specs.Rows.{Ahead}
 use Rattle.gimli_units.specs.Kind.{kind_of}
-use Rattle.gimli_units.specs.Honest.{target, usable}
+use Rattle.gimli_units.specs.Honest.{target, usable_target}
 use Rattle.gimli_units.specs.Unit.{UnitView, whole_length, header_size, range_from, entries_in}
 use Rattle.gimli_units.specs.Unit.{entries_from, some_entry}
 use Rattle.gimli_units.specs.CursorPlace.{first_of_rows}
@@ -57,7 +57,7 @@ module _ (limit : ℕ) (u : UnitView) (t : Table)
   -- the entry that a cursor stands on, and its reader is right after it
   abbrev StandsOn : CursorView → Type 0
   StandsOn c = Ok (c.entry, c.raw.rest)
-      ≡ entry_at limit u.encoding (found t) (cut (c.offset - header_size u) u.entries)
+      ≡ entry_at limit u.encoding (codes_of t) (cut (c.offset - header_size u) u.entries)
 
   -- A run stands in the unit; where it stands on a node, the reader is right after it, and after
   -- the last node.
@@ -69,11 +69,12 @@ module _ (limit : ℕ) (u : UnitView) (t : Table)
   -- what a turn keeps
   record Kept (s : Standing) (step : TreeStep) (told : Told) (new : Standing) : Type 0 where
     is_in : IsIn new
-    is_true : IsTrueTold limit u (found t) step told
+    is_true : IsTrueTold limit u (codes_of t) step told
     offset : (o : ℕ) → o < next_offset_of s.tree.cursor.raw → o < next_offset_of new.tree.cursor.raw
 
   same_kept : (s new : Standing) (step : TreeStep) (told told' : Told) → told ≡ told'
-      → new.tree ≡ s.tree → IsIn s → IsTrueTold limit u (found t) step told' → Kept s step told new
+      → new.tree ≡ s.tree → IsIn s → IsTrueTold limit u (codes_of t) step told'
+      → Kept s step told new
   same_kept s new step told told' is same inside true_one = record {
     is_in = rw same (record { start = inside.start; here = inside.here; follows = inside.follows });
     is_true = rw is true_one;
@@ -91,7 +92,7 @@ module _ (limit : ℕ) (u : UnitView) (t : Table)
 
   root_true : (s new : Standing) (outcome : Result (Unit {0}) Error)
       → HasBegun limit s.tree outcome new.tree → (outcome ≡ Err OutOfMemory → ⊥) → IsIn s
-      → IsTrueTold limit u (found t) Root (told_begun outcome new.tree)
+      → IsTrueTold limit u (codes_of t) Root (told_begun outcome new.tree)
   root_true s new (Ok k) b fine inside =
       let y = b.yes refl in
       entry_law limit u t fits (before_first true s.tree.start) inside.start new.tree.cursor
@@ -112,7 +113,7 @@ module _ (limit : ℕ) (u : UnitView) (t : Table)
 
   next_kept : (s new : Standing) (d : ℤ) (outcome : Result Bool Error)
       → HasGoneOn limit d s.tree outcome new.tree → (outcome ≡ Err OutOfMemory → ⊥) → IsIn s
-      → IsIn new × IsTrueTold limit u (found t) Next (told_asked outcome new.tree)
+      → IsIn new × IsTrueTold limit u (codes_of t) Next (told_asked outcome new.tree)
   next_kept s new d outcome g fine inside = (
     record {
       start = rw g.start inside.start;
@@ -124,7 +125,7 @@ module _ (limit : ℕ) (u : UnitView) (t : Table)
   )
     where
       cases : (r : Result Bool Error) → HasGoneOn limit d s.tree r new.tree
-          → (r ≡ Err OutOfMemory → ⊥) → IsTrueTold limit u (found t) Next (told_asked r new.tree)
+          → (r ≡ Err OutOfMemory → ⊥) → IsTrueTold limit u (codes_of t) Next (told_asked r new.tree)
       cases (Ok true) g fine = let y = g.sought.yes refl in
           entry_law limit u t fits s.tree.cursor inside.here new.tree.cursor g.sought.unit.end y.0
           y.1
@@ -173,7 +174,7 @@ module _ (limit : ℕ) (u : UnitView) (t : Table)
       tt
 
   pub turn_in : (s : Standing) (step : TreeStep) (told : Told) (new : Standing) → IsIn s
-      → HasTurned limit step s told new → IsIn new × IsTrueTold limit u (found t) step told
+      → HasTurned limit step s told new → IsIn new × IsTrueTold limit u (codes_of t) step told
   turn_in s Root told new inside r = (
     root_in s new r.outcome r.begun inside,
     rw r.is (root_true s new r.outcome r.begun r.fine inside),
@@ -187,7 +188,7 @@ module _ (limit : ℕ) (u : UnitView) (t : Table)
 
   -- all answers are true
   pub tree_true : (steps : List TreeStep) (s : Standing) (all : List Told)
-      → HasTreeRun limit s steps all → IsIn s → AreTrueTolds limit u (found t) steps all
+      → HasTreeRun limit s steps all → IsIn s → AreTrueTolds limit u (codes_of t) steps all
   tree_true [] s [] run inside = tt
   tree_true [] s (a ∷ all) run inside = absurd run
   tree_true (step ∷ steps) s [] run inside = tt
@@ -372,18 +373,18 @@ module _ (limit : ℕ) (u : UnitView) (t : Table)
   taken_here : (n : Node) (s new : Standing) (told : Told) (outer : Lists) → IsIn s
       → StandsOn s.tree.cursor → node_at s.tree ≡ n
       → HasAsked limit (Some n.depth) outer s.tree told new
-      → IsTakenFrom limit u (found t) (a_node n) told
+      → IsTakenFrom limit u (codes_of t) (a_node n) told
   taken_here n s new told outer inside on same r e w to reads leads =
       let c = s.tree.cursor in
       let at : c.offset ≡ n.offset = ap (λ (x : Node). x.offset) same in
       let deep : c.depth ≡ n.depth = ap (λ (x : Node). x.depth) same in
       let read : ◌≡◌ {A = Reads Entry} (Ok (c.entry, c.raw.rest)) (Ok (e, w)) = on
-      ∙ ap (λ o. entry_at limit u.encoding (found t) (cut (o - header_size u) u.entries)) at
+      ∙ ap (λ o. entry_at limit u.encoding (codes_of t) (cut (o - header_size u) u.entries)) at
       ∙ sym reads in
       let one : ◌≡◌ {A = Entry × View} (c.entry, c.raw.rest) (e, w) = cc in
       let entry : c.entry ≡ e = ap (λ (x : Entry × View). x.0) one in
       let rest : c.raw.rest ≡ w = ap (λ (x : Entry × View). x.1) one in
-      let used : usable c.raw.end (last_row c)
+      let used : usable_target c.raw.end (last_row c)
       ≡ Some to = rw (inside.here.end, entry, rest) leads in
       let follow : followed_to c ≡ Some to = rw inside.follows used in
       let low = low_bound (next_offset_of c.raw) c.raw.end (target (kind_of c.entry)) to used in
@@ -405,12 +406,12 @@ module _ (limit : ℕ) (u : UnitView) (t : Table)
       (unit_rows limit u t fits c inside.here to n.depth low)
 
   taken : (a : Told) (s new : Standing) (told : Told) → IsIn s → IsHeld a s
-      → HasTurned limit Next s told new → IsTakenFrom limit u (found t) a told
+      → HasTurned limit Next s told new → IsTakenFrom limit u (codes_of t) a told
   taken (a_node n) s new told inside held turned = lists s.lists refl turned
     where
       lists : (xs : Lists) → s.lists ≡ xs
           → HasTurned limit Next (record { tree = s.tree; is_on = s.is_on; lists = xs }) told new
-          → IsTakenFrom limit u (found t) (a_node n) told
+          → IsTakenFrom limit u (codes_of t) (a_node n) told
       lists [] is r = let x : ◌≡◌ {A = Lists} [] (Some n.depth ∷ held.2.0) = sym is ∙ held.2.1 in
           absurd (cc)
       lists (None ∷ outer) is r =
@@ -428,7 +429,7 @@ module _ (limit : ℕ) (u : UnitView) (t : Table)
 
   taken_behind : (before : Option Told) (s : Standing) (step : TreeStep) (told : Told)
       (new : Standing) → IsIn s → HoldsLast before s → HasTurned limit step s told new
-      → IsTakenBehind limit u (found t) before step told
+      → IsTakenBehind limit u (codes_of t) before step told
   taken_behind None s step told new inside held turned = tt
   taken_behind (Some a) s Root told new inside held turned = λ k. absurd (cc)
   taken_behind (Some a) s Next told new inside held turned =
@@ -466,7 +467,7 @@ module _ (limit : ℕ) (u : UnitView) (t : Table)
   -- references are taken
   pub tree_taken : (steps : List TreeStep) (s : Standing) (all : List Told) (before : Option Told)
       → HasTreeRun limit s steps all → IsIn s → HoldsLast before s
-      → AreTakenBehind limit u (found t) before steps all
+      → AreTakenBehind limit u (codes_of t) before steps all
   tree_taken [] s all before run inside last = tt
   tree_taken (step ∷ steps) s [] before run inside last = tt
   tree_taken (step ∷ steps) s (a ∷ all) before (new, turned, more) inside last =
@@ -542,11 +543,11 @@ module _ (limit : ℕ) (u : UnitView) (t : Table) (fits : length u.entries.bytes
       let stands = stands_first u t start i.0 fits i.1 in
       rw i.2 (record { start = stands; here = stands; follows = refl })
 
-  pub run_tree_true : AreTrueTolds limit u (found t) steps all
+  pub run_tree_true : AreTrueTolds limit u (codes_of t) steps all
   run_tree_true = tree_true limit u t fits steps (at_none tree []) all run first_in
 
   pub run_tree_roots : HoldsFrom (tree_view u start)
-      (λ v. AreRoots (root_at limit u (found t) v) steps all)
+      (λ v. AreRoots (root_at limit u (codes_of t) v) steps all)
   run_tree_roots =
       let i = tree_is u t start tree begins in
       let s = tree_start u t start i.0 i.1 in
@@ -563,12 +564,13 @@ module _ (limit : ℕ) (u : UnitView) (t : Table) (fits : length u.entries.bytes
   pub run_tree_growing : AreGrowing None steps all
   run_tree_growing = tree_growing limit u t fits steps (at_none tree []) all None run tt
 
-  pub run_tree_taken : AreTakenBehind limit u (found t) None steps all
+  pub run_tree_taken : AreTakenBehind limit u (codes_of t) None steps all
   run_tree_taken = tree_taken limit u t fits steps (at_none tree []) all None run first_in tt
 
   pub run_tree_as : (stopped : Bool) (count : ℕ) → count ≡ length all
-      → IsStopped stopped count (length steps) → IsHonestFrom limit u (found t) (tree_view u start)
-      → RunsAs (Ok (run_of all stopped)) (run_tree_answers limit u (found t) start steps)
+      → IsStopped stopped count (length steps)
+      → IsHonestFrom limit u (codes_of t) (tree_view u start)
+      → RunsAs (Ok (run_of all stopped)) (run_tree_answers limit u (codes_of t) start steps)
   run_tree_as stopped count counted stop honest =
       let i = tree_is u t start tree begins in
       let s = tree_start u t start i.0 i.1 in
@@ -582,7 +584,7 @@ module _ (limit : ℕ) (u : UnitView) (t : Table) (fits : length u.entries.bytes
       }) = i.2 ∙ ap before_root s.2 in
       let run_at = rw at at run in
       let honest_at = rw s.1 at honest in
-      let front : IsFront all (tree_answers_at limit u (found t) steps s.0) =
+      let front : IsFront all (tree_answers_at limit u (codes_of t) steps s.0) =
       tree_front limit steps _ all run_at
       (record {
         start = honest_at;
@@ -590,13 +592,13 @@ module _ (limit : ℕ) (u : UnitView) (t : Table) (fits : length u.entries.bytes
         here = λ k. let off : false ≡ true = k refl in
             absurd (cc);
       }) in
-      let rows : Ahead = unit_rows_at limit u (found t) (pos 0) s.0 in
+      let rows : Ahead = unit_rows_at limit u (codes_of t) (pos 0) s.0 in
       let long = tree_answers_length limit (whole_length u) rows steps (before_steps rows) in
       rw s.1
-      (run_of_front all (tree_answers_at limit u (found t) steps s.0) stopped count
+      (run_of_front all (tree_answers_at limit u (codes_of t) steps s.0) stopped count
       (length steps) front counted long stop)
 
 pub run_tree_refused : (limit : ℕ) (u : UnitView) (t : Table) (start : Option ℕ)
     (steps : List TreeStep) (e : Error) → Err e ≡ tree_from u t start
-    → RunsAs (Err e) (run_tree_answers limit u (found t) start steps)
+    → RunsAs (Err e) (run_tree_answers limit u (codes_of t) start steps)
 run_tree_refused limit u t start steps e is = let no = tree_refused u t start e is in rw no refl

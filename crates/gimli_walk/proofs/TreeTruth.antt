@@ -11,7 +11,7 @@ use Rattle.gimli_units.proofs.TreeLaw.{honest_at, honest_sought, honest_first}
 use Rattle.gimli_units.specs.TreePlace.{Lists, TreePlace, Told, list_end, has_entered, has_left}
 use Rattle.gimli_units.specs.TreePlace.{no_node, children_of, TreeMoved, to_next, to_enter}
 use Rattle.gimli_units.specs.TreePlace.{to_leave}
-use Rattle.gimli_units.specs.TreeMoves.{TreeView, node_at, in_lists, begun, gone_on, HasBegun}
+use Rattle.gimli_units.specs.TreeMoves.{TreeView, node_at, in_lists, root_moved, gone_on, HasBegun}
 use Rattle.gimli_walk.specs.declared.tree.TreeStep.{TreeStep}
 use Rattle.gimli_walk.specs.declared.tree.TreeStep.TheVariants.{Root, Next, Enter, Leave}
 use Rattle.gimli_walk.specs.Runs.{IsFront}
@@ -26,7 +26,7 @@ moved_to limit told s = record { told = told; place = standing_place limit s }
 
 module _ (limit : ℕ) where
   begun_is : (outcome : Result (Unit {0}) Error) (t : TreeView)
-      → moved_to limit (told_begun outcome t) (after_begun outcome t) ≡ begun limit outcome t
+      → moved_to limit (told_begun outcome t) (after_begun outcome t) ≡ root_moved limit outcome t
   begun_is (Ok u) t = refl
   begun_is (Err e) t = refl
 

@@ -5,13 +5,13 @@ use Rattle.std.proofs.Common.{arith}
 use Rattle.std.specs.Prelude.{int_le, if◌then◌else◌}
 use Rattle.gimli_base.specs.declared.error.Error.{Error}
 use Rattle.gimli_base.specs.declared.error.Error.TheVariants.{OutOfMemory}
-use Rattle.gimli_base.specs.Table.{Table, found}
+use Rattle.gimli_base.specs.Table.{Table, codes_of}
 use Rattle.gimli_units.specs.Entry.{is_null, entry_at}
 use Rattle.gimli_units.specs.RawPlace.{RawPlace, next_offset_of, depth_after}
 use Rattle.gimli_units.specs.Rows.{Ahead, ahead_at}
 use Rattle.gimli_units.specs.Unit.{UnitView, whole_length}
 use Rattle.gimli_units.specs.Kind.{kind_of}
-use Rattle.gimli_units.specs.Honest.{IsHonest, AreHonestUntil, usable, target}
+use Rattle.gimli_units.specs.Honest.{IsHonest, AreHonestUntil, usable_target, target}
 use Rattle.gimli_units.specs.CursorPlace.{next_offset, first_of_rows}
 use Rattle.gimli_units.specs.CursorMoves.{CursorView, rows_of, rows_from, place_of, last_row}
 use Rattle.gimli_units.specs.CursorMoves.{followed_to, IsHonestFor, IsNotFound}
@@ -106,13 +106,13 @@ module _ (limit : ℕ) where
         (outcome : Result Bool Error) → StandsIn u t s.tree.cursor
         → HasGoneOn limit d s.tree outcome new.tree → (outcome ≡ Err OutOfMemory → ⊥)
         → told ≡ told_asked outcome new.tree → new ≡ after_asked (Some d) outer outcome new.tree
-        → IsListFound limit u (found t) d outer (reached limit s) told (reached limit new)
+        → IsListFound limit u (codes_of t) d outer (reached limit s) told (reached limit new)
     found_asked s new told d outer (Ok true) here g fine is stands =
         let y = g.sought.yes refl in
         let c = new.tree.cursor in
         let inside = step_stands u t s.tree.cursor c here g.sought.unit g.sought.further in
         let rows : rows_of limit c.raw
-        ≡ ahead_at (entry_at limit u.encoding (found t)) (whole_length u)
+        ≡ ahead_at (entry_at limit u.encoding (codes_of t)) (whole_length u)
         (depth_after c.entry c.depth) c.raw.rest =
         rw (inside.encoding, inside.abbreviations, inside.end, y.0.depth) refl in
         let f : Ahead → Reached = λ a.
@@ -162,10 +162,10 @@ module _ (limit : ℕ) where
             ap (reached limit) stands ∙ ap g' last
 
         cases : IsNotFound limit d s.tree.cursor.offset s.tree.cursor c
-            → IsListFound limit u (found t) d outer (reached limit s) told (reached limit new)
+            → IsListFound limit u (codes_of t) d outer (reached limit s) told (reached limit new)
         cases (null, deep, inl y) =
             let rows : rows_of limit c.raw
-            ≡ ahead_at (entry_at limit u.encoding (found t)) (whole_length u)
+            ≡ ahead_at (entry_at limit u.encoding (codes_of t)) (whole_length u)
             (depth_after c.entry d) c.raw.rest =
             rw (inside.encoding, inside.abbreviations, inside.end, y.depth, deep) refl in
             true_null c.entry c.offset c.raw.rest is
@@ -177,7 +177,7 @@ module _ (limit : ℕ) where
             let at_end : next_offset_of c.raw ≡ whole_length u = omega (arith, over, end) in
             true_end c.raw.depth is
             (none null ∙ ap f (rows_here limit u t fits c inside)
-            ∙ ap (λ n. f (unit_rows_from limit u (found t) n c.raw.depth)) at_end)
+            ∙ ap (λ n. f (unit_rows_from limit u (codes_of t) n c.raw.depth)) at_end)
     found_asked s new told d outer (Err e) here g fine is stands =
         let c = new.tree.cursor in
         let r = g.sought.refused e refl in
@@ -201,7 +201,7 @@ module _ (limit : ℕ) where
         true_fault e c.offset c.raw.depth is (rw (← offset_is limit s.tree.cursor.raw) r.after)
         (refusal_law limit u t fits s.tree.cursor here c e (λ m. fine (ap Err m)) r)
         (ap (reached limit) stands ∙ ap g' none ∙ ap f (rows_here limit u t fits c inside)
-        ∙ ap (λ n. f (unit_rows_from limit u (found t) n c.raw.depth)) at_end)
+        ∙ ap (λ n. f (unit_rows_from limit u (codes_of t) n c.raw.depth)) at_end)
 
     -- what a search answered is what it found
     gone_found : (d : ℤ) (outer : Lists) (outcome : Result Bool Error) (x : TreeView)
@@ -225,7 +225,7 @@ module _ (limit : ℕ) where
     there_is : (s new : Standing) (told : Told) (d : ℤ) (outer : Lists) → StandsIn u t s.tree.cursor
         → s.tree.cursor.follows ≡ true → HasAsked limit (Some d) outer s.tree told new
         → (n : Node) → last_of s.tree ≡ Some n → n.depth ≡ d → (to : ℕ)
-        → usable (whole_length u)
+        → usable_target (whole_length u)
         (record {
           offset = n.offset;
           next = next_offset (rows_of limit s.tree.cursor.raw);
@@ -234,7 +234,7 @@ module _ (limit : ℕ) where
         }) ≡ Some to
         → record { told = told; place = (reached limit new).place }
         ≡ found_in d outer
-        (first_of_rows (whole_length u) d n.offset (unit_rows_from limit u (found t) to d))
+        (first_of_rows (whole_length u) d n.offset (unit_rows_from limit u (codes_of t) to d))
     there_is s new told d outer here follows r n last deep to leads =
         let c = s.tree.cursor in
         let sought = r.asked.sought in
@@ -242,13 +242,13 @@ module _ (limit : ℕ) where
         let at : c.offset ≡ n.offset = ap (λ (x : Node). x.offset) one in
         let level : c.depth ≡ d = ap (λ (x : Node). x.depth) one ∙ deep in
         let reference : ℕ → ℕ
-        → Option ℕ = λ e x. usable e
+        → Option ℕ = λ e x. usable_target e
         (record { offset = c.offset; next = x; depth = c.depth; entry = c.entry }) in
-        let used : usable c.raw.end (last_row c) ≡ Some to =
+        let used : usable_target c.raw.end (last_row c) ≡ Some to =
         ap (λ e. reference e (next_offset_of c.raw)) here.end
         ∙ ap (reference (whole_length u)) (offset_is limit c.raw)
         ∙ ap
-        (λ (x : Node). usable (whole_length u)
+        (λ (x : Node). usable_target (whole_length u)
         (record {
           offset = x.offset;
           next = next_offset (rows_of limit c.raw);
@@ -302,7 +302,7 @@ module _ (limit : ℕ) where
           (new : Standing) → s ≡ record { tree = s.tree; is_on = b; lists = lists }
           → s.tree.start ≡ p → StandsIn u t s.tree.cursor → s.tree.cursor.follows ≡ true
           → HasTurned limit step (record { tree = s.tree; is_on = b; lists = lists }) told new
-          → IsTurned limit u (found t) (rows_of limit p) step (at_part b lists s) told
+          → IsTurned limit u (codes_of t) (rows_of limit p) step (at_part b lists s) told
           (reached limit new)
       turned b lists s step told new is same here follows r = cases b lists step is r
         where
@@ -322,7 +322,7 @@ module _ (limit : ℕ) where
           cases : (b : Bool) (lists : Lists) (step : TreeStep)
               → s ≡ record { tree = s.tree; is_on = b; lists = lists }
               → HasTurned limit step (record { tree = s.tree; is_on = b; lists = lists }) told new
-              → IsTurned limit u (found t) (rows_of limit p) step (at_part b lists s) told
+              → IsTurned limit u (codes_of t) (rows_of limit p) step (at_part b lists s) told
               (reached limit new)
           cases b lists Root is r = (
             goes b lists Root is r (λ d outer e k. absurd (cc)),
@@ -343,7 +343,8 @@ module _ (limit : ℕ) where
             there = there_is s new told d outer here follows r;
             found =
                 subst
-                (λ (o : Reached). IsListFound limit u (found t) d outer o told (reached limit new))
+                (λ (o : Reached). IsListFound limit u (codes_of t) d outer o told
+                (reached limit new))
                 (ap (reached limit) is)
                 (found_asked s new told d outer r.outcome here r.asked r.fine r.is r.stands);
           }
@@ -367,7 +368,7 @@ module _ (limit : ℕ) where
       -- all steps
       pub run_turned : (steps : List TreeStep) (s : Standing) (all : List Told) → s.tree.start ≡ p
           → IsIn limit u t fits s → HasTreeRun limit s steps all
-          → AreTurned limit u (found t) (rows_of limit p) (reached limit s) steps all
+          → AreTurned limit u (codes_of t) (rows_of limit p) (reached limit s) steps all
       run_turned [] s all same inside run = tt
       run_turned (step ∷ steps) s [] same inside run = tt
       run_turned (step ∷ steps) s (a ∷ all) same inside (new, r, more) =
@@ -384,7 +385,7 @@ pub run_tree_turned : (limit : ℕ) (u : UnitView) (t : Table)
     (fits : length u.entries.bytes ≤ whole_length u) (start : Option ℕ) (steps : List TreeStep)
     (tree : TreeView) (all : List Told)
     → Ok tree ≡ tree_from u t start → HasTreeRun limit (at_none tree []) steps all
-    → HoldsFrom (tree_view u start) (λ v. AreTurnedFrom limit u (found t) v steps all)
+    → HoldsFrom (tree_view u start) (λ v. AreTurnedFrom limit u (codes_of t) v steps all)
 run_tree_turned limit u t fits start steps tree all begins run =
     let i = tree_is u t start tree begins in
     let s = tree_start u t start i.0 i.1 in
@@ -405,7 +406,7 @@ module _ (limit : ℕ) (u : UnitView) (t : Table) (start : Option ℕ) (steps : 
       → length u.entries.bytes ≤ whole_length u → Ok tree ≡ tree_from u t start
       → HasTreeRun limit (at_none tree []) steps all → count ≡ length all
       → IsStopped stopped count (length steps)
-      → IsTreeRunFrom limit u (found t) steps (tree_view u start) (Ok (run_of all stopped))
+      → IsTreeRunFrom limit u (codes_of t) steps (tree_view u start) (Ok (run_of all stopped))
   tree_run_from all stopped count tree fits begins run counted stop =
       parts (tree_view u start)
       (λ h. run_tree_as limit u t fits start steps tree all begins run stopped count counted
@@ -414,12 +415,12 @@ module _ (limit : ℕ) (u : UnitView) (t : Table) (start : Option ℕ) (steps : 
       (run_tree_turned limit u t fits start steps tree all begins run)
     where
       parts : (r : Result View Error)
-          → (IsHonestFrom limit u (found t) r
+          → (IsHonestFrom limit u (codes_of t) r
           → RunsAs (Ok (run_of all stopped))
-          (answer_of (tree_answers_at limit u (found t) steps) r))
-          → HoldsFrom r (λ v. AreRoots (root_at limit u (found t) v) steps all)
-          → HoldsFrom r (λ v. AreTurnedFrom limit u (found t) v steps all)
-          → IsTreeRunFrom limit u (found t) steps r (Ok (run_of all stopped))
+          (answer_of (tree_answers_at limit u (codes_of t) steps) r))
+          → HoldsFrom r (λ v. AreRoots (root_at limit u (codes_of t) v) steps all)
+          → HoldsFrom r (λ v. AreTurnedFrom limit u (codes_of t) v steps all)
+          → IsTreeRunFrom limit u (codes_of t) steps r (Ok (run_of all stopped))
       parts (Ok v) answers are_roots are_turned = record {
         answers = answers;
         are_true = run_tree_true limit u t fits start steps tree all begins run;
@@ -433,5 +434,5 @@ module _ (limit : ℕ) (u : UnitView) (t : Table) (start : Option ℕ) (steps : 
 
   -- and one that is refused
   pub tree_refused_from : (e : Error) → Err e ≡ tree_from u t start
-      → IsTreeRunFrom limit u (found t) steps (tree_view u start) (Err e)
+      → IsTreeRunFrom limit u (codes_of t) steps (tree_view u start) (Err e)
   tree_refused_from e is = rw (tree_refused u t start e is) refl

@@ -5,7 +5,7 @@ use Rattle.std.proofs.lemmas.List.{append-nil}
 use Rattle.std.specs.Prelude.{take, IfOk}
 use Rattle.std.specs.List.{concat}
 use Rattle.std.specs.Io.KnownBytes.{Appends}
-use Rattle.gimli_walk.specs.Lines.{Text, only, memory_line}
+use Rattle.gimli_walk.specs.Lines.{Text, one_line, memory_line}
 use Rattle.gimli_walk.specs.Text.{Wrote, all_lines, some_lines}
 
 -- two writes are one
@@ -35,7 +35,7 @@ Wrote-more a b c line lines status given h (some_lines k below wrote is) =
 
 -- the only line
 pub Wrote-only : (a b : Option (List ℕ)) (line : List ℕ) (status : ℕ) → Appends a b line
-    → Wrote a b (only line status) status
+    → Wrote a b (one_line line status) status
 Wrote-only a b line status h = all_lines (rw append-nil h) refl
 
 -- no line but that of refused memory

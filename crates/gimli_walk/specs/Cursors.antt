@@ -33,8 +33,8 @@ pub record Answer : Type 0 where
   pub next_depth : ℤ
 
 -- an answer that code holds, by what its readers and offsets stand for
-abbrev pub seen : {R A O : Type 0} → (R → View) → (O → ℕ) → CursorAnswer R A O → Answer
-seen f g a = record {
+abbrev pub answer_held : {R A O : Type 0} → (R → View) → (O → ℕ) → CursorAnswer R A O → Answer
+answer_held f g a = record {
   outcome = a.outcome;
   current = option_map (entry_of f g) a.current;
   offset = g a.offset.0;
@@ -52,8 +52,8 @@ step_of end NextEntry p = next_row end p
 step_of end NextDfs p = next_in_depth_first_order end p
 step_of end NextSibling p = next_of_depth end p
 
-abbrev pub told : Moved → Answer
-told m = record {
+abbrev pub answer_of_move : Moved → Answer
+answer_of_move m = record {
   outcome = m.outcome;
   current = m.place.current;
   offset = m.place.offset;
@@ -66,7 +66,8 @@ told m = record {
 -- bytes
 abbrev pub answers : ℕ → List CursorStep → Place → List Answer
 answers end [] p = []
-answers end (s ∷ rest) p = told (step_of end s p) ∷ answers end rest (step_of end s p).place
+answers end (s ∷ rest) p = answer_of_move (step_of end s p) ∷ answers end rest
+    (step_of end s p).place
 
 -- where a cursor stands before its first step
 abbrev pub start_of : Ahead → Place

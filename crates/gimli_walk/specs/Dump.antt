@@ -13,8 +13,8 @@ use Rattle.gimli_units.specs.declared.unit_type.UnitType.TheVariants.{SplitCompi
 use Rattle.gimli_units.specs.declared.unit_type.UnitType.TheVariants.{Vendor}
 use Rattle.gimli_units.specs.Unit.{UnitView}
 use Rattle.gimli_headers.specs.Units.{Units, units_of}
-use Rattle.gimli_walk.specs.Lines.{Text, only, unit_line, error_line}
-use Rattle.gimli_walk.specs.Text.{little, declared_text, unit_text}
+use Rattle.gimli_walk.specs.Lines.{Text, one_line, unit_line, error_line}
+use Rattle.gimli_walk.specs.Text.{little_view, declared_text, unit_text}
 
 -- the number of a unit's type
 abbrev pub type_number : UnitType ℕ → ℕ
@@ -39,17 +39,17 @@ unit_dump limit abbreviations u =
 -- the refusal that ends the units, if there is one
 abbrev pub ending_text : Option Error → Text
 ending_text None = record { lines = []; status = 0 }
-ending_text (Some e) = only (error_line (number_of e)) 1
+ending_text (Some e) = one_line (error_line (number_of e)) 1
 
 -- two texts as one, whose status is the greater of theirs
-abbrev pub joined : Text → Text → Text
-joined t u = record { lines = t.lines ++ u.lines; status = max t.status u.status }
+abbrev pub join_texts : Text → Text → Text
+join_texts t u = record { lines = t.lines ++ u.lines; status = max t.status u.status }
 
 -- the text of units, and then of how they end
 abbrev pub all_dumps : ℕ → View → List UnitView → Option Error → Text
 all_dumps limit abbreviations [] refusal = ending_text refusal
 all_dumps limit abbreviations (u ∷ us) refusal =
-    joined (unit_dump limit abbreviations u) (all_dumps limit abbreviations us refusal)
+    join_texts (unit_dump limit abbreviations u) (all_dumps limit abbreviations us refusal)
 
 abbrev pub units_dump : ℕ → View → Units → Text
 units_dump limit abbreviations us = all_dumps limit abbreviations us.items us.ending
@@ -57,4 +57,4 @@ units_dump limit abbreviations us = all_dumps limit abbreviations us.items us.en
 -- the text of the units in the bytes of `.debug_info`, in little endian and with offsets of 64 bits
 abbrev pub dump_of : List ℕ → List ℕ → Text
 dump_of info abbreviations =
-    units_dump (2 ^ 64) (little abbreviations) (units_of (2 ^ 64) DebugInfo (little info))
+    units_dump (2 ^ 64) (little_view abbreviations) (units_of (2 ^ 64) DebugInfo (little_view info))

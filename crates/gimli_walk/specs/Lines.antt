@@ -61,8 +61,8 @@ abbrev pub memory_line : List ℕ
 memory_line = error_line (number_of OutOfMemory)
 
 -- a text of one line
-abbrev pub only : List ℕ → ℕ → Text
-only line status = record { lines = line ∷ []; status = status }
+abbrev pub one_line : List ℕ → ℕ → Text
+one_line line status = record { lines = line ∷ []; status = status }
 
 -- what a run of these answers writes, whether it was stopped or not: their lines, with their
 -- status, or those and the line that says so

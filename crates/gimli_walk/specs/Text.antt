@@ -15,7 +15,7 @@ use Rattle.gimli_units.specs.Rows.{Row, Ahead, ahead_at}
 use Rattle.gimli_units.specs.Unit.{UnitView, whole_length}
 use Rattle.gimli_headers.specs.Header.{unit_at}
 use Rattle.gimli_walk.specs.Lines.{Text, row_line, end_line, no_unit_line, error_line}
-use Rattle.gimli_walk.specs.Lines.{error_line_at, memory_line, only, WroteRun}
+use Rattle.gimli_walk.specs.Lines.{error_line_at, memory_line, one_line, WroteRun}
 use Rattle.gimli_walk.specs.declared.mode.Mode.{Mode}
 use Rattle.gimli_walk.specs.declared.mode.Mode.TheVariants.{Rows, Check, Cursor, Plain, Tree}
 use Rattle.gimli_walk.specs.declared.cursor.CursorStep.{CursorStep}
@@ -55,18 +55,18 @@ unit_text limit u declared =
 -- the text of a unit whose declarations may be refused
 abbrev pub declared_text : (UnitView → Map → Text) → UnitView → Result Map Error → Text
 declared_text text u (Ok declared) = text u declared
-declared_text text u (Err e) = only (error_line (number_of e)) 1
+declared_text text u (Err e) = one_line (error_line (number_of e)) 1
 
 -- the text of a unit that may be refused, with the section of its declarations
 abbrev pub first_text : (UnitView → Map → Text) → Reads UnitView → View → Text
 first_text text (Ok p) abbreviations =
     declared_text text p.0 (map_at p.0.abbreviations abbreviations)
-first_text text (Err e) abbreviations = only (error_line (number_of e)) 1
+first_text text (Err e) abbreviations = one_line (error_line (number_of e)) 1
 
 -- the text of the first unit of `.debug_info`; offsets are below the limit
 unfoldable pub sections_text : ℕ → (UnitView → Map → Text) → View → View → Text
 sections_text limit text info abbreviations =
-    if length info.bytes == 0 then only no_unit_line 1
+    if length info.bytes == 0 then one_line no_unit_line 1
     else first_text text (unit_at limit DebugInfo 0 info) abbreviations
 
 -- the text of a cursor's answers to these steps, from the first entry of a unit on
@@ -107,20 +107,22 @@ IsHonestWalk limit mode info abbreviations =
     IsHonestFirst limit mode (unit_at limit DebugInfo 0 info) abbreviations
 
 -- the view of a section's bytes in little endian
-abbrev pub little : List ℕ → View
-little bytes = record { big = false; place = 0; bytes = bytes }
+abbrev pub little_view : List ℕ → View
+little_view bytes = record { big = false; place = 0; bytes = bytes }
 
 -- the text of a walk over the bytes of `.debug_info` and `.debug_abbrev`, in little endian and with
 -- offsets of 64 bits
 abbrev pub text_of : Mode → List ℕ → List ℕ → Text
 text_of mode info abbreviations =
-    sections_text (2 ^ 64) (mode_text (2 ^ 64) mode) (little info) (little abbreviations)
+    sections_text (2 ^ 64) (mode_text (2 ^ 64) mode) (little_view info) (little_view abbreviations)
 
--- whether `.debug_info` begins with a unit; memory is asked for after its header alone
+-- whether a unit was read, and not refused
 abbrev pub is_read : Reads UnitView → Bool
 is_read (Ok p) = true
 is_read (Err e) = false
 
+-- whether `.debug_info` begins with a unit, whose header is not refused; a walk asks for memory
+-- only after that header
 abbrev pub has_unit : ℕ → View → Bool
 has_unit limit info = is_read (unit_at limit DebugInfo 0 info)
 

@@ -19,7 +19,7 @@ use Rattle.gimli_walk.specs.declared.tree.TreeAnswer.TheVariants.{Left, NoNode, 
 use Rattle.gimli_walk.specs.declared.tree.TreeStep.{TreeStep}
 use Rattle.gimli_walk.specs.declared.tree.TreeStep.TheVariants.{Root, Next, Enter, Leave}
 use Rattle.gimli_units.specs.UnitRows.{unit_rows_at}
-use Rattle.gimli_walk.specs.Lines.{Text, row_line, end_line, error_line, only}
+use Rattle.gimli_walk.specs.Lines.{Text, row_line, end_line, error_line, one_line}
 
 -- an answer that code holds, by what its readers and offsets stand for
 abbrev pub told_by : {R A O : Type 0} → (R → View) → (O → ℕ) → TreeAnswer R A O → Told
@@ -92,4 +92,4 @@ tolds_text all =
 -- the text of a run, which may be refused
 abbrev pub run_text_of : Result (List Told) Error → Text
 run_text_of (Ok all) = tolds_text all
-run_text_of (Err e) = only (error_line (number_of e)) 1
+run_text_of (Err e) = one_line (error_line (number_of e)) 1

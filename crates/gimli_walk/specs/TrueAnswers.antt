@@ -9,13 +9,14 @@ use Rattle.gimli_units.specs.Entry.{Entry, is_null}
 use Rattle.gimli_units.specs.RawPlace.{depth_after}
 use Rattle.gimli_units.specs.Rows.{Ahead, offset_of_view}
 use Rattle.gimli_units.specs.Unit.{UnitView, whole_length, unit_read_at, unit_entry_at, IsUnreadAt}
-use Rattle.gimli_units.specs.Honest.{IsHonest, AreHonestUntil, usable}
+use Rattle.gimli_units.specs.Honest.{IsHonest, AreHonestUntil, usable_target}
 use Rattle.gimli_units.specs.TreePlace.{Node}
 use Rattle.gimli_units.specs.CursorPlace.{Place, first_of_rows, next_offset}
 use Rattle.gimli_walk.specs.declared.cursor.CursorStep.{CursorStep}
 use Rattle.gimli_walk.specs.Runs.{ToldRun, IsRunOf}
 use Rattle.gimli_units.specs.UnitRows.{unit_rows_at, unit_rows_from, IsHonestAt}
-use Rattle.gimli_walk.specs.Cursors.{Answer, told, step_of, is_sibling, any_sibling, answers_at}
+use Rattle.gimli_walk.specs.Cursors.{Answer, answer_of_move, step_of, is_sibling, any_sibling}
+use Rattle.gimli_walk.specs.Cursors.{answers_at}
 use Rattle.gimli_walk.specs.Cursors.{start_of, IsStopped}
 
 -- What is read next is what stands after the bytes of this entry, at the depth that the entry
@@ -91,7 +92,7 @@ pub data IsNoSibling (limit : ℕ) (u : UnitView) (declared : Map) (p : Place) (
 pub record IsStepped (limit : ℕ) (u : UnitView) (declared : Map) (follows : Bool) (s : CursorStep)
     (p : Place) (b : Answer) : Type 0 where
   pub is : (follows ≡ true → is_sibling s ≡ true → IsHonestBeside (whole_length u) p)
-      → b ≡ told (step_of (whole_length u) s p)
+      → b ≡ answer_of_move (step_of (whole_length u) s p)
   pub ahead : b.outcome ≡ Ok true → next_offset p.ahead ≤ b.offset
   pub refused_ahead : (x : Error) → b.outcome ≡ Err x → next_offset p.ahead ≤ b.offset
   pub beside : is_sibling s ≡ true → b.outcome ≡ Ok true
@@ -112,7 +113,7 @@ AreStepped limit u declared follows p (s ∷ steps) (b ∷ rest) =
 abbrev pub usable_of : ℕ → Answer → Option ℕ
 usable_of end a = elim a.current [
   | None ↦ None
-  | Some e ↦ usable end
+  | Some e ↦ usable_target end
       (record { offset = a.offset; next = a.next_offset; depth = a.depth; entry = e })
 ]
 
@@ -122,7 +123,7 @@ abbrev pub IsTaken : ℕ → UnitView → Map → CursorStep → Answer → Answ
 IsTaken limit u declared s a b =
     is_sibling s ≡ true → (t : ℕ) → usable_of (whole_length u) a ≡ Some t
     → b
-    ≡ told
+    ≡ answer_of_move
     (first_of_rows (whole_length u) a.depth a.offset
     (unit_rows_from limit u declared t a.depth))
 

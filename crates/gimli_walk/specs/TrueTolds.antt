@@ -9,7 +9,7 @@ use Rattle.gimli_units.specs.RawPlace.{depth_after}
 use Rattle.gimli_units.specs.Rows.{Ahead, offset_of_view}
 use Rattle.gimli_units.specs.Unit.{UnitView, whole_length, in_bounds, unit_read_at, unit_entry_at}
 use Rattle.gimli_units.specs.Unit.{IsUnreadAt}
-use Rattle.gimli_units.specs.Honest.{usable}
+use Rattle.gimli_units.specs.Honest.{usable_target}
 use Rattle.gimli_units.specs.CursorPlace.{first_of_rows, next_offset}
 use Rattle.gimli_units.specs.TreePlace.{Node, Lists, TreePlace, Told, a_node, list_end, has_entered}
 use Rattle.gimli_units.specs.TreePlace.{has_left, no_node, a_fault, to_root, to_next, found_in}
@@ -98,7 +98,7 @@ AreGrowing last (s ∷ steps) (a ∷ all) =
 abbrev pub IsTakenFrom : ℕ → UnitView → Map → Told → Told → Type 0
 IsTakenFrom limit u declared (a_node n) b =
     (e : Entry) (w : View) (t : ℕ) → Ok (e, w) ≡ unit_read_at limit u declared n.offset
-    → usable (whole_length u)
+    → usable_target (whole_length u)
     (record {
       offset = n.offset;
       next = offset_of_view (whole_length u) w;
@@ -202,7 +202,7 @@ pub record IsListNext (limit : ℕ) (u : UnitView) (declared : Map) (depth : ℤ
   pub is : IsHonestAhead (whole_length u) depth old.last old.place.ahead
       → record { told = told; place = new.place } ≡ to_next (whole_length u) old.place
   pub there : (n : Node) → old.last ≡ Some n → n.depth ≡ depth → (t : ℕ)
-      → usable (whole_length u)
+      → usable_target (whole_length u)
       (record {
         offset = n.offset;
         next = next_offset old.place.ahead;

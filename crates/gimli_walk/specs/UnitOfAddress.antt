@@ -8,8 +8,8 @@ use Rattle.gimli_base.specs.View.{View}
 use Rattle.gimli_lists.specs.declared.aranges.entries.ArangeEntry.{ArangeEntry}
 use Rattle.gimli_lists.specs.Aranges.{aranges_of}
 use Rattle.gimli_lists.specs.ArangeSets.{ArangeSet, sets_of}
-use Rattle.gimli_walk.specs.Lines.{Text, only, hexadecimal, error_line}
-use Rattle.gimli_walk.specs.Text.{little}
+use Rattle.gimli_walk.specs.Lines.{Text, one_line, hexadecimal, error_line}
+use Rattle.gimli_walk.specs.Text.{little_view}
 
 -- whether a resolved tuple holds an address; a refused one holds none
 abbrev pub holds : ℕ → Result ArangeEntry Error → Bool
@@ -41,11 +41,11 @@ none_line = codes "none\n"
 
 -- the text of what was found
 abbrev pub found_text : Result (Option ℕ) Error → Text
-found_text (Ok (Some offset)) = only (found_line offset) 0
-found_text (Ok None) = only none_line 0
-found_text (Err e) = only (error_line (number_of e)) 1
+found_text (Ok (Some offset)) = one_line (found_line offset) 0
+found_text (Ok None) = one_line none_line 0
+found_text (Err e) = one_line (error_line (number_of e)) 1
 
 -- the text of the search for an address in the bytes of `.debug_aranges`, in little endian and with
 -- offsets of 64 bits
 abbrev pub find_of : ℕ → List ℕ → Text
-find_of address aranges = found_text (unit_holding (2 ^ 64) address (little aranges))
+find_of address aranges = found_text (unit_holding (2 ^ 64) address (little_view aranges))

@@ -14,7 +14,7 @@ use Rattle.gimli_walk.specs.declared.cursor.CursorStep.{CursorStep}
 use Rattle.gimli_walk.specs.declared.cursor.CursorStep.TheVariants.{NextEntry, NextDfs, NextSibling}
 use Rattle.gimli_walk.specs.declared.tree.TreeStep.{TreeStep}
 use Rattle.gimli_walk.specs.declared.tree.TreeStep.TheVariants.{Root, Next, Enter, Leave}
-use Rattle.gimli_walk.specs.Text.{WroteText, text_of, little, IsHonestWalk}
+use Rattle.gimli_walk.specs.Text.{WroteText, text_of, little_view, IsHonestWalk}
 
 -- a `&[&str]`
 abbrev pub Words : Type 0
@@ -129,7 +129,7 @@ pub data OfFile {F V : Type 0} (g : Mut F (Bor (List ℕ) × Unit {0}) (Option V
 -- what a walk over two sections writes, where its mode follows only references that are honest
 abbrev pub SaysWalk : Mode → Option (List ℕ) → Option (List ℕ) → List ℕ → List ℕ → ℕ → Type 0
 SaysWalk mode old new info table status =
-    IsHonestWalk (2 ^ 64) mode (little info) (little table)
+    IsHonestWalk (2 ^ 64) mode (little_view info) (little_view table)
     → WroteText old new (text_of mode info table) status
 
 -- What comes of a walk by the steps that letters name: status 2 where a letter names none, and

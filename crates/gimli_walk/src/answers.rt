@@ -4,7 +4,7 @@ ghost use Rattle.std.specs.Prelude.{◌≡◌, Bool, true, length, OnOk, IfOk};
 ghost use Rattle.std.proofs.Common.{refl, ◌∙◌};
 ghost use Rattle.std.specs.Io.KnownBytes.{Appends};
 ghost use Rattle.std.specs.Result.{is_err};
-ghost use Rattle.gimli_base.specs.Table.{found};
+ghost use Rattle.gimli_base.specs.Table.{codes_of};
 ghost use Rattle.gimli_units.specs.UnitHeld.{unit_view};
 ghost use Rattle.gimli_walk.specs.Cursors.{outcome_text, answer_line, answers_text};
 ghost use Rattle.gimli_walk.specs.CursorTurns.{answer_at, HasRun};
@@ -120,7 +120,7 @@ pub(crate) fn write_steps<R: Reader, A: Allocator + Copy, W: Write>(
     out: &mut W,
 ) -> Result<u8, WriteFault>
     ensures { let u = unit_view unit.now in
-        let declared = found abbreviations.now in
+        let declared = codes_of abbreviations.now in
         let old = W.contents out.old in
         let new = W.contents out.new in
         IfOk result

@@ -1,6 +1,6 @@
 //! The line of the check of a unit's references.
 
-ghost use Rattle.gimli_base.specs.Table.{found};
+ghost use Rattle.gimli_base.specs.Table.{codes_of};
 ghost use Rattle.gimli_units.specs.UnitHeld.{unit_view};
 ghost use Rattle.gimli_walk.specs.Check.{check_text};
 ghost use Rattle.gimli_walk.specs.Stops.{WroteUntil};
@@ -19,7 +19,8 @@ pub(crate) fn write_check<R: Reader, A: Allocator + Copy, W: Write>(
     abbreviations: &Abbreviations<A>,
     out: &mut W,
 ) -> Result<u8, Stop>
-    ensures { let text = check_text R.Offset.limit (unit_view unit.now) (found abbreviations.now) in
+    ensures { let declared = codes_of abbreviations.now in
+        let text = check_text R.Offset.limit (unit_view unit.now) declared in
         WroteUntil (W.contents out.old) (W.contents out.new) text result }
 {
     match first_false_sibling(alloc, unit, abbreviations) {

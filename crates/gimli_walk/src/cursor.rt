@@ -8,7 +8,7 @@ ghost use Rattle.gimli_base.specs.declared.error.Error.{Error as SpecError};
 ghost use Rattle.gimli_base.specs.declared.error.Error.TheVariants.{OutOfMemory};
 ghost use Rattle.gimli_base.specs.Reading.{UnlessMemory};
 ghost use Rattle.gimli_base.specs.Offset.{answer_of};
-ghost use Rattle.gimli_base.specs.Table.{found};
+ghost use Rattle.gimli_base.specs.Table.{codes_of};
 ghost use Rattle.gimli_units.specs.Entry.{entry_of, is_null};
 ghost use Rattle.gimli_units.specs.CursorPlace.{some_of, first_of_rows};
 ghost use Rattle.gimli_units.specs.CursorMoves.{Goes, IsHonestFor, followed_to, rows_from};
@@ -17,7 +17,7 @@ ghost use Rattle.gimli_units.specs.CursorMoves.{IsFurther};
 ghost use Rattle.gimli_units.specs.CursorRead.{Stands};
 ghost use Rattle.gimli_units.specs.CursorStart.{cursor_of, cursor_start};
 ghost use Rattle.gimli_units.specs.UnitRows.{start_view};
-ghost use Rattle.gimli_walk.specs.Cursors.{seen, IsPaired, step_of, is_sibling};
+ghost use Rattle.gimli_walk.specs.Cursors.{answer_held, IsPaired, step_of, is_sibling};
 ghost use Rattle.gimli_walk.specs.Runs.{told_run};
 ghost use Rattle.gimli_walk.specs.TrueAnswers.{IsRunFrom};
 ghost use Rattle.gimli_walk.specs.CursorTurns.{HasRun};
@@ -162,8 +162,8 @@ struct Collected<R: Reader, A: Allocator> {
 
 impl<R: Reader, A: Allocator + Copy> Sink<R, A> for Collected<R, A> {
     ghost has_told = { λ s told t.
-        HasCollected (seen R.view R.Offset.number) (IsPaired R.Offset.number) s.answers.items told
-        t.answers.items };
+        HasCollected (answer_held R.view R.Offset.number) (IsPaired R.Offset.number)
+        s.answers.items told t.answers.items };
 
     ghost writes = { false };
 
@@ -202,7 +202,7 @@ fn collect_steps<R: Reader, A: Allocator + Copy>(
     steps: &[CursorStep],
 ) -> Run<CursorAnswer<R, A>, A>
     ensures run { HasRun R.Offset.limit cursor.old steps.now
-        (map (seen R.view R.Offset.number) result.answers.items) }
+        (map (answer_held R.view R.Offset.number) result.answers.items) }
     ensures paired { All (IsPaired R.Offset.number) result.answers.items }
     ensures stopped { result.stopped ≡ true → length result.answers.items < length steps.now }
     ensures whole { result.stopped ≡ false → length result.answers.items ≡ length steps.now }
@@ -276,8 +276,8 @@ pub fn run_cursor<R: Reader, A: Allocator + Copy>(
 ) -> Result<Run<CursorAnswer<R, A>, A>>
     ensures run { let u = unit_view unit.now in
         let from = start_view u (option_map (λ o. R.Offset.number o.0) start) in
-        IsRunFrom R.Offset.limit u (found abbreviations.now) true steps.now from
-        (answer_of (told_run (seen R.view R.Offset.number)) result) }
+        IsRunFrom R.Offset.limit u (codes_of abbreviations.now) true steps.now from
+        (answer_of (told_run (answer_held R.view R.Offset.number)) result) }
     ensures paired { IfOk result (λ r. All (IsPaired R.Offset.number) r.answers.items) }
 {
     let mut cursor = start_cursor(alloc, unit, abbreviations, start, true)?;
@@ -298,8 +298,8 @@ pub fn run_cursor_plain<R: Reader, A: Allocator + Copy>(
 ) -> Result<Run<CursorAnswer<R, A>, A>>
     ensures run { let u = unit_view unit.now in
         let from = start_view u (option_map (λ o. R.Offset.number o.0) start) in
-        IsRunFrom R.Offset.limit u (found abbreviations.now) false steps.now from
-        (answer_of (told_run (seen R.view R.Offset.number)) result) }
+        IsRunFrom R.Offset.limit u (codes_of abbreviations.now) false steps.now from
+        (answer_of (told_run (answer_held R.view R.Offset.number)) result) }
     ensures paired { IfOk result (λ r. All (IsPaired R.Offset.number) r.answers.items) }
 {
     let mut cursor = start_cursor(alloc, unit, abbreviations, start, false)?;

@@ -5,12 +5,12 @@ ghost use Rattle.gimli_base.specs.declared.common.SectionId.TheVariants.{DebugIn
 ghost use Rattle.gimli_base.specs.Abbreviations.{map_at};
 ghost use Rattle.gimli_base.specs.Offset.{answer_of};
 ghost use Rattle.gimli_base.specs.Reading.{UnlessMemory};
-ghost use Rattle.gimli_base.specs.Table.{found};
+ghost use Rattle.gimli_base.specs.Table.{codes_of};
 ghost use Rattle.gimli_units.specs.UnitHeld.{unit_view};
 ghost use Rattle.gimli_units.specs.UnitKind.{map_type};
 ghost use Rattle.gimli_headers.specs.Units.{units_of};
 ghost use Rattle.gimli_walk.specs.declared.lines.Stop.TheVariants.{Memory};
-ghost use Rattle.gimli_walk.specs.Text.{Wrote, WroteAll, has_unit, little};
+ghost use Rattle.gimli_walk.specs.Text.{Wrote, WroteAll, has_unit, little_view};
 ghost use Rattle.gimli_walk.specs.Stops.{WroteUntil};
 ghost use Rattle.gimli_walk.specs.Dump.{type_number as number_of_type, unit_dump, units_dump};
 ghost use Rattle.gimli_walk.specs.Dump.{dump_of};
@@ -33,8 +33,11 @@ use std::result::Result as StdResult;
 /// section nothing is written, and the status is 0.
 ///
 /// Where memory is refused, whole lines from the front are written and then `error 24`, and the
-/// status is 1; without a unit no memory is asked for. Nothing is said of what is written where a
-/// write fails.
+/// status is 1. `alloc` is asked for memory only after the first header is read: of an empty
+/// section, and where that header is refused, all lines are written.
+///
+/// Refusal: `WriteFault`, where `out` refuses a write. Nothing more is written then, and nothing is
+/// said of what was written before.
 pub fn dump_text<A: Allocator + Copy, W: Write>(
     alloc: A,
     info: &[u8],
@@ -44,7 +47,7 @@ pub fn dump_text<A: Allocator + Copy, W: Write>(
     ensures text { let text = dump_of info.now abbreviations.now in
         IfOk result (λ status. Wrote (W.contents out.old) (W.contents out.new) text status) }
     ensures without_memory { let text = dump_of info.now abbreviations.now in
-        has_unit (2 ^ 64) (little info.now) ≡ false →
+        has_unit (2 ^ 64) (little_view info.now) ≡ false →
         IfOk result (λ status. WroteAll (W.contents out.old) (W.contents out.new) text status) }
 {
     let debug_info = DebugInfo::new(info, LittleEndian);
@@ -102,9 +105,9 @@ fn table_of<R: Reader, A: Allocator + Copy>(
     before: Option<Held<A>>,
 ) -> Result<Held<A>>
     requires held { let declarations = ⟦<DebugAbbrev<R> as Section<R>>⟧.content debug_abbrev.now in
-        IfSome before (λ h. Ok (found h.table) ≡ map_at h.offset declarations) }
+        IfSome before (λ h. Ok (codes_of h.table) ≡ map_at h.offset declarations) }
     ensures table { let declarations = ⟦<DebugAbbrev<R> as Section<R>>⟧.content debug_abbrev.now in
-        UnlessMemory result (answer_of (λ h. found h.table) result
+        UnlessMemory result (answer_of (λ h. codes_of h.table) result
         ≡ map_at (unit_view unit.now).abbreviations declarations) }
     ensures offset { IfOk result (λ h. h.offset ≡ (unit_view unit.now).abbreviations) }
 {
@@ -128,9 +131,9 @@ fn dump_unit<R: Reader, A: Allocator + Copy, W: Write>(
     out: &mut W,
 ) -> StdResult<u8, Stop>
     requires held { let declarations = ⟦<DebugAbbrev<R> as Section<R>>⟧.content debug_abbrev.now in
-        IfSome held.old (λ h. Ok (found h.table) ≡ map_at h.offset declarations) }
+        IfSome held.old (λ h. Ok (codes_of h.table) ≡ map_at h.offset declarations) }
     ensures held { let declarations = ⟦<DebugAbbrev<R> as Section<R>>⟧.content debug_abbrev.now in
-        IfSome held.new (λ h. Ok (found h.table) ≡ map_at h.offset declarations) }
+        IfSome held.new (λ h. Ok (codes_of h.table) ≡ map_at h.offset declarations) }
     ensures text { let declarations = ⟦<DebugAbbrev<R> as Section<R>>⟧.content debug_abbrev.now in
         let text = unit_dump R.Offset.limit declarations (unit_view unit.now) in
         WroteUntil (W.contents out.old) (W.contents out.new) text result }

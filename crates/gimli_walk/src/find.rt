@@ -78,8 +78,10 @@ fn write_none<W: Write>(out: &mut W) -> StdResult<(), WriteFault>
 
 /// Writes where the unit begins to which an address belongs, as `unit OFFSET`, or `none`, or
 /// `error` and the number of the refusal, and answers the exit status: 1 where a refusal was met,
-/// else 0. The section is little endian. No memory is asked for. Nothing is said
-/// of what is written where a write fails.
+/// else 0. The section is little endian. The search takes no memory.
+///
+/// Refusal: `WriteFault`, where `out` refuses a write. Nothing more is written then, and nothing is
+/// said of what was written before.
 pub fn find_text<W: Write>(address: u64, aranges: &[u8], out: &mut W) -> StdResult<u8, WriteFault>
     ensures { let text = find_of address aranges.now in
         IfOk result (λ status. WroteAll (W.contents out.old) (W.contents out.new) text status) }

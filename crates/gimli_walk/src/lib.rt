@@ -1,4 +1,6 @@
-//! Whole walks over a unit, as text.
+//! Whole runs over units and lists, their answers held in memory (`run_tree` and its like), and
+//! walks, dumps and searches written as text (`walk_text`, `dump_text`, `find_text`). Begin with
+//! `walk_text`, or with `run_words`, which does what the words of the program say.
 #![tactic(auto)]
 
 mod answers;

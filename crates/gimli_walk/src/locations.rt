@@ -21,7 +21,8 @@ use std::alloc::Allocator;
 /// Offsets count from `base` on, until an entry gives another base address. Addresses that are
 /// named by their index are those of the table that begins at `addr_base` in `addr`. The encoding's
 /// size of addresses has to be 1, 2, 4 or 8. Refusal: `UnexpectedEof`, where the offset lies after
-/// the section's end.
+/// the section's end. Where memory for the answers is refused the run is stopped, and holds the
+/// answers before.
 #[tactic(auto, unfolding(gimli_lists::specs::Places::list_answers))]
 pub fn run_locations<R: Reader, A: Allocator + Copy>(
     alloc: A,

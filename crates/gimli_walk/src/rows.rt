@@ -1,7 +1,7 @@
 //! The lines of a unit's rows.
 
 ghost use Rattle.std.specs.Prelude.{◌≡◌, IfOk, Err};
-ghost use Rattle.gimli_base.specs.Table.{found};
+ghost use Rattle.gimli_base.specs.Table.{codes_of};
 ghost use Rattle.gimli_units.specs.Entry.{entry_at};
 ghost use Rattle.gimli_units.specs.Rows.{ahead_at};
 ghost use Rattle.gimli_units.specs.UnitHeld.{unit_view};
@@ -23,7 +23,7 @@ fn write_rows_left<R: Reader, A: Allocator + Copy, W: Write>(
     out: &mut W,
 ) -> Result<u8, Stop>
     ensures { let read = entry_at R.Offset.limit entries.old.encoding
-        (found entries.old.abbreviations) in
+        (codes_of entries.old.abbreviations) in
         let text = rows_text (ahead_at read entries.old.end entries.old.depth entries.old.rest) in
         WroteUntil (W.contents out.old) (W.contents out.new) text result }
 {
@@ -59,7 +59,8 @@ pub(crate) fn write_rows<R: Reader, A: Allocator + Copy, W: Write>(
     abbreviations: &Abbreviations<A>,
     out: &mut W,
 ) -> Result<u8, Stop>
-    ensures { let text = unit_text R.Offset.limit (unit_view unit.now) (found abbreviations.now) in
+    ensures { let declared = codes_of abbreviations.now in
+        let text = unit_text R.Offset.limit (unit_view unit.now) declared in
         WroteUntil (W.contents out.old) (W.contents out.new) text result }
 {
     match unit.entries_raw(abbreviations, None) {

@@ -20,7 +20,7 @@ use std::alloc::Allocator;
 pub struct Run<T, A: Allocator> {
     /// The answers, in order; where the run was stopped they are the first ones.
     pub answers: Vec<T, A>,
-    /// Whether memory for the answers was refused.
+    /// Whether memory was refused, for the answers or for what they are read from.
     pub stopped: bool,
 }
 
@@ -50,6 +50,8 @@ pub(crate) fn run_all<T: Drop, I: Iterator<Item = T>, A: Allocator>(alloc: A, it
 
 /// The units of `.debug_info` in order, and then the refusal that ends them, if it isn't the
 /// section's end.
+///
+/// Where memory for the answers is refused the run is stopped, and holds the answers before.
 pub fn run_units<R: Reader, A: Allocator + Copy>(
     alloc: A,
     debug_info: &DebugInfo<R>,
@@ -63,6 +65,8 @@ pub fn run_units<R: Reader, A: Allocator + Copy>(
 
 /// The units of `.debug_types` in order, and then the refusal that ends them, if it isn't the
 /// section's end.
+///
+/// Where memory for the answers is refused the run is stopped, and holds the answers before.
 pub fn run_type_units<R: Reader, A: Allocator + Copy>(
     alloc: A,
     debug_types: &DebugTypes<R>,

@@ -1,9 +1,9 @@
 //! Walks over the first unit, as text.
 
 ghost use Rattle.std.specs.Prelude.{◌≡◌, ◌^◌, IfOk, false};
-ghost use Rattle.gimli_base.specs.Table.{found};
+ghost use Rattle.gimli_base.specs.Table.{codes_of};
 ghost use Rattle.gimli_base.specs.Abbreviations.{map_at};
-ghost use Rattle.gimli_walk.specs.Text.{Wrote, WroteAll, WroteText, has_unit, little};
+ghost use Rattle.gimli_walk.specs.Text.{Wrote, WroteAll, WroteText, has_unit, little_view};
 ghost use Rattle.gimli_walk.specs.Text.{declared_text, mode_text, sections_text, text_of};
 ghost use Rattle.gimli_walk.specs.Text.{IsHonestMode, IsHonestDeclared, IsHonestWalk};
 ghost use Rattle.gimli_walk.specs.Text.{WroteTrueMode, WroteTrueDeclared, WroteTrueWalk};
@@ -25,8 +25,11 @@ use std::io::Write;
 /// where there is no unit or a refusal was met, else 0. The sections are little endian.
 ///
 /// Where memory is refused, whole lines from the front are written and then `error 24`, and the
-/// status is 1; before the header of the unit is read no memory is asked for. Nothing is said of
-/// what is written where a write fails.
+/// status is 1. `alloc` is asked for memory only after the header of the unit is read: without a
+/// unit, and where its header is refused, all lines are written.
+///
+/// Refusal: `WriteFault`, where `out` refuses a write. Nothing more is written then, and nothing is
+/// said of what was written before.
 pub fn walk_text<A: Allocator + Copy, W: Write>(
     alloc: A,
     mode: Mode<'_>,
@@ -35,14 +38,14 @@ pub fn walk_text<A: Allocator + Copy, W: Write>(
     out: &mut W,
 ) -> Result<u8, WriteFault>
     ensures text { let text = text_of mode.entry info.now abbreviations.now in
-        IsHonestWalk (2 ^ 64) mode.entry (little info.now) (little abbreviations.now) →
+        IsHonestWalk (2 ^ 64) mode.entry (little_view info.now) (little_view abbreviations.now) →
         IfOk result (λ status. WroteText (W.contents out.old) (W.contents out.new) text status) }
     ensures true_lines { let old = W.contents out.old in
         let new = W.contents out.new in
-        IfOk result (λ status. WroteTrueWalk (2 ^ 64) mode.entry (little info.now)
-        (little abbreviations.now) old new status) }
+        IfOk result (λ status. WroteTrueWalk (2 ^ 64) mode.entry (little_view info.now)
+        (little_view abbreviations.now) old new status) }
     ensures without_memory { let text = text_of mode.entry info.now abbreviations.now in
-        has_unit (2 ^ 64) (little info.now) ≡ false →
+        has_unit (2 ^ 64) (little_view info.now) ≡ false →
         IfOk result (λ status. WroteAll (W.contents out.old) (W.contents out.new) text status) }
 {
     let debug_info = DebugInfo::new(info, LittleEndian);
@@ -131,12 +134,12 @@ fn walk_declared<R: Reader, A: Allocator + Copy, W: Write>(
     out: &mut W,
 ) -> Result<u8, WriteFault>
     ensures true_lines { let u = unit_view unit.now in
-        let declared = found abbreviations.now in
+        let declared = codes_of abbreviations.now in
         let old = W.contents out.old in
         let new = W.contents out.new in
         IfOk result (λ status. WroteTrueMode R.Offset.limit mode.entry u declared old new status) }
     ensures text { let u = unit_view unit.now in
-        let declared = found abbreviations.now in
+        let declared = codes_of abbreviations.now in
         let text = mode_text R.Offset.limit mode.entry u declared in
         IsHonestMode R.Offset.limit mode.entry u declared →
         IfOk result (λ status. Wrote (W.contents out.old) (W.contents out.new) text status) }

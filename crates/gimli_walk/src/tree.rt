@@ -4,7 +4,7 @@ ghost use Rattle.std.specs.Prelude.{◌≡◌, Option, true, false, length, [], 
 ghost use Rattle.std.specs.Option.{option_map};
 ghost use Rattle.gimli_base.specs.declared.error.Error.TheVariants.{OutOfMemory};
 ghost use Rattle.gimli_base.specs.Offset.{answer_of};
-ghost use Rattle.gimli_base.specs.Table.{found};
+ghost use Rattle.gimli_base.specs.Table.{codes_of};
 ghost use Rattle.gimli_units.specs.TreePlace.{a_fault};
 ghost use Rattle.gimli_walk.specs.declared.lines.Stop.TheVariants.{Memory, Write as WriteStop};
 ghost use Rattle.gimli_walk.specs.declared.tree.TreeStep.TheVariants.{Root, Next, Enter, Leave};
@@ -297,9 +297,10 @@ fn collect_steps<R: Reader, A: Allocator + Copy>(
 /// its offset, each root is the tree's, and from a root to the next the offsets of nodes grow. And
 /// each step leads from where the one before stood to where the definition says, but for a node
 /// that is sought by references that are not honest, which stands ahead all the same. Lists are
-/// kept in a stack of their own, so that a walk takes none of the machine's. Refusal:
-/// `OffsetOutOfBounds` of the start. Where memory is refused the run is stopped, and holds the
-/// answers before.
+/// kept in a stack of their own, so that a walk takes none of the machine's.
+///
+/// Refusal: `OffsetOutOfBounds` of the start, also without one where the unit has no bytes of
+/// entries. Where memory is refused the run is stopped, and holds the answers before.
 pub fn run_tree<R: Reader, A: Allocator + Copy>(
     alloc: A,
     unit: &UnitHeader<R>,
@@ -309,7 +310,7 @@ pub fn run_tree<R: Reader, A: Allocator + Copy>(
 ) -> Result<Run<TreeAnswer<R, A>, A>>
     ensures { let u = unit_view unit.now in
         let from = tree_view u (option_map (λ o. R.Offset.number o.0) start) in
-        IsTreeRunFrom R.Offset.limit u (found abbreviations.now) steps.now from
+        IsTreeRunFrom R.Offset.limit u (codes_of abbreviations.now) steps.now from
         (answer_of (told_run (told_by R.view R.Offset.number)) result) }
 {
     let tree = unit.entries_tree(alloc, abbreviations, start)?;

@@ -3,7 +3,7 @@
 ghost use Rattle.std.specs.Prelude.{◌≡◌, Bool, true, length, OnOk, IfOk, None};
 ghost use Rattle.std.proofs.Common.{refl, ◌∙◌};
 ghost use Rattle.std.specs.Io.KnownBytes.{Appends};
-ghost use Rattle.gimli_base.specs.Table.{found};
+ghost use Rattle.gimli_base.specs.Table.{codes_of};
 ghost use Rattle.gimli_units.specs.TreePlace.{a_node};
 ghost use Rattle.gimli_units.specs.TreeWalker.{node_held};
 ghost use Rattle.gimli_units.specs.UnitHeld.{unit_view};
@@ -132,12 +132,12 @@ pub(crate) fn write_tree_steps<R: Reader, A: Allocator + Copy, W: Write>(
     out: &mut W,
 ) -> Result<u8, WriteFault>
     ensures text { let u = unit_view unit.now in
-        let declared = found abbreviations.now in
+        let declared = codes_of abbreviations.now in
         let text = run_text_of (run_tree_answers R.Offset.limit u declared None steps.now) in
         IsHonestFrom R.Offset.limit u declared (tree_view u None) →
         IfOk result (λ status. Wrote (W.contents out.old) (W.contents out.new) text status) }
     ensures true_lines { let u = unit_view unit.now in
-        let declared = found abbreviations.now in
+        let declared = codes_of abbreviations.now in
         let old = W.contents out.old in
         let new = W.contents out.new in
         IfOk result (λ status. WroteTrueTree R.Offset.limit u declared steps.now old new status) }

@@ -1,4 +1,6 @@
-//! Writes what a walk over the first unit of two section files answers.
+//! The program: it reads files of sections, and writes walks over their first unit, dumps of all
+//! units, or the unit to which an address belongs. It hands its words, files and streams to
+//! `run_words` of `gimli_walk`; begin there.
 #![tactic(auto)]
 
 use gimli_walk::run_words;

@@ -11,7 +11,7 @@ ghost use Rattle.gimli_lists.specs.Aranges.{next_arange, raw_entries, aranges_of
 ghost use Rattle.gimli_lists.specs.Aranges.{IsNextArange};
 
 use crate::Range;
-use crate::rnglists::raw::RawRange;
+use crate::rnglists::entry::RawRange;
 use gimli_base::{Encoding, Reader, ReaderAddress, ReaderOffset, Result};
 use std::fmt::Debug;
 use std::marker::Model;
@@ -74,7 +74,7 @@ impl<R: Reader> ArangeEntryIter<R> {
     }
 
     /// The next tuple that is not two zeros, or none where none is left. Its end is 0, and its
-    /// address may be one that stands for none.
+    /// address may be one that stands for none. The call is never refused.
     pub fn next_raw(&mut self) -> Result<Option<ArangeEntry>>
         ensures value { result ≡ Ok (next_raw_entry self.old).0 }
         ensures left { self.new ≡ (next_raw_entry self.old).1 }
@@ -116,7 +116,7 @@ impl<R: Reader> Iterator for ArangeEntryIter<R> {
 /// A range of addresses of a set, with its length.
 ///
 /// Entries are ordered by their ranges, and those of the same range by their lengths.
-#[derive(Debug, PartialEq, Eq, PartialOrd, Ord, Drop)]
+#[derive(Clone, Copy, Debug, PartialEq, Eq, PartialOrd, Ord)]
 pub struct ArangeEntry {
     range: Range,
     length: u64,
@@ -127,10 +127,7 @@ impl ArangeEntry {
     pub fn copy(&self) -> Self
         ensures { result ≡ self.now }
     {
-        ArangeEntry {
-            range: self.range,
-            length: self.length,
-        }
+        *self
     }
 
     /// The first address.

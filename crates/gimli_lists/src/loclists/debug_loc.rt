@@ -1,5 +1,6 @@
 //! The section `.debug_loc`.
 
+ghost use Rattle.std.proofs.Common.{ap};
 ghost use Rattle.std.specs.Prelude.{◌≡◌};
 ghost use Rattle.gimli_base.specs.declared.common.SectionId.TheVariants.{DebugLoc as LocSection};
 
@@ -36,23 +37,13 @@ impl<R: Reader> Section<R> for DebugLoc<R> {
 
     ghost content = { λ s. R.view s.section };
 
+    ghost content_of_from = { λ _ _ same. ap R.view same };
+
     fn id() -> SectionId {
         SectionId::DebugLoc
     }
 
     fn reader(&self) -> &R {
         &self.section
-    }
-}
-
-impl<R: Reader> DebugLoc<R> {
-    /// A section of the same bytes.
-    pub fn copy(&self) -> Self
-        ensures { ⟦<DebugLoc<R> as Section<R>>⟧.content result
-            ≡ ⟦<DebugLoc<R> as Section<R>>⟧.content self.now }
-    {
-        DebugLoc {
-            section: self.section.copy(),
-        }
     }
 }

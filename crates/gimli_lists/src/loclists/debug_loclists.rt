@@ -1,5 +1,6 @@
 //! The section `.debug_loclists`.
 
+ghost use Rattle.std.proofs.Common.{ap};
 ghost use Rattle.std.specs.Prelude.{◌≡◌};
 ghost use Rattle.gimli_base.specs.declared.common.SectionId.TheVariants.{DebugLocLists as LocListsSection};
 
@@ -36,23 +37,13 @@ impl<R: Reader> Section<R> for DebugLocLists<R> {
 
     ghost content = { λ s. R.view s.section };
 
+    ghost content_of_from = { λ _ _ same. ap R.view same };
+
     fn id() -> SectionId {
         SectionId::DebugLocLists
     }
 
     fn reader(&self) -> &R {
         &self.section
-    }
-}
-
-impl<R: Reader> DebugLocLists<R> {
-    /// A section of the same bytes.
-    pub fn copy(&self) -> Self
-        ensures { ⟦<DebugLocLists<R> as Section<R>>⟧.content result
-            ≡ ⟦<DebugLocLists<R> as Section<R>>⟧.content self.now }
-    {
-        DebugLocLists {
-            section: self.section.copy(),
-        }
     }
 }

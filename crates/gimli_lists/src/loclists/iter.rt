@@ -11,19 +11,20 @@ ghost use Rattle.gimli_base.specs.View.{View};
 ghost use Rattle.gimli_lists.specs.LocationEntry.{location_entry_of, location_grammar};
 ghost use Rattle.gimli_lists.specs.LocationReads.{location_grammar-takes};
 ghost use Rattle.gimli_lists.specs.Locations.{location_of, locations_ahead};
-ghost use Rattle.gimli_lists.specs.Places.{next_raw, raw_list_ahead, ListPlace, converted, InList};
+ghost use Rattle.gimli_lists.specs.Places.{next_raw, raw_list_ahead, ListPlace, entry_conversion};
+ghost use Rattle.gimli_lists.specs.Places.{InList};
 ghost use Rattle.gimli_lists.specs.Places.{IsAfterEntries, IsSpent, read_from, IsNext};
 ghost use Rattle.gimli_lists.specs.RawList.{IsFirstOf};
 ghost use Rattle.gimli_lists.specs.RangeEntry.{range_entry_of};
-ghost use Rattle.gimli_lists.specs.Resolved.{answered};
-ghost use Rattle.gimli_base.specs.Reading.{transposed};
+ghost use Rattle.gimli_lists.specs.Resolved.{answer_then};
+ghost use Rattle.gimli_base.specs.Reading.{transpose};
 ghost use Rattle.gimli_lists.specs.WithPayload.{with_payload};
 
 use crate::loclists::LocationListEntry;
-use crate::loclists::raw::{RawLocListEntry, RawLocListIter};
+use crate::loclists::entry::{RawLocListEntry, RawLocListIter};
+use crate::next_item::{EntryWalk, next_item};
 use crate::rnglists::iter::resolve_entry;
 use crate::rnglists::{Range, RawRngListEntry};
-use crate::walk::{EntryWalk, next_item};
 use gimli_base::{DebugAddr, DebugAddrBase, Expression, Reader, Result, Section};
 use std::marker::Model;
 
@@ -101,14 +102,14 @@ impl<R: Reader> LocListIter<R> {
 
     // What an entry of a range list with an expression stands for: a location, or none.
     #[inline]
-    #[tactic(auto, unfolding(crate::specs::Places::converted))]
+    #[tactic(auto, unfolding(crate::specs::Places::entry_conversion))]
     fn locate(
         &mut self,
         entry: RawRngListEntry<R::Offset>,
         expr: Expression<R>,
     ) -> Result<Option<LocationListEntry<R>>>
         ensures { (answer_of (option_map (location_of R.view)) result, self.new)
-            ≡ converted R.Offset.limit
+            ≡ entry_conversion R.Offset.limit
             (with_payload (R.view expr.0) (range_entry_of R.Offset.number entry)) self.old }
     {
         let size = self.raw.address_size();
@@ -135,13 +136,14 @@ impl<R: Reader> LocListIter<R> {
     /// not below its end, nor by a pair of offsets from a base that stands for none. Refusals, of
     /// the look-up of an address by its index: `UnexpectedEof`, `UnsupportedOffset`; the base and
     /// the rest of the list stay then.
-    #[tactic(auto, unfolding(crate::specs::Places::converted))]
+    #[tactic(auto, unfolding(crate::specs::Places::entry_conversion))]
     pub fn convert_raw(
         &mut self,
         raw_loc: RawLocListEntry<R>,
     ) -> Result<Option<LocationListEntry<R>>>
-        ensures { (answer_of (option_map (location_of R.view)) result, self.new)
-            ≡ converted R.Offset.limit (location_entry_of R.view R.Offset.number raw_loc) self.old }
+        ensures { let entry = location_entry_of R.view R.Offset.number raw_loc in
+            (answer_of (option_map (location_of R.view)) result, self.new)
+            ≡ entry_conversion R.Offset.limit entry self.old }
     {
         let (entry, expr) = match raw_loc {
             RawLocListEntry::BaseAddress { addr } => {
@@ -191,12 +193,13 @@ impl<R: Reader> LocListIter<R> {
     /// The next location, or none after the last.
     ///
     /// Refusals: those of `RawLocListIter::next`, after which nothing is left, and those of
-    /// `convert_raw`, after which the rest of the list is left. Nothing is left after the last
-    /// entry either.
+    /// `convert_raw`, after which the rest of the list is left. Both can be `UnexpectedEof` or
+    /// `UnsupportedOffset`; the next call tells, since a list that is over answers none. Nothing is
+    /// left after the last entry either.
     #[inline(always)]
     pub fn next(&mut self) -> Result<Option<LocationListEntry<R>>>
         ensures ahead { locations_ahead R.Offset.limit self.old
-            ≡ answered (answer_of (option_map (location_of R.view)) result)
+            ≡ answer_then (answer_of (option_map (location_of R.view)) result)
             (locations_ahead R.Offset.limit self.new) }
 
         // The entries that stand for nothing are read, and the one after them; the base before the
@@ -232,7 +235,7 @@ impl<R: Reader> Iterator for LocListIter<R> {
 
     ghost next_gives = { λ s r t.
         IsNext (location_grammar R.Offset.limit) R.Offset.limit s
-        (answer_of (option_map (location_of R.view)) (transposed r)) t };
+        (answer_of (option_map (location_of R.view)) (transpose r)) t };
 
     ghost remaining = { λ s. at_most (length s.raw.rest.bytes) };
 

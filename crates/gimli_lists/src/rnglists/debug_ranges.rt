@@ -1,5 +1,6 @@
 //! The section `.debug_ranges`.
 
+ghost use Rattle.std.proofs.Common.{ap};
 ghost use Rattle.std.specs.Prelude.{◌≡◌};
 ghost use Rattle.gimli_base.specs.declared.common.SectionId.TheVariants.{DebugRanges as RangesSection};
 
@@ -36,23 +37,13 @@ impl<R: Reader> Section<R> for DebugRanges<R> {
 
     ghost content = { λ s. R.view s.section };
 
+    ghost content_of_from = { λ _ _ same. ap R.view same };
+
     fn id() -> SectionId {
         SectionId::DebugRanges
     }
 
     fn reader(&self) -> &R {
         &self.section
-    }
-}
-
-impl<R: Reader> DebugRanges<R> {
-    /// A section of the same bytes.
-    pub fn copy(&self) -> Self
-        ensures { ⟦<DebugRanges<R> as Section<R>>⟧.content result
-            ≡ ⟦<DebugRanges<R> as Section<R>>⟧.content self.now }
-    {
-        DebugRanges {
-            section: self.section.copy(),
-        }
     }
 }

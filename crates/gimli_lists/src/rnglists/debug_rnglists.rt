@@ -1,5 +1,6 @@
 //! The section `.debug_rnglists`.
 
+ghost use Rattle.std.proofs.Common.{ap};
 ghost use Rattle.std.specs.Prelude.{◌≡◌};
 ghost use Rattle.gimli_base.specs.declared.common.SectionId.TheVariants.{DebugRngLists as RngListsSection};
 
@@ -36,23 +37,13 @@ impl<R: Reader> Section<R> for DebugRngLists<R> {
 
     ghost content = { λ s. R.view s.section };
 
+    ghost content_of_from = { λ _ _ same. ap R.view same };
+
     fn id() -> SectionId {
         SectionId::DebugRngLists
     }
 
     fn reader(&self) -> &R {
         &self.section
-    }
-}
-
-impl<R: Reader> DebugRngLists<R> {
-    /// A section of the same bytes.
-    pub fn copy(&self) -> Self
-        ensures { ⟦<DebugRngLists<R> as Section<R>>⟧.content result
-            ≡ ⟦<DebugRngLists<R> as Section<R>>⟧.content self.now }
-    {
-        DebugRngLists {
-            section: self.section.copy(),
-        }
     }
 }

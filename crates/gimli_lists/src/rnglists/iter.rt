@@ -7,18 +7,19 @@ ghost use Rattle.std.specs.Iterator.{at_most};
 ghost use Rattle.gimli_base.specs.Address.{min_tombstone, table_address};
 ghost use Rattle.gimli_base.specs.Offset.{answer_of};
 ghost use Rattle.gimli_base.specs.Reading.{is_size};
-ghost use Rattle.gimli_lists.specs.Places.{next_raw, raw_list_ahead, ListPlace, converted, InList};
+ghost use Rattle.gimli_lists.specs.Places.{next_raw, raw_list_ahead, ListPlace, entry_conversion};
+ghost use Rattle.gimli_lists.specs.Places.{InList};
 ghost use Rattle.gimli_lists.specs.Places.{IsAfterEntries, IsSpent, read_from, IsNext};
 ghost use Rattle.gimli_lists.specs.RawList.{IsFirstOf};
 ghost use Rattle.gimli_lists.specs.RangeEntry.{range_entry_of, range_grammar};
 ghost use Rattle.gimli_lists.specs.RangeReads.{range_grammar-takes};
 ghost use Rattle.gimli_lists.specs.Ranges.{resolved_of, ranges_ahead};
-ghost use Rattle.gimli_lists.specs.Resolved.{base_given, resolve, answered};
-ghost use Rattle.gimli_base.specs.Reading.{transposed};
+ghost use Rattle.gimli_lists.specs.Resolved.{base_given, resolve, answer_then};
+ghost use Rattle.gimli_base.specs.Reading.{transpose};
 
+use crate::next_item::{EntryWalk, next_item};
 use crate::rnglists::Range;
-use crate::rnglists::raw::{RawRngListEntry, RawRngListIter};
-use crate::walk::{EntryWalk, next_item};
+use crate::rnglists::entry::{RawRngListEntry, RawRngListIter};
 use gimli_base::{DebugAddr, DebugAddrBase, Reader, ReaderAddress, Result, Section};
 use std::marker::Model;
 
@@ -101,10 +102,10 @@ impl<R: Reader> RngListIter<R> {
     /// below its end, nor by a pair of offsets from a base that stands for none. Refusals, of the
     /// look-up of an address by its index: `UnexpectedEof`, `UnsupportedOffset`; the base and the
     /// rest of the list stay then.
-    #[tactic(auto, unfolding(crate::specs::Places::converted))]
+    #[tactic(auto, unfolding(crate::specs::Places::entry_conversion))]
     pub fn convert_raw(&mut self, raw_range: RawRngListEntry<R::Offset>) -> Result<Option<Range>>
         ensures { (answer_of (option_map resolved_of) result, self.new)
-            ≡ converted R.Offset.limit (range_entry_of R.Offset.number raw_range) self.old }
+            ≡ entry_conversion R.Offset.limit (range_entry_of R.Offset.number raw_range) self.old }
     {
         let size = self.raw.address_size();
         let mut base = self.base_address;
@@ -128,7 +129,7 @@ impl<R: Reader> RngListIter<R> {
     #[inline(always)]
     pub fn next(&mut self) -> Result<Option<Range>>
         ensures ahead { ranges_ahead R.Offset.limit self.old
-            ≡ answered (answer_of (option_map resolved_of) result)
+            ≡ answer_then (answer_of (option_map resolved_of) result)
             (ranges_ahead R.Offset.limit self.new) }
 
         // The entries that stand for nothing are read, and the one after them; the base before the
@@ -191,7 +192,7 @@ impl<R: Reader> Iterator for RngListIter<R> {
 
     ghost next_gives = { λ s r t.
         IsNext (range_grammar R.Offset.limit) R.Offset.limit s
-        (answer_of (option_map resolved_of) (transposed r)) t };
+        (answer_of (option_map resolved_of) (transpose r)) t };
 
     ghost remaining = { λ s. at_most (length s.raw.rest.bytes) };
 

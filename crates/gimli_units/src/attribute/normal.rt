@@ -2,7 +2,7 @@
 
 ghost use Rattle.std.specs.Prelude.{◌≡◌};
 ghost use Rattle.gimli_units.specs.Value.{map_value};
-ghost use Rattle.gimli_units.specs.NormalValue.{normal};
+ghost use Rattle.gimli_units.specs.NormalValue.{normal_value};
 
 use super::Attribute;
 use crate::AttributeValue;
@@ -28,10 +28,10 @@ use gimli_base::{
 impl<R: Reader> Attribute<R> {
     /// The value as the name makes it: the first of the name's conversions that applies, else the
     /// value as the form shows it (DWARF 5, 7.5.4, table 7.5).
-    #[tactic(auto, unfolding(crate::specs::NormalValue::normal))]
+    #[tactic(auto, unfolding(crate::specs::NormalValue::normal_value))]
     pub fn value(&self) -> AttributeValue<R>
         ensures { map_value R.view R.Offset.number result
-            ≡ normal self.now.name.0 (map_value R.view R.Offset.number self.now.value) }
+            ≡ normal_value self.now.name.0 (map_value R.view R.Offset.number self.now.value) }
     {
         macro_rules! converted {
             ($call:ident, $variant:ident) => {

@@ -3,7 +3,7 @@ use Rattle.std.proofs.lemmas.Int.{to_z-of_z}
 use Rattle.gimli_base.specs.Abbreviations.{map_at}
 use Rattle.gimli_units.specs.UnitHeld.{unit_view}
 use Rattle.gimli_c.specs.Fronts.{at, unit_ahead}
-use Rattle.gimli_base.specs.Table.{found}
+use Rattle.gimli_base.specs.Table.{codes_of}
 use Rattle.gimli_c.proofs.EntryBounds.{told_undeclared}
 use Rattle.gimli_c.proofs.Resume.{unit_resumes, moved_entries}
 use Rattle.gimli_c.proofs.entries.read_entries.Goals as goal
@@ -32,9 +32,9 @@ returns-in-Ok-abbreviations-clause-resumes g c =
     let told = rw back at c.unit_entries.ensures in
     rw (← c.in-Ok.ensures, ← c.in-Ok-abbreviations.ensures)
     (unit_resumes g.R.Offset.ReaderOffset.limit (unit_view c.in-Ok.header)
-    (found c.in-Ok-abbreviations.table) c.in-Ok.header.entries_fit (at number c.args.depth)
+    (codes_of c.in-Ok-abbreviations.table) c.in-Ok.header.entries_fit (at number c.args.depth)
     c.unit_entries.result.place c.unit_entries.result.filled.rows
     (moved_entries (unit_ahead g.R.Offset.ReaderOffset.limit (unit_view c.in-Ok.header)
-    (found c.in-Ok-abbreviations.table) (at number c.args.depth)) (at number c.args.depth)
+    (codes_of c.in-Ok-abbreviations.table) (at number c.args.depth)) (at number c.args.depth)
     c.args.rows.now c.args.attrs.now c.unit_entries.result.place c.unit_entries.new.rows
     c.unit_entries.new.attrs c.unit_entries.result.filled c.unit_entries.result.status told))

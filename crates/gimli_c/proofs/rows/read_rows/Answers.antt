@@ -3,7 +3,7 @@ use Rattle.std.proofs.lemmas.Int.{to_z-of_z}
 use Rattle.gimli_base.specs.Abbreviations.{map_at}
 use Rattle.gimli_units.specs.UnitHeld.{unit_view}
 use Rattle.gimli_c.specs.Fronts.{at, unit_ahead}
-use Rattle.gimli_base.specs.Table.{found}
+use Rattle.gimli_base.specs.Table.{codes_of}
 use Rattle.gimli_c.proofs.Bounds.{told_undeclared}
 use Rattle.gimli_c.proofs.Resume.{unit_resumes, moved_rows}
 use Rattle.gimli_c.proofs.rows.read_rows.Goals as goal
@@ -32,9 +32,9 @@ returns-in-Ok-abbreviations-clause-resumes g c =
     let told = rw back at c.unit_rows.ensures in
     rw (← c.in-Ok.ensures, ← c.in-Ok-abbreviations.ensures)
     (unit_resumes g.R.Offset.ReaderOffset.limit (unit_view c.in-Ok.header)
-    (found c.in-Ok-abbreviations.table) c.in-Ok.header.entries_fit (at number c.args.depth)
+    (codes_of c.in-Ok-abbreviations.table) c.in-Ok.header.entries_fit (at number c.args.depth)
     c.unit_rows.result.place c.unit_rows.result.count
     (moved_rows (unit_ahead g.R.Offset.ReaderOffset.limit (unit_view c.in-Ok.header)
-    (found c.in-Ok-abbreviations.table) (at number c.args.depth)) (at number c.args.depth)
+    (codes_of c.in-Ok-abbreviations.table) (at number c.args.depth)) (at number c.args.depth)
     c.args.rows.now c.unit_rows.result.place c.unit_rows.new.rows c.unit_rows.result.count
     c.unit_rows.result.status told))

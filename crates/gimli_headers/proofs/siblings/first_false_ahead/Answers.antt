@@ -3,7 +3,7 @@ use Rattle.gimli_units.proofs.EntryReads.{entry_at-shorter}
 use Rattle.gimli_units.specs.RawPlace.{RawPlace}
 use Rattle.gimli_units.specs.Rows.{Row}
 use Rattle.gimli_units.specs.CursorMoves.{rows_of}
-use Rattle.gimli_headers.specs.OpenRows.{checked, row_of, judged}
+use Rattle.gimli_headers.specs.OpenRows.{check_held, row_of, judgement}
 use Rattle.gimli_headers.proofs.RowTurns.{if_ok, ended_rows, refused_rows, more_rows, turn_judged}
 use Rattle.gimli_headers.proofs.siblings.first_false_ahead.Goals as goal
 
@@ -16,7 +16,7 @@ returns-in-Err g c =
     record {
       value = if_ok c.stop.result (λ o h.
           let none = refused_rows limit p c.in-Err.error some (c.in-Err.ensures.value h.0) in
-          h.1 p.end ∙ ap (judged p.end (checked number c.rows.check)) (sym none)
+          h.1 p.end ∙ ap (judgement p.end (check_held number c.rows.check)) (sym none)
           ∙ c.rows.invariant.same) c.stop.ensures.value;
       refusal = c.stop.ensures.refusal;
     }
@@ -42,8 +42,8 @@ rows-preserved g c =
     let same_end : q.end ≡ p.end = ap (λ (x : RawPlace). x.end) c.in-Ok.ensures.same in
     let end : number c.args.end.0 ≡ p.end = c.requires ∙ sym c.rows.invariant.end in
     record {
-      same = turn_judged (number c.args.end.0) p.end q.end (checked number c.rows.check)
-          (checked number c.go_behind.new.check) r _ _ _ end same_end more
+      same = turn_judged (number c.args.end.0) p.end q.end (check_held number c.rows.check)
+          (check_held number c.go_behind.new.check) r _ _ _ end same_end more
           c.in_ok-go_behind.ensures.judged c.rows.invariant.same;
       rise = rw (ap (λ (x : RawPlace). x.depth) next, ← c.in-Ok.ensures.entry_depth)
           c.in_ok-go_behind.ensures.rise;
@@ -57,5 +57,5 @@ returns-clause-value g c =
     let p = c.rows.entries in
     let none : length p.rest.bytes ≡ 0 = c.rows-test.ensures.0 refl in
     c.finish.ensures p.end
-    ∙ ap (judged p.end (checked number c.rows.check)) (sym (ended_rows limit p none))
+    ∙ ap (judgement p.end (check_held number c.rows.check)) (sym (ended_rows limit p none))
     ∙ c.rows.invariant.same

@@ -1,7 +1,7 @@
 use Rattle.std.proofs.Common.{◌≡◌, length}
 use Rattle.gimli_units.specs.CursorMoves.{rows_of}
 use Rattle.gimli_units.specs.FirstFalse.{first_false}
-use Rattle.gimli_headers.specs.OpenRows.{checked, Rise, judged}
+use Rattle.gimli_headers.specs.OpenRows.{check_held, Rise, judgement}
 use Rattle.gimli_headers.proofs.siblings.first_false_ahead.Given as goal
 
 -- what the check answers where the rows that are left are, is the first of all rows whose reference
@@ -11,9 +11,9 @@ invariant-rows g l =
     let limit = g.R.Offset.ReaderOffset.limit in
     let number = g.R.Offset.ReaderOffset.number in
     record {
-      same : judged l.entries.end (checked number l.check) (rows_of limit l.entries).rows
+      same : judgement l.entries.end (check_held number l.check) (rows_of limit l.entries).rows
           ≡ first_false l.fn.entries.end (rows_of limit l.fn.entries).rows;
-      rise : Rise l.entries.depth (checked number l.check).opens;
+      rise : Rise l.entries.depth (check_held number l.check).opens;
       end : l.entries.end ≡ l.fn.entries.end;
     }
 

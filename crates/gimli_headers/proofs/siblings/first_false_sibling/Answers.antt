@@ -1,5 +1,5 @@
 use Rattle.std.proofs.Common.{None, Ok, sym, ap, ◌∙◌}
-use Rattle.gimli_base.specs.Table.{found}
+use Rattle.gimli_base.specs.Table.{codes_of}
 use Rattle.gimli_units.specs.RawPlace.{RawPlace}
 use Rattle.gimli_units.specs.UnitHeld.{unit_view}
 use Rattle.gimli_headers.proofs.Checks.{exact, if_honest, if_least, if_starts, if_exact}
@@ -27,7 +27,7 @@ returns-in-Ok-clause-honest g c =
     let limit = g.R.Offset.ReaderOffset.limit in
     let same = root_is (unit_view c.args.unit.now) c.args.abbreviations.now c.in-Ok.entries
     c.in-Ok.ensures in
-    if_honest limit (unit_view c.args.unit.now) (found c.args.abbreviations.now) _ _
+    if_honest limit (unit_view c.args.unit.now) (codes_of c.args.abbreviations.now) _ _
     (exact limit (unit_view c.args.unit.now) c.args.abbreviations.now c.in-Ok.entries _ _ same
     c.first_false_ahead.ensures.value)
 
@@ -36,7 +36,7 @@ returns-in-Ok-clause-least g c =
     let limit = g.R.Offset.ReaderOffset.limit in
     let same = root_is (unit_view c.args.unit.now) c.args.abbreviations.now c.in-Ok.entries
     c.in-Ok.ensures in
-    if_least limit (unit_view c.args.unit.now) (found c.args.abbreviations.now) _ _
+    if_least limit (unit_view c.args.unit.now) (codes_of c.args.abbreviations.now) _ _
     (exact limit (unit_view c.args.unit.now) c.args.abbreviations.now c.in-Ok.entries _ _ same
     c.first_false_ahead.ensures.value)
 
@@ -45,7 +45,7 @@ returns-in-Ok-clause-starts g c =
     let limit = g.R.Offset.ReaderOffset.limit in
     let same = root_is (unit_view c.args.unit.now) c.args.abbreviations.now c.in-Ok.entries
     c.in-Ok.ensures in
-    if_starts limit (unit_view c.args.unit.now) (found c.args.abbreviations.now)
+    if_starts limit (unit_view c.args.unit.now) (codes_of c.args.abbreviations.now)
     c.args.unit.now.entries_fit _ _
     (exact limit (unit_view c.args.unit.now) c.args.abbreviations.now c.in-Ok.entries _ _ same
     c.first_false_ahead.ensures.value)
@@ -61,7 +61,7 @@ returns-in-Err-clause-honest g c =
     let limit = g.R.Offset.ReaderOffset.limit in
     let none = root_none limit (unit_view c.args.unit.now) c.args.abbreviations.now c.in-Err.field-0
     c.in-Err.ensures in
-    if_honest limit (unit_view c.args.unit.now) (found c.args.abbreviations.now)
+    if_honest limit (unit_view c.args.unit.now) (codes_of c.args.abbreviations.now)
     (λ o. g.R.Offset.ReaderOffset.number o.0) (Ok None) (if_exact _ _ none)
 
 pub returns-in-Err-clause-starts : goal.returns-in-Err-clause-starts
@@ -69,6 +69,6 @@ returns-in-Err-clause-starts g c =
     let limit = g.R.Offset.ReaderOffset.limit in
     let none = root_none limit (unit_view c.args.unit.now) c.args.abbreviations.now c.in-Err.field-0
     c.in-Err.ensures in
-    if_starts limit (unit_view c.args.unit.now) (found c.args.abbreviations.now)
+    if_starts limit (unit_view c.args.unit.now) (codes_of c.args.abbreviations.now)
     c.args.unit.now.entries_fit (λ o. g.R.Offset.ReaderOffset.number o.0) (Ok None)
     (if_exact _ _ none)

@@ -1,13 +1,13 @@
 use Rattle.std.proofs.Common.{rules, ◌≡◌, sym, Err, false}
 use Rattle.std.proofs.lemmas.List.{length-map}
-use Rattle.gimli_walk.specs.Cursors.{seen}
+use Rattle.gimli_walk.specs.Cursors.{answer_held}
 use Rattle.gimli_walk.proofs.CursorTruth.{stopped_is}
 use Rattle.gimli_walk.proofs.AnswerTruth.{run_from, refused_from}
 use Rattle.gimli_walk.proofs.cursor.run_cursor_plain.Goals as goal
 
 pub returns-clause-run : goal.returns-clause-run
 returns-clause-run g c =
-    let told = seen g.R.Reader.view g.R.Offset.ReaderOffset.number in
+    let told = answer_held g.R.Reader.view g.R.Offset.ReaderOffset.number in
     let all = c.collect_steps.ensures in
     run_from g.R.Offset.ReaderOffset.limit _ _ false _ _ _ _ _ _ c.args.unit.now.entries_fit
     c.in_ok-cursor.ensures all.run (sym (length-map c.collect_steps.result.answers.items told))

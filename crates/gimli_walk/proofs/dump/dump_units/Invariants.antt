@@ -1,6 +1,6 @@
 use Rattle.std.proofs.Common.{◌≡◌, ℕ, false, Option, List, Result, Ok, length, IfSome}
 use Rattle.gimli_base.specs.Abbreviations.{map_at}
-use Rattle.gimli_base.specs.Table.{found}
+use Rattle.gimli_base.specs.Table.{codes_of}
 use Rattle.gimli_walk.specs.declared.lines.Stop.{Stop}
 use Rattle.gimli_walk.specs.Text.{has_unit}
 use Rattle.gimli_walk.specs.Stops.{WroteUntil}
@@ -21,7 +21,7 @@ invariant-units g l =
       first : has_unit limit (g.R.Reader.view l.debug_info.section) ≡ false
           → l.units ≡ record { rest = g.R.Reader.view l.debug_info.section; offset = 0 };
       held : IfSome l.held
-          (λ h. Ok (found h.table) ≡ map_at h.offset (g.R.Reader.view l.debug_abbrev.section));
+          (λ h. Ok (codes_of h.table) ≡ map_at h.offset (g.R.Reader.view l.debug_abbrev.section));
     }
 
 abbrev pub decreases-units : goal.decreases-units

@@ -1,5 +1,5 @@
 use Rattle.std.proofs.Common.{rules, ap, sym}
-use Rattle.gimli_base.specs.Items.{whole}
+use Rattle.gimli_base.specs.Items.{all_items}
 use Rattle.gimli_base.proofs.ItemTurns.{items_begin, items_more, items_refused, items_end}
 use Rattle.gimli_base.specs.Abbreviations.{specifications_at}
 use Rattle.gimli_base.proofs.AbbreviationReads.{specification_at-shorter}
@@ -12,7 +12,7 @@ pub returns-in_err-specification : goal.returns-in_err-specification
 unfolding specifications_at
 returns-in_err-specification g c =
     let ended =
-    ap whole
+    ap all_items
     (items_refused _ _ _ _ _ c.loop-specification.invariant c.in_err-specification.ensures) in
     search rules
 
@@ -30,6 +30,6 @@ pub returns : goal.returns
 unfolding specifications_at
 returns g c =
     sym
-    (ap whole
+    (ap all_items
     (items_end _ _ _ _ _ c.loop-specification.invariant
     (rw c.in_default.is at c.in_ok-specification.ensures)))

@@ -4,13 +4,13 @@ use Rattle.gimli_walk.specs.CursorTurns.{answer_at}
 use Rattle.gimli_walk.specs.SinkLaws.{collected_none}
 use Rattle.gimli_walk.proofs.CursorRuns.{same_pair}
 use Rattle.gimli_walk.proofs.Telling.{collected_one}
-use Rattle.gimli_walk.specs.Cursors.{seen, IsPaired}
+use Rattle.gimli_walk.specs.Cursors.{answer_held, IsPaired}
 use Rattle.gimli_walk.proofs.cursor.CollectedSink.tell.Goals as goal
 
 pub returns-in-Err-clause-kept : goal.returns-in-Err-clause-kept
 returns-in-Err-clause-kept g c =
     λ m. rw c.in-Err.ensures.items
-    (collected_none (seen g.R.Reader.view g.R.Offset.ReaderOffset.number)
+    (collected_none (answer_held g.R.Reader.view g.R.Offset.ReaderOffset.number)
     (IsPaired g.R.Offset.ReaderOffset.number) c.args.self.now.answers.items)
 
 pub returns-clause-told : goal.returns-clause-told
@@ -20,7 +20,8 @@ returns-clause-told g c =
     ≡ c.depth.result = to_z-of_z w64 _ (record { sfits = c.depth.type_inv }) in
     let next_depth : to_z w64 (of_z w64 c.next_depth.result)
     ≡ c.next_depth.result = to_z-of_z w64 _ (record { sfits = c.next_depth.type_inv }) in
-    collected_one (seen g.R.Reader.view number) (IsPaired number) c.args.self.now.answers.items
+    collected_one (answer_held g.R.Reader.view number) (IsPaired number)
+    c.args.self.now.answers.items
     c.push.new.self.items _ (answer_at c.args.outcome c.args.cursor.now)
     c.in-Ok-push.ensures.items
     (rw (

@@ -3,7 +3,7 @@
 ghost use Rattle.std.specs.Prelude.{◌≡◌, ◌<◌, length, MatchResult, OnSome};
 ghost use Rattle.std.specs.Option.{option_map};
 ghost use Rattle.gimli_base.specs.Offset.{answer_of};
-ghost use Rattle.gimli_base.specs.Reading.{read};
+ghost use Rattle.gimli_base.specs.Reading.{read_of};
 ghost use Rattle.gimli_lists.specs.Places.{Grammar, TakesBytes, RawListPlace, next_raw};
 ghost use Rattle.gimli_lists.specs.Places.{raw_list_ahead};
 ghost use Rattle.gimli_lists.specs.RawList.{ListEntry, IsFirstOf};
@@ -25,7 +25,7 @@ pub(crate) trait RawEntry<R: Reader>: Drop {
     /// The next entry, or none where the list ends; where it is refused, the input is left
     /// anywhere.
     fn parse(input: &mut R, encoding: Encoding, format: ListsFormat) -> Result<Option<Self>>
-        ensures { read (answer_of (option_map written) result) (R.view input.new)
+        ensures { read_of (answer_of (option_map written) result) (R.view input.new)
             ≡ grammar format encoding (R.view input.old) };
 
     ghost takes_bytes: { TakesBytes grammar };

@@ -1,7 +1,7 @@
 use Rattle.std.proofs.Common.{◌≡◌, ◌≤◌, length}
 use Rattle.gimli_lists.specs.Places.{ListPlace, answers_ahead, IsAfterEntries, IsSpent, InList}
 use Rattle.gimli_lists.specs.Places.{read_from}
-use Rattle.gimli_lists.proofs.walk.first_item.Given as goal
+use Rattle.gimli_lists.proofs.next_item.first_item.Given as goal
 
 -- what was passed stands for nothing: the answers ahead are those that were ahead, and so is the
 -- place after the next, where nothing is left if no entry answers

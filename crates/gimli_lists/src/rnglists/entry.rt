@@ -6,16 +6,16 @@ ghost use Rattle.std.specs.Option.{option_map};
 ghost use Rattle.std.specs.Iterator.{at_most};
 ghost use Rattle.gimli_base.specs.Address.{ones_sized};
 ghost use Rattle.gimli_base.specs.Offset.{answer_of};
-ghost use Rattle.gimli_base.specs.Reading.{read, is_size, filled, address_at};
+ghost use Rattle.gimli_base.specs.Reading.{read_of, is_size, answer_leaving, address_at};
 ghost use Rattle.gimli_lists.specs.RawList.{IsFirstOf, pair_at, old_entry_at, index_at};
 ghost use Rattle.gimli_lists.specs.RangeEntry.{range_entry_of, nothing_at, new_entry_at};
 ghost use Rattle.gimli_lists.specs.RangeEntry.{range_grammar};
 ghost use Rattle.gimli_lists.specs.RangeReads.{range_grammar-takes};
 ghost use Rattle.gimli_lists.specs.Places.{RawListPlace, next_raw, raw_list_ahead};
-ghost use Rattle.gimli_base.specs.Reading.{transposed};
+ghost use Rattle.gimli_base.specs.Reading.{transpose};
 
 use crate::lists::ListsFormat;
-use crate::raw::{RawEntry, take_entry};
+use crate::take_entry::{RawEntry, take_entry};
 use gimli_base::{
     DW_RLE_base_address, DW_RLE_base_addressx, DW_RLE_end_of_list, DW_RLE_offset_pair,
     DW_RLE_start_end, DW_RLE_start_length, DW_RLE_startx_endx, DW_RLE_startx_length,
@@ -24,7 +24,7 @@ use gimli_base::{
 use std::marker::Model;
 
 /// An entry of a range list, as it is written.
-#[derive(Debug, Drop)]
+#[derive(Clone, Copy, Debug)]
 pub enum RawRngListEntry<T> {
     /// A pair of versions up to 4, of addresses or of offsets from the base address.
     AddressOrOffsetPair {
@@ -85,36 +85,7 @@ impl<T: ReaderOffset> RawRngListEntry<T> {
     pub fn copy(&self) -> Self
         ensures { result ≡ self.now }
     {
-        match self {
-            RawRngListEntry::AddressOrOffsetPair { begin, end } => {
-                RawRngListEntry::AddressOrOffsetPair {
-                    begin: *begin,
-                    end: *end,
-                }
-            }
-            RawRngListEntry::BaseAddress { addr } => RawRngListEntry::BaseAddress { addr: *addr },
-            RawRngListEntry::BaseAddressx { addr } => RawRngListEntry::BaseAddressx { addr: *addr },
-            RawRngListEntry::StartxEndx { begin, end } => RawRngListEntry::StartxEndx {
-                begin: *begin,
-                end: *end,
-            },
-            RawRngListEntry::StartxLength { begin, length } => RawRngListEntry::StartxLength {
-                begin: *begin,
-                length: *length,
-            },
-            RawRngListEntry::OffsetPair { begin, end } => RawRngListEntry::OffsetPair {
-                begin: *begin,
-                end: *end,
-            },
-            RawRngListEntry::StartEnd { begin, end } => RawRngListEntry::StartEnd {
-                begin: *begin,
-                end: *end,
-            },
-            RawRngListEntry::StartLength { begin, length } => RawRngListEntry::StartLength {
-                begin: *begin,
-                length: *length,
-            },
-        }
+        *self
     }
 }
 
@@ -150,7 +121,7 @@ impl RawRange {
     #[inline(always)]
     #[tactic(auto, unfolding(crate::specs::RawList::pair_at, gimli_base::specs::Reading::address_at))]
     pub(crate) fn parse<R: Reader>(input: &mut R, address_size: u8) -> Result<RawRange>
-        ensures value { read (answer_of (λ p. (p.begin, p.end)) result) (R.view input.new)
+        ensures value { read_of (answer_of (λ p. (p.begin, p.end)) result) (R.view input.new)
             ≡ pair_at address_size (R.view input.old) }
         ensures size { OnOk result (IsTrue (is_size address_size)) }
     {
@@ -175,7 +146,7 @@ impl RawRange {
 #[inline(always)]
 #[tactic(auto, unfolding(gimli_base::specs::Reading::address_at))]
 fn read_sized<R: Reader>(input: &mut R, address_size: u8, into: &mut u64) -> Result<()>
-    ensures { read (filled into.new result) (R.view input.new)
+    ensures { read_of (answer_leaving into.new result) (R.view input.new)
         ≡ address_at address_size (R.view input.old) }
 {
     *into = if address_size == 8 {
@@ -189,7 +160,7 @@ fn read_sized<R: Reader>(input: &mut R, address_size: u8, into: &mut u64) -> Res
 // The next index of an address; where it is refused, the input is left anywhere.
 #[inline]
 pub(crate) fn read_index<R: Reader>(input: &mut R) -> Result<DebugAddrIndex<R::Offset>>
-    ensures { read (answer_of (λ i. R.Offset.number i.0) result) (R.view input.new)
+    ensures { read_of (answer_of (λ i. R.Offset.number i.0) result) (R.view input.new)
         ≡ index_at R.Offset.limit (R.view input.old) }
 {
     let number = input.read_uleb128()?;
@@ -203,7 +174,7 @@ fn parse_bare<R: Reader>(
     input: &mut R,
     address_size: u8,
 ) -> Result<Option<RawRngListEntry<R::Offset>>>
-    ensures { read (answer_of (option_map (range_entry_of R.Offset.number)) result)
+    ensures { read_of (answer_of (option_map (range_entry_of R.Offset.number)) result)
         (R.view input.new)
         ≡ old_entry_at nothing_at address_size (R.view input.old) }
 {
@@ -226,7 +197,7 @@ fn parse_rle<R: Reader>(
     input: &mut R,
     address_size: u8,
 ) -> Result<Option<RawRngListEntry<R::Offset>>>
-    ensures { read (answer_of (option_map (range_entry_of R.Offset.number)) result)
+    ensures { read_of (answer_of (option_map (range_entry_of R.Offset.number)) result)
         (R.view input.new)
         ≡ new_entry_at R.Offset.limit address_size (R.view input.old) }
 {
@@ -352,9 +323,9 @@ impl<R: Reader> Iterator for RawRngListIter<R> {
     type Item = Result<RawRngListEntry<R::Offset>>;
 
     ghost next_gives = { λ s r t.
-        ((answer_of (option_map (range_entry_of R.Offset.number)) (transposed r), t)
+        ((answer_of (option_map (range_entry_of R.Offset.number)) (transpose r), t)
         ≡ next_raw (range_grammar R.Offset.limit) s)
-        × IsFirstOf (answer_of (option_map (range_entry_of R.Offset.number)) (transposed r))
+        × IsFirstOf (answer_of (option_map (range_entry_of R.Offset.number)) (transpose r))
         (raw_list_ahead (range_grammar R.Offset.limit) s)
         (raw_list_ahead (range_grammar R.Offset.limit) t) };
 

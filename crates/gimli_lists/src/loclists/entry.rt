@@ -4,18 +4,18 @@ ghost use Rattle.std.specs.Prelude.{◌≡◌, ◌<◌, length, MatchResult, OnS
 ghost use Rattle.std.specs.Option.{option_map};
 ghost use Rattle.std.specs.Iterator.{at_most};
 ghost use Rattle.gimli_base.specs.Offset.{answer_of};
-ghost use Rattle.gimli_base.specs.Reading.{read};
+ghost use Rattle.gimli_base.specs.Reading.{read_of};
 ghost use Rattle.gimli_lists.specs.LocationEntry.{location_entry_of, short_expression_at};
 ghost use Rattle.gimli_lists.specs.LocationEntry.{expression_at, indexed_length_at};
 ghost use Rattle.gimli_lists.specs.LocationEntry.{new_location_at, location_grammar};
 ghost use Rattle.gimli_lists.specs.LocationReads.{location_grammar-takes};
 ghost use Rattle.gimli_lists.specs.Places.{RawListPlace, next_raw, raw_list_ahead};
 ghost use Rattle.gimli_lists.specs.RawList.{IsFirstOf, old_entry_at};
-ghost use Rattle.gimli_base.specs.Reading.{transposed};
+ghost use Rattle.gimli_base.specs.Reading.{transpose};
 
 use crate::lists::ListsFormat;
-use crate::raw::{RawEntry, take_entry};
-use crate::rnglists::raw::{RawRange, read_index};
+use crate::rnglists::entry::{RawRange, read_index};
+use crate::take_entry::{RawEntry, take_entry};
 use gimli_base::{
     DW_LLE_base_address, DW_LLE_base_addressx, DW_LLE_default_location, DW_LLE_end_of_list,
     DW_LLE_offset_pair, DW_LLE_start_end, DW_LLE_start_length, DW_LLE_startx_endx,
@@ -159,7 +159,7 @@ impl<R: Reader> RawLocListEntry<R> {
 // The expression after a length of 2 bytes; where it is refused, the input is left anywhere.
 #[inline]
 fn read_short_expression<R: Reader>(input: &mut R) -> Result<Expression<R>>
-    ensures { read (answer_of (λ e. R.view e.0) result) (R.view input.new)
+    ensures { read_of (answer_of (λ e. R.view e.0) result) (R.view input.new)
         ≡ short_expression_at (R.view input.old) }
 {
     let length = input.read_u16()?;
@@ -169,7 +169,7 @@ fn read_short_expression<R: Reader>(input: &mut R) -> Result<Expression<R>>
 // The expression of an entry of the new encoding; where it is refused, the input is left anywhere.
 #[inline]
 fn read_expression<R: Reader>(input: &mut R, version: u16) -> Result<Expression<R>>
-    ensures { read (answer_of (λ e. R.view e.0) result) (R.view input.new)
+    ensures { read_of (answer_of (λ e. R.view e.0) result) (R.view input.new)
         ≡ expression_at R.Offset.limit version (R.view input.old) }
 {
     if version < 5 {
@@ -182,7 +182,7 @@ fn read_expression<R: Reader>(input: &mut R, version: u16) -> Result<Expression<
 // The number of bytes of a range that begins at an indexed address; where it is refused, the input
 // is left anywhere.
 fn read_indexed_length<R: Reader>(input: &mut R, version: u16) -> Result<u64>
-    ensures { read result (R.view input.new) ≡ indexed_length_at version (R.view input.old) }
+    ensures { read_of result (R.view input.new) ≡ indexed_length_at version (R.view input.old) }
 {
     if version < 5 {
         Ok(u64::from(input.read_u32()?))
@@ -194,7 +194,7 @@ fn read_indexed_length<R: Reader>(input: &mut R, version: u16) -> Result<u64>
 // The next entry of versions up to 4; where it is refused, the input is left anywhere.
 #[tactic(auto, unfolding(crate::specs::RawList::old_entry_at))]
 fn parse_bare<R: Reader>(input: &mut R, address_size: u8) -> Result<Option<RawLocListEntry<R>>>
-    ensures { read (answer_of (option_map (location_entry_of R.view R.Offset.number)) result)
+    ensures { read_of (answer_of (option_map (location_entry_of R.view R.Offset.number)) result)
         (R.view input.new) ≡ old_entry_at short_expression_at address_size (R.view input.old) }
 {
     let range = RawRange::parse(input, address_size)?;
@@ -219,7 +219,7 @@ fn parse_coded<R: Reader>(
     version: u16,
     address_size: u8,
 ) -> Result<Option<RawLocListEntry<R>>>
-    ensures { read (answer_of (option_map (location_entry_of R.view R.Offset.number)) result)
+    ensures { read_of (answer_of (option_map (location_entry_of R.view R.Offset.number)) result)
         (R.view input.new) ≡ new_location_at R.Offset.limit version address_size
         (R.view input.old) }
 {
@@ -367,10 +367,10 @@ impl<R: Reader> Iterator for RawLocListIter<R> {
     type Item = Result<RawLocListEntry<R>>;
 
     ghost next_gives = { λ s r t.
-        ((answer_of (option_map (location_entry_of R.view R.Offset.number)) (transposed r), t)
+        ((answer_of (option_map (location_entry_of R.view R.Offset.number)) (transpose r), t)
         ≡ next_raw (location_grammar R.Offset.limit) s)
         × IsFirstOf
-        (answer_of (option_map (location_entry_of R.view R.Offset.number)) (transposed r))
+        (answer_of (option_map (location_entry_of R.view R.Offset.number)) (transpose r))
         (raw_list_ahead (location_grammar R.Offset.limit) s)
         (raw_list_ahead (location_grammar R.Offset.limit) t) };
 

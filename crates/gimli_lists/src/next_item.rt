@@ -6,11 +6,12 @@ ghost use Rattle.std.specs.Prelude.{None};
 ghost use Rattle.std.specs.Option.{option_map};
 ghost use Rattle.gimli_base.specs.Offset.{answer_of};
 ghost use Rattle.gimli_lists.specs.Resolved.{IsSoundRange};
-ghost use Rattle.gimli_lists.specs.Places.{Grammar, TakesBytes, ListPlace, next_raw, converted};
+ghost use Rattle.gimli_lists.specs.Places.{Grammar, TakesBytes, ListPlace, next_raw};
+ghost use Rattle.gimli_lists.specs.Places.{entry_conversion};
 ghost use Rattle.gimli_lists.specs.Places.{answers_ahead, InList, IsAfterEntries, IsSpent};
 ghost use Rattle.gimli_lists.specs.Places.{read_from, in_parts};
 ghost use Rattle.gimli_lists.specs.RawList.{ListEntry};
-ghost use Rattle.gimli_lists.specs.Resolved.{Resolved, answered};
+ghost use Rattle.gimli_lists.specs.Resolved.{Resolved, answer_then};
 
 use gimli_base::{Error, Result};
 
@@ -53,7 +54,7 @@ pub(crate) trait EntryWalk {
     /// What an entry stands for, or none.
     fn convert(&mut self, raw: Self::Entry) -> Result<Option<Self::Item>>
         ensures { (answer_of (option_map resolved) result, place self.new)
-            ≡ converted limit (written raw) (place self.old) };
+            ≡ entry_conversion limit (written raw) (place self.old) };
 
     ghost takes_bytes: { TakesBytes grammar };
 }
@@ -65,7 +66,7 @@ pub(crate) trait EntryWalk {
 #[inline(always)]
 pub(crate) fn next_item<W: EntryWalk>(walk: &mut W) -> Result<Option<W::Item>>
     ensures ahead { answers_ahead W.grammar W.limit (W.place walk.old)
-        ≡ answered (answer_of (option_map W.resolved) result)
+        ≡ answer_then (answer_of (option_map W.resolved) result)
         (answers_ahead W.grammar W.limit (W.place walk.new)) }
 
     // The entries that stand for nothing are read, and the one after them; the base before the
@@ -115,7 +116,7 @@ fn whole_answer<T>(item: Option<T>, refusal: Option<Error>) -> Result<Option<T>>
 fn item_in_parts<W: EntryWalk>(walk: &mut W, refusal: &mut Option<Error>) -> Option<W::Item>
     requires { refusal.old ≡ None }
     ensures ahead { answers_ahead W.grammar W.limit (W.place walk.old)
-        ≡ answered (answer_of (option_map W.resolved) (in_parts result refusal.new))
+        ≡ answer_then (answer_of (option_map W.resolved) (in_parts result refusal.new))
         (answers_ahead W.grammar W.limit (W.place walk.new)) }
     ensures place { IsAfterEntries W.grammar W.limit
         (read_from W.grammar W.limit (W.place walk.old)) (W.place walk.old) (W.place walk.new) }
@@ -145,7 +146,7 @@ fn item_in_parts<W: EntryWalk>(walk: &mut W, refusal: &mut Option<Error>) -> Opt
 #[inline]
 fn first_item<W: EntryWalk>(walk: &mut W) -> Result<Option<W::Item>>
     ensures ahead { answers_ahead W.grammar W.limit (W.place walk.old)
-        ≡ answered (answer_of (option_map W.resolved) result)
+        ≡ answer_then (answer_of (option_map W.resolved) result)
         (answers_ahead W.grammar W.limit (W.place walk.new)) }
     ensures place { IsAfterEntries W.grammar W.limit
         (read_from W.grammar W.limit (W.place walk.old)) (W.place walk.old) (W.place walk.new) }

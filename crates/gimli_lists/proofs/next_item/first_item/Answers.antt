@@ -1,11 +1,11 @@
 use Rattle.std.proofs.Common.{◌≡◌, rules, refl, sym, ◌∙◌, arith, ◌<◌, length, Ok, Err, None, Some}
-use Rattle.gimli_lists.specs.Places.{next_raw, converted}
+use Rattle.gimli_lists.specs.Places.{next_raw, entry_conversion}
 use Rattle.gimli_lists.proofs.PlaceSteps.{Next, Converted, InList-trans, InList-read, ahead_none}
 use Rattle.gimli_lists.proofs.PlaceSteps.{ahead_stop, next_raw-ended, next_raw-refused, behind_end}
 use Rattle.gimli_lists.proofs.PlaceSteps.{behind_refused, behind_one, behind_more, spent_one}
 use Rattle.gimli_lists.proofs.PlaceSteps.{spent_more, stepped-inside, stepped-ahead}
 use Rattle.gimli_lists.proofs.PlaceSteps.{stepped-shorter, stepped-sound}
-use Rattle.gimli_lists.proofs.walk.first_item.Goals as goal
+use Rattle.gimli_lists.proofs.next_item.first_item.Goals as goal
 
 pub entries-init : goal.entries-init
 entries-init g c = (refl, refl, omega arith, λ q h. h, λ q h. h)
@@ -41,7 +41,7 @@ returns-in_err-item-clause-ahead g c =
     let e = c.in_err-item.field-0.0 in
     let read : ◌≡◌ {A = Next w.Payload} (Ok (Some entry), q.raw) (next_raw w.grammar p.raw) =
     search rules in
-    let made : ◌≡◌ {A = Converted w.Payload} (Err e, s) (converted w.limit entry q) =
+    let made : ◌≡◌ {A = Converted w.Payload} (Err e, s) (entry_conversion w.limit entry q) =
     search rules in
     let is : c.from_residual-in_err-item.result ≡ Err e = search rules in
     rw is
@@ -59,7 +59,7 @@ returns-in_err-item-clause-same g c =
     let read : ◌≡◌ {A = Next w.Payload} (Ok (Some entry), q.raw) (next_raw w.grammar p.raw) =
     search rules in
     let made : ◌≡◌ {A = Converted w.Payload} (Err c.in_err-item.field-0.0, s)
-    (converted w.limit entry q) = search rules in
+    (entry_conversion w.limit entry q) = search rules in
     stepped-inside w.grammar takes w.limit (w.place c.args.walk.now) p q s entry
     (Err c.in_err-item.field-0.0) c.take_raw.ensures.same read made c.entries.invariant.1
 
@@ -74,7 +74,7 @@ returns-in_err-item-clause-takes g c =
     let read : ◌≡◌ {A = Next w.Payload} (Ok (Some entry), q.raw) (next_raw w.grammar p.raw) =
     search rules in
     let made : ◌≡◌ {A = Converted w.Payload} (Err c.in_err-item.field-0.0, s)
-    (converted w.limit entry q) = search rules in
+    (entry_conversion w.limit entry q) = search rules in
     let shorter : length q.raw.rest.bytes < length p.raw.rest.bytes = search rules in
     let is : c.from_residual-in_err-item.result ≡ Err c.in_err-item.field-0.0 = search rules in
     rw is
@@ -96,7 +96,7 @@ returns-in-Some-2-clause-ahead g c =
     let read : ◌≡◌ {A = Next w.Payload} (Ok (Some entry), q.raw) (next_raw w.grammar p.raw) =
     search rules in
     let made : ◌≡◌ {A = Converted w.Payload} (Ok (Some (w.resolved c.in-Some-2.item)), s)
-    (converted w.limit entry q) = search rules in
+    (entry_conversion w.limit entry q) = search rules in
     stepped-ahead w.grammar takes w.limit (w.place c.args.walk.now) p q s entry
     (Ok (Some (w.resolved c.in-Some-2.item))) c.take_raw.ensures.same read made
     c.entries.invariant.0
@@ -112,7 +112,7 @@ returns-in-Some-2-clause-same g c =
     let read : ◌≡◌ {A = Next w.Payload} (Ok (Some entry), q.raw) (next_raw w.grammar p.raw) =
     search rules in
     let made : ◌≡◌ {A = Converted w.Payload} (Ok (Some (w.resolved c.in-Some-2.item)), s)
-    (converted w.limit entry q) = search rules in
+    (entry_conversion w.limit entry q) = search rules in
     stepped-inside w.grammar takes w.limit (w.place c.args.walk.now) p q s entry
     (Ok (Some (w.resolved c.in-Some-2.item))) c.take_raw.ensures.same read made
     c.entries.invariant.1
@@ -128,7 +128,7 @@ returns-in-Some-2-clause-takes g c =
     let read : ◌≡◌ {A = Next w.Payload} (Ok (Some entry), q.raw) (next_raw w.grammar p.raw) =
     search rules in
     let made : ◌≡◌ {A = Converted w.Payload} (Ok (Some (w.resolved c.in-Some-2.item)), s)
-    (converted w.limit entry q) = search rules in
+    (entry_conversion w.limit entry q) = search rules in
     let shorter : length q.raw.rest.bytes < length p.raw.rest.bytes = search rules in
     omega (
       arith,
@@ -148,7 +148,7 @@ returns-in-Some-2-clause-sound g c =
     let read : ◌≡◌ {A = Next w.Payload} (Ok (Some entry), q.raw) (next_raw w.grammar p.raw) =
     search rules in
     let made : ◌≡◌ {A = Converted w.Payload} (Ok (Some (w.resolved c.in-Some-2.item)), s)
-    (converted w.limit entry q) = search rules in
+    (entry_conversion w.limit entry q) = search rules in
     stepped-sound w.grammar takes w.limit (w.place c.args.walk.now) p q s entry
     (Ok (Some (w.resolved c.in-Some-2.item))) c.take_raw.ensures.same read made
     c.entries.invariant.1
@@ -163,7 +163,7 @@ entries-smaller g c =
     let entry = w.written c.in-Some.raw in
     let read : ◌≡◌ {A = Next w.Payload} (Ok (Some entry), q.raw) (next_raw w.grammar p.raw) =
     search rules in
-    let made : ◌≡◌ {A = Converted w.Payload} (Ok None, s) (converted w.limit entry q) =
+    let made : ◌≡◌ {A = Converted w.Payload} (Ok None, s) (entry_conversion w.limit entry q) =
     search rules in
     let shorter : length q.raw.rest.bytes < length p.raw.rest.bytes = search rules in
     stepped-shorter w.grammar takes w.limit (w.place c.args.walk.now) p q s entry (Ok None)
@@ -179,7 +179,7 @@ entries-preserved g c =
     let entry = w.written c.in-Some.raw in
     let read : ◌≡◌ {A = Next w.Payload} (Ok (Some entry), q.raw) (next_raw w.grammar p.raw) =
     search rules in
-    let made : ◌≡◌ {A = Converted w.Payload} (Ok None, s) (converted w.limit entry q) =
+    let made : ◌≡◌ {A = Converted w.Payload} (Ok None, s) (entry_conversion w.limit entry q) =
     search rules in
     let shorter : length q.raw.rest.bytes < length p.raw.rest.bytes = search rules in
     let left = stepped-shorter w.grammar takes w.limit (w.place c.args.walk.now) p q s entry
@@ -240,7 +240,7 @@ returns-in_err-item-clause-place g c =
     let read : ◌≡◌ {A = Next w.Payload} (Ok (Some entry), q.raw) (next_raw w.grammar p.raw) =
     search rules in
     let made : ◌≡◌ {A = Converted w.Payload} (Err c.in_err-item.field-0.0, s)
-    (converted w.limit entry q) = search rules in
+    (entry_conversion w.limit entry q) = search rules in
     c.entries.invariant.3 s
     (behind_one w.grammar takes w.limit p q s entry (Err c.in_err-item.field-0.0)
     c.take_raw.ensures.same read made refl)
@@ -256,7 +256,7 @@ returns-in-Some-2-clause-place g c =
     let read : ◌≡◌ {A = Next w.Payload} (Ok (Some entry), q.raw) (next_raw w.grammar p.raw) =
     search rules in
     let made : ◌≡◌ {A = Converted w.Payload} (Ok (Some (w.resolved c.in-Some-2.item)), s)
-    (converted w.limit entry q) = search rules in
+    (entry_conversion w.limit entry q) = search rules in
     c.entries.invariant.3 s
     (behind_one w.grammar takes w.limit p q s entry (Ok (Some (w.resolved c.in-Some-2.item)))
     c.take_raw.ensures.same read made refl)
@@ -293,7 +293,7 @@ returns-in_err-item-clause-spent g c =
     let read : ◌≡◌ {A = Next w.Payload} (Ok (Some entry), q.raw) (next_raw w.grammar p.raw) =
     search rules in
     let made : ◌≡◌ {A = Converted w.Payload} (Err c.in_err-item.field-0.0, s)
-    (converted w.limit entry q) = search rules in
+    (entry_conversion w.limit entry q) = search rules in
     c.entries.invariant.4 s
     (spent_one w.grammar takes w.limit p q s entry (Err c.in_err-item.field-0.0)
     c.take_raw.ensures.same read made s refl)
@@ -309,7 +309,7 @@ returns-in-Some-2-clause-spent g c =
     let read : ◌≡◌ {A = Next w.Payload} (Ok (Some entry), q.raw) (next_raw w.grammar p.raw) =
     search rules in
     let made : ◌≡◌ {A = Converted w.Payload} (Ok (Some (w.resolved c.in-Some-2.item)), s)
-    (converted w.limit entry q) = search rules in
+    (entry_conversion w.limit entry q) = search rules in
     c.entries.invariant.4 s
     (spent_one w.grammar takes w.limit p q s entry (Ok (Some (w.resolved c.in-Some-2.item)))
     c.take_raw.ensures.same read made s refl)

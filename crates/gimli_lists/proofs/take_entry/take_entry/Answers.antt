@@ -3,7 +3,7 @@ use Rattle.gimli_base.specs.View.{View}
 use Rattle.gimli_lists.specs.Places.{RawListPlace, next_raw}
 use Rattle.gimli_lists.proofs.PlaceSteps.{Next, first_from}
 use Rattle.gimli_lists.specs.RawList.{next_entry}
-use Rattle.gimli_lists.proofs.raw.take_entry.Goals as goal
+use Rattle.gimli_lists.proofs.take_entry.take_entry.Goals as goal
 
 pub returns-in-Ok-Some-clause-takes : goal.returns-in-Ok-Some-clause-takes
 returns-in-Ok-Some-clause-takes g c =
