@@ -3,6 +3,7 @@
 
 mod calls;
 mod cursors;
+mod lists;
 mod runs;
 mod texts;
 mod trees;

@@ -1,7 +1,8 @@
 //! Tests of `gimli_base`.
 
-mod declarations;
 mod endianity;
+mod error;
 mod newtypes;
 mod offset;
 mod readers;
+mod sections;

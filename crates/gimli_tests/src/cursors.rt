@@ -1,3 +1,7 @@
-//! Tests of the cursors of `gimli_units`.
+//! Tests of the cursors and trees of `gimli_units`.
 
+mod callers;
+mod clones;
 mod long;
+mod samples;
+mod walked;

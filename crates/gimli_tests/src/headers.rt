@@ -1,3 +1,5 @@
 //! Tests of `gimli_headers`.
 
-mod sections;
+mod debug_info;
+mod debug_types;
+mod samples;

@@ -12,8 +12,6 @@ mod lists;
 #[cfg(test)]
 mod samples;
 #[cfg(test)]
-mod sections;
-#[cfg(test)]
 mod units;
 #[cfg(test)]
 mod walk;

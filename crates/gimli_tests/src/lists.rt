@@ -3,3 +3,4 @@
 mod aranges;
 mod loclists;
 mod rnglists;
+mod samples;

@@ -5,5 +5,6 @@ mod counting;
 mod entry;
 mod header;
 mod hostile;
+mod raw;
 mod samples;
 mod section;

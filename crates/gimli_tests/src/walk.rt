@@ -3,4 +3,5 @@
 mod deep;
 mod faults;
 mod large;
+mod samples;
 mod walks;

@@ -1,41 +1,78 @@
-//! Runs beside the steps that they took.
+//! Runs.
 
-use gimli_base::Result;
+use gimli_base::{Reader, ReaderOffset, Result};
+use gimli_lists::{LocationListEntry, Range};
+use gimli_units::{UnitHeader, UnitType};
+use gimli_walk::Run;
 use std::alloc::Global;
 use std::io::Write;
-use test_tables::{Item, Outcome, Stop};
+use test_tables::{Outcome, hex_of, write_refusal};
 
-/// What a walk begins with and the run over the same steps, or the refusal of both.
-pub(crate) fn both_of<T: Drop, U: Drop>(walk: Result<T>, run: Result<U>) -> Outcome<(T, U)> {
-    match walk {
-        Ok(walk) => match run {
-            Ok(run) => Ok((walk, run)),
-            Err(_) => Err(Stop::Lacks("another run")),
-        },
-        Err(error) => match run {
-            Err(other) if error == other => Err(Stop::Refused(error)),
-            _ => Err(Stop::Lacks("another run")),
-        },
+/// What a run holds.
+pub(crate) trait Item: Drop {
+    /// Writes its parts.
+    fn write(&self, out: &mut Vec<u8>) -> Outcome;
+}
+
+/// Writes a line for each answer of a run, and a last one where it was stopped.
+pub(crate) fn write_run<T: Item>(run: &Run<Result<T>, Global>, out: &mut Vec<u8>) -> Outcome {
+    for answer in &run.answers {
+        match answer {
+            Ok(item) => item.write(out)?,
+            Err(error) => write_refusal(out, *error)?,
+        }
+        writeln!(out)?;
+    }
+    write_stop(run.stopped, out)
+}
+
+/// Writes whether a run was stopped.
+pub(crate) fn write_stop(stopped: bool, out: &mut Vec<u8>) -> Outcome {
+    if stopped {
+        writeln!(out, "stopped")?;
+    }
+    Ok(())
+}
+
+/// Writes what a run holds where it is not the line that a step wrote.
+pub(crate) fn write_another(line: &[u8], held: &[u8], out: &mut Vec<u8>) -> Outcome {
+    if line != held {
+        write!(out, " but in the run ")?;
+        out.write_all(held)?;
+    }
+    Ok(())
+}
+
+// A unit: its offset, that of its abbreviations, and the signature and the offset of its type, if it is a
+// type unit.
+impl<R: Reader> Item for UnitHeader<R> {
+    fn write(&self, out: &mut Vec<u8>) -> Outcome {
+        let offset = self.offset().0.into_u64();
+        let table = self.debug_abbrev_offset().0.into_u64();
+        write!(out, "unit {offset:x} {table:x}")?;
+        if let UnitType::TypeUnit {
+            type_signature,
+            type_offset,
+        } = self.type_()
+        {
+            let (signature, at) = (type_signature.0, type_offset.0.into_u64());
+            write!(out, " type {signature:x} {at:x}")?;
+        }
+        Ok(())
     }
 }
 
-/// Writes what a step answered, and what a run holds where that is another.
-pub(crate) fn write_both<T: Item>(
-    alloc: Global,
-    answer: &T,
-    held: Option<&T>,
-    out: &mut Vec<u8>,
-) -> Outcome {
-    let mut line = Vec::new(alloc);
-    answer.write(&mut line)?;
-    let mut other = Vec::new(alloc);
-    if let Some(held) = held {
-        held.write(&mut other)?;
+impl Item for Range {
+    fn write(&self, out: &mut Vec<u8>) -> Outcome {
+        let Range { begin, end } = *self;
+        Ok(write!(out, "{begin:x} {end:x}")?)
     }
-    out.write_all(&line)?;
-    if line != other {
-        write!(out, " but in the run ")?;
-        out.write_all(&other)?;
+}
+
+impl<R: Reader> Item for LocationListEntry<R> {
+    fn write(&self, out: &mut Vec<u8>) -> Outcome {
+        self.range.write(out)?;
+        write!(out, " ")?;
+        hex_of(out, &self.expr.0, " ")
     }
-    Ok(())
 }
