@@ -40,12 +40,14 @@ def read_bytes(text, names):
 
 
 class Row:
-    """A case of a table: its order, its words, its sections and the lines of its answer for
-    offsets of 64 bits.
+    """A case of a table: its order, its words, the place of the first section, the sections and
+    the lines of its answer for offsets of 64 bits.
     """
 
     def __init__(self, where, big, words, sections, answer):
-        self.where, self.big, self.words, self.sections, self.answer = where, big, words, sections, answer
+        self.where, self.big, self.sections, self.answer = where, big, sections, answer
+        self.words = [it for it in words if not it.startswith("@")]
+        self.place = next((int(it[1:]) for it in words if it.startswith("@")), 0)
 
     @property
     def call(self):
@@ -466,7 +468,7 @@ def entries_check(row, offset):
 
 
 def header_check(row):
-    """Each unit of a section, up to the one that is refused, as gimli_header_vectors tells them."""
+    """Each unit of a section, up to the one that is refused, as gimli_vectors tells them."""
     def check(answer):
         units, lines = answer.units(), [it for it in row.answer if it]
         refused = re.match(r"refused (\d+)", lines[-1]) if lines else None
@@ -524,12 +526,6 @@ def abbreviation_cases(row):
 
 # Lists
 
-def place_of(row):
-    """The place of a list's first byte, and the words without it."""
-    places = [int(it[1:]) for it in row.words if it.startswith("@")]
-    return places[0] if places else 0, [it for it in row.words if not it.startswith("@")]
-
-
 def list_case(row, locations, encoding, base, table, lists, dwo, kind, number, check):
     numbers = " ".join(map(str, [int(locations), *encoding, base, table, lists, int(dwo), kind, number]))
     return f"list {row.big:d} 0 {hexed(row.section(0))} {hexed(row.section(1))} {numbers}", check
@@ -560,15 +556,14 @@ def items_check(row, items, place):
 
 
 def lists_cases(row):
-    """`ranges`, `locations` and the like of gimli_list_vectors."""
-    place, words = place_of(row)
-    locations, dwo, raw = "locations" in row.call, row.call.endswith("_dwo"), row.call.startswith("raw")
-    numbers = [int(it, 0) for it in words[1:]]
-    encoding, (base, table, offset) = numbers[:3], [0, 0, numbers[3]] if raw else numbers[3:6]
+    """`ranges`, `locations` and the like of gimli_vectors; with no base address the entries alone."""
+    locations, dwo = "locations" in row.call, row.call.endswith("_dwo")
+    numbers = [int(it, 0) for it in row.words[1:]]
+    encoding, (base, table, offset) = numbers[:3], numbers[3:6] if len(numbers) > 4 else [0, 0, numbers[3]]
     told = [it for it in row.answer if re.match("ranges|locations", it)]
     check = None
     if told and encoding[2] in (1, 2, 4, 8):
-        check = items_check(row, told[0].split(", ")[1:], (place, 10))
+        check = items_check(row, told[0].split(", ")[1:], (row.place, 10))
     yield list_case(row, locations, encoding, base, table, 0, dwo, 12, offset, check)
 
 
@@ -577,18 +572,16 @@ def runs_cases(row):
     numbers are hexadecimal.
     """
     locations, dwo = "locations" in row.call, row.call.endswith("_dwo")
-    _, words = place_of(row)
-    if len(words) < 6:
+    if len(row.words) < 6:
         return
-    numbers = [int(it, 0) for it in words[1:6]]
+    numbers = [int(it, 0) for it in row.words[1:6]]
     check = items_check(row, [it for it in row.answer if it], (0, 16)) if numbers[2] in (1, 2, 4, 8) else None
     yield list_case(row, locations, numbers[:3], numbers[3], 0, 0, dwo, 12, numbers[4], check)
 
 
 def offset_cases(row):
     """The offset of a list at an index: a refusal of it is that of the call."""
-    _, words = place_of(row)
-    format, version, size, base, index = (int(it, 0) for it in words[1:6])
+    format, version, size, base, index = (int(it, 0) for it in row.words[1:6])
     locations = row.call == "location_offset"
     refused = re.match(r"refused (\d+)", row.answer[0])
 
@@ -654,15 +647,13 @@ def section_cases(row):
 
 
 def cases_of(row):
-    calls = {"gimli_header_vectors": {"info": info_cases, "types": info_cases, "info_at": info_cases, "cuts": info_cases,
-                                      "abbrev": abbreviation_cases},
-             "gimli_vectors": dict.fromkeys(("attribute", "inline", "debug", "texts", "names", "raw_names"), attribute_cases)
+    calls = {"gimli_vectors": dict.fromkeys(("info", "types", "info_at", "cuts"), info_cases) | {"abbrev": abbreviation_cases}
+             | dict.fromkeys(("attribute", "inline", "debug", "texts", "names", "raw_names"), attribute_cases)
              | {"list": list_cases, "pass": list_cases, "entries": entries_cases, "entry": entries_cases, "find": walk_cases,
-                "abbreviations": walk_cases} | dict.fromkeys(("header", "range", "section_offset", "unit_offset", "tombstones"), section_cases),
-             "gimli_list_vectors": dict.fromkeys(("ranges", "locations", "locations_dwo", "raw_ranges", "raw_locations",
-                                                  "raw_locations_dwo", "count_ranges"), lists_cases)
-             | {"range_offset": offset_cases, "location_offset": offset_cases, "aranges": aranges_cases, "set": aranges_cases,
-                "lists_header": section_cases},
+                "abbreviations": walk_cases}
+             | dict.fromkeys(("header", "range", "section_offset", "unit_offset", "tombstones", "lists_header"), section_cases)
+             | dict.fromkeys(("ranges", "locations", "locations_dwo", "count_ranges"), lists_cases)
+             | {"range_offset": offset_cases, "location_offset": offset_cases, "aranges": aranges_cases, "set": aranges_cases},
              "gimli_walk_vectors": dict.fromkeys(("cursor", "plain", "cursor_at", "plain_at"), cursor_cases)
              | dict.fromkeys(("ranges", "locations", "locations_dwo"), runs_cases)
              | dict.fromkeys(("rows", "tree", "tree_at", "raw", "entries", "entry"), walk_cases)

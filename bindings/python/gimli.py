@@ -204,7 +204,11 @@ class Dwarf:
             yield row, [(a.name, a.form, *self.value(a)) for a in attrs]
 
     def sibling(self, unit, offset, depth=0, follows=False):
-        """The next sibling of the row at an offset, as a tuple, or None."""
+        """The next sibling of the row at an offset, as a tuple, or None.
+
+        With follows references are followed: the answer is the same where first_false finds none
+        in the unit; where it finds one, it may be any row.
+        """
         row = self.found("sibling", Row(), unit.offset, byref(Place(offset, depth)), follows)
         return row and row_of(row)
 

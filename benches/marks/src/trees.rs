@@ -51,7 +51,7 @@ pub(crate) fn with_tree<R: Reader>(
         Err(error) => return refused(sum, error),
     };
     for _ in 0..u64::MAX {
-        if walker.entered() == 0 {
+        if walker.list_count() == 0 {
             break;
         }
         match next_node(all, &mut walker) {

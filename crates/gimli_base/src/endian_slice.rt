@@ -55,7 +55,7 @@ impl<'a, E: Endianity + Default> Default for EndianSlice<'a, E> {
     fn default() -> Self {
         EndianSlice {
             bytes: &[],
-            kept: E::default().kept(),
+            kept: E::default().to_kept(),
             end: 0,
             order: PhantomData,
         }
@@ -122,7 +122,7 @@ impl<'a, E: Endianity> EndianSlice<'a, E> {
         let length = bytes.len() as u64;
         EndianSlice {
             bytes,
-            kept: endian.kept(),
+            kept: endian.to_kept(),
             end: place + length,
             order: PhantomData,
         }

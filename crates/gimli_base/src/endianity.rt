@@ -16,7 +16,7 @@ pub trait Endianity: Copy + Debug + Eq {
     ghost big: { Self → Bool };
 
     // the kept form of an order, and the order of a kept form
-    ghost kept: { Self → Self.Kept };
+    ghost to_kept: { Self → Self.Kept };
 
     ghost order: { Self.Kept → Self };
 
@@ -25,15 +25,15 @@ pub trait Endianity: Copy + Debug + Eq {
         ensures { result ≡ big self };
 
     /// The form in which a reader keeps the order.
-    fn kept(self) -> Self::Kept
-        ensures { result ≡ kept self };
+    fn to_kept(self) -> Self::Kept
+        ensures { result ≡ to_kept self };
 
     /// The order of a kept form.
     fn from_kept(form: Self::Kept) -> Self
         ensures { result ≡ order form };
 
     // nothing of an order is lost where it is kept
-    ghost order_back: { (e : Self) → order (kept e) ≡ e };
+    ghost order_back: { (e : Self) → order (to_kept e) ≡ e };
 }
 
 /// The lowest byte comes first.
@@ -45,7 +45,7 @@ impl Endianity for LittleEndian {
 
     ghost big = { λ _. false };
 
-    ghost kept = { λ _. tt };
+    ghost to_kept = { λ _. tt };
 
     ghost order = { λ _. record {} };
 
@@ -55,7 +55,7 @@ impl Endianity for LittleEndian {
     }
 
     #[inline]
-    fn kept(self) {}
+    fn to_kept(self) {}
 
     #[inline]
     fn from_kept(_form: ()) -> LittleEndian {
@@ -74,7 +74,7 @@ impl Endianity for BigEndian {
 
     ghost big = { λ _. true };
 
-    ghost kept = { λ _. tt };
+    ghost to_kept = { λ _. tt };
 
     ghost order = { λ _. record {} };
 
@@ -84,7 +84,7 @@ impl Endianity for BigEndian {
     }
 
     #[inline]
-    fn kept(self) {}
+    fn to_kept(self) {}
 
     #[inline]
     fn from_kept(_form: ()) -> BigEndian {
@@ -109,7 +109,7 @@ impl Endianity for RunTimeEndian {
 
     ghost big = { is_big };
 
-    ghost kept = { flag_of };
+    ghost to_kept = { flag_of };
 
     ghost order = { order_of };
 
@@ -122,7 +122,7 @@ impl Endianity for RunTimeEndian {
     }
 
     #[inline]
-    fn kept(self) -> u64 {
+    fn to_kept(self) -> u64 {
         match self {
             RunTimeEndian::Little => 0,
             RunTimeEndian::Big => 1,

@@ -63,7 +63,7 @@ impl<'a, E: Endianity + Default> Default for WholeSlice<'a, E> {
     fn default() -> Self {
         WholeSlice {
             whole: &[],
-            kept: E::default().kept(),
+            kept: E::default().to_kept(),
             place: 0,
             begin: 0,
             end: 0,
@@ -135,7 +135,7 @@ impl<'a, E: Endianity> WholeSlice<'a, E> {
     {
         WholeSlice {
             whole: bytes,
-            kept: endian.kept(),
+            kept: endian.to_kept(),
             place,
             begin: 0,
             end: bytes.len() as u32,

@@ -40,24 +40,24 @@ impl Width {
         ensures { result ≡ width_of form.0 }
     {
         if form.0 < 128 {
-            Width::listed(form)
+            Width::look_up(form)
         } else {
-            Width::listed_apart(form)
+            Width::look_up_apart(form)
         }
     }
 
     // The same, by a call.
     #[inline(never)]
-    fn listed_apart(form: DwForm) -> Width
+    fn look_up_apart(form: DwForm) -> Width
         ensures { result ≡ width_of form.0 }
     {
-        Width::listed(form)
+        Width::look_up(form)
     }
 
     // The same, in one list of all forms.
     #[inline(always)]
     #[tactic(auto, unfolding(crate::specs::Width::width_of))]
-    fn listed(form: DwForm) -> Width
+    fn look_up(form: DwForm) -> Width
         ensures { result ≡ width_of form.0 }
     {
         match form {

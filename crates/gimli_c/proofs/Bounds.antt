@@ -11,6 +11,7 @@ use Rattle.gimli_base.specs.declared.error.Error.TheVariants.{OffsetOutOfBounds,
 use Rattle.gimli_base.specs.View.{cut}
 use Rattle.gimli_base.specs.Abbreviations.{Map}
 use Rattle.gimli_base.specs.Table.{Table, codes_of}
+use Rattle.gimli_units.specs.UnitRows.{unit_rows_from}
 use Rattle.gimli_units.specs.Entry.{entry_at}
 use Rattle.gimli_units.specs.RawPlace.{RawPlace}
 use Rattle.gimli_units.specs.Rows.{no_row}
@@ -20,7 +21,7 @@ use Rattle.gimli_units.specs.Unit.{entries_in, entries_from}
 use Rattle.gimli_c.specs.declared.rows.GimliRow.{GimliRow}
 use Rattle.gimli_c.specs.declared.rows.GimliPlace.{GimliPlace}
 use Rattle.gimli_c.specs.Status.{end, too_deep, refusal_status, memory_refused}
-use Rattle.gimli_c.specs.Fronts.{ahead_of, rows_at_place, unit_ahead, declared_ahead, Filled, ToldRows}
+use Rattle.gimli_c.specs.Fronts.{ahead_of, unit_ahead, declared_ahead, Filled, ToldRows}
 use Rattle.gimli_c.proofs.Front.{first_at}
 
 -- the reader of a place that is in bounds
@@ -91,7 +92,7 @@ module _ (limit : ℕ) (u : UnitView) (t : Table) (place : GimliPlace) (old : Li
       let none : length rest.bytes ≡ 0 = let e =
       length-drop (place.offset - header_size u) u.entries.bytes in
       omega (arith, e, here, fit) in
-      let is : rows_at_place limit u (codes_of t) place
+      let is : unit_rows_from limit u (codes_of t) place.offset place.depth
       ≡ no_row None (whole_length u - length rest.bytes)
       place.depth = ahead_ended (entry_at limit u.encoding (codes_of t)) (whole_length u)
       place.depth rest none in
@@ -154,7 +155,8 @@ module _ (limit : ℕ) (u : UnitView) (t : Table) (place : GimliPlace) (old : Li
 module _ (limit : ℕ) (u : UnitView) (place : GimliPlace) (old : List GimliRow) where
   none_filled : (declared : Map) → place.offset ≡ whole_length u
       - length (cut (place.offset - header_size u) u.entries).bytes
-      → ToldRows (Ok (rows_at_place limit u declared place)) place old place old 0 memory_refused
+      → ToldRows
+      (Ok (unit_rows_from limit u declared place.offset place.depth)) place old place old 0 memory_refused
   none_filled declared here = record {
     rows = refl;
     behind = first_at limit u.encoding declared (whole_length u) place.depth
@@ -182,7 +184,9 @@ module _ (limit : ℕ) (u : UnitView) (place : GimliPlace) (old : List GimliRow)
   ]
     where
       deep : in_bounds u place.offset ≡ true → (b : Bool)
-          → ToldRows (if b then Ok (rows_at_place limit u declared place) else Err too_deep) place old
+          → ToldRows
+          (if b then Ok (unit_rows_from limit u declared place.offset place.depth) else Err too_deep)
+          place old
           place old 0 memory_refused
       deep sure true =
           let e = bytes_left u place.offset fit sure in
@@ -192,7 +196,8 @@ module _ (limit : ℕ) (u : UnitView) (place : GimliPlace) (old : List GimliRow)
 
       inside : (b : Bool) → b ≡ in_bounds u place.offset
           → ToldRows (if b then (if nat_lt (unsigned_abs place.depth
-          + (whole_length u - place.offset)) (2 ^ 63) then Ok (rows_at_place limit u declared place)
+          + (whole_length u - place.offset)) (2 ^ 63)
+          then Ok (unit_rows_from limit u declared place.offset place.depth)
           else Err too_deep) else Err (refusal_status (OffsetOutOfBounds place.offset))) place old
           place old 0 memory_refused
       inside true sure = deep (sym sure) (nat_lt (unsigned_abs place.depth

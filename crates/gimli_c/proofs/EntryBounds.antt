@@ -10,6 +10,7 @@ use Rattle.gimli_base.specs.declared.error.Error.TheVariants.{OffsetOutOfBounds,
 use Rattle.gimli_base.specs.View.{cut}
 use Rattle.gimli_base.specs.Abbreviations.{Map}
 use Rattle.gimli_base.specs.Table.{Table, codes_of}
+use Rattle.gimli_units.specs.UnitRows.{unit_rows_from}
 use Rattle.gimli_units.specs.Entry.{entry_at}
 use Rattle.gimli_units.specs.RawPlace.{RawPlace}
 use Rattle.gimli_units.specs.Rows.{no_row}
@@ -20,7 +21,7 @@ use Rattle.gimli_c.specs.declared.entries.GimliFilled.{GimliFilled}
 use Rattle.gimli_c.specs.declared.attrs.GimliAttr.{GimliAttr}
 use Rattle.gimli_c.specs.declared.rows.GimliPlace.{GimliPlace}
 use Rattle.gimli_c.specs.Status.{end, too_deep, refusal_status, memory_refused}
-use Rattle.gimli_c.specs.Fronts.{ahead_of, rows_at_place, unit_ahead, declared_ahead}
+use Rattle.gimli_c.specs.Fronts.{ahead_of, unit_ahead, declared_ahead}
 use Rattle.gimli_c.specs.Entries.{fit, wrote, FilledEntries, AreTold}
 use Rattle.gimli_c.proofs.EntryFront.{fit-nil, none_wanted}
 use Rattle.gimli_c.proofs.Bounds.{read_bounds, unread_bounds, below_end, bytes_left}
@@ -39,7 +40,7 @@ module _ (limit : ℕ) (u : UnitView) (t : Table) (place : GimliPlace) (old : Li
       let none : length rest.bytes ≡ 0 = let e =
       length-drop (place.offset - header_size u) u.entries.bytes in
       omega (arith, e, here, fit) in
-      let is : rows_at_place limit u (codes_of t) place
+      let is : unit_rows_from limit u (codes_of t) place.offset place.depth
       ≡ no_row None (whole_length u - length rest.bytes)
       place.depth = ahead_ended (entry_at limit u.encoding (codes_of t)) (whole_length u)
       place.depth rest none in
@@ -116,7 +117,8 @@ module _ (limit : ℕ) (u : UnitView) (place : GimliPlace) (old : List GimliEntr
     (attrs : List GimliAttr) where
   none_filled : (declared : Map) → place.offset ≡ whole_length u
       - length (cut (place.offset - header_size u) u.entries).bytes
-      → AreTold (Ok (rows_at_place limit u declared place)) place old attrs place old attrs
+      → AreTold
+      (Ok (unit_rows_from limit u declared place.offset place.depth)) place old attrs place old attrs
       (wrote 0 0 0) memory_refused
   none_filled declared here = record {
     rows = refl;
@@ -149,7 +151,9 @@ module _ (limit : ℕ) (u : UnitView) (place : GimliPlace) (old : List GimliEntr
   ]
     where
       deep : in_bounds u place.offset ≡ true → (b : Bool)
-          → AreTold (if b then Ok (rows_at_place limit u declared place) else Err too_deep) place old
+          → AreTold
+          (if b then Ok (unit_rows_from limit u declared place.offset place.depth) else Err too_deep)
+          place old
           attrs place old attrs (wrote 0 0 0) memory_refused
       deep sure true =
           let e = bytes_left u place.offset fit sure in
@@ -159,7 +163,8 @@ module _ (limit : ℕ) (u : UnitView) (place : GimliPlace) (old : List GimliEntr
 
       inside : (b : Bool) → b ≡ in_bounds u place.offset
           → AreTold (if b then (if nat_lt (unsigned_abs place.depth
-          + (whole_length u - place.offset)) (2 ^ 63) then Ok (rows_at_place limit u declared place)
+          + (whole_length u - place.offset)) (2 ^ 63)
+          then Ok (unit_rows_from limit u declared place.offset place.depth)
           else Err too_deep) else Err (refusal_status (OffsetOutOfBounds place.offset))) place old
           attrs place old attrs (wrote 0 0 0) memory_refused
       inside true sure = deep (sym sure) (nat_lt (unsigned_abs place.depth

@@ -11,6 +11,7 @@ use Rattle.gimli_base.specs.View.{View, cut}
 use Rattle.gimli_base.specs.View.{IsLater}
 use Rattle.gimli_base.proofs.Later.{IsLater-length, IsLater-trans, IsLater-weaker}
 use Rattle.gimli_base.specs.Abbreviations.{Map}
+use Rattle.gimli_units.specs.UnitRows.{unit_rows_from}
 use Rattle.gimli_units.specs.Entry.{entry_at}
 use Rattle.gimli_units.proofs.EntryReads.{entry_at-later, entry_at-shorter}
 use Rattle.gimli_units.specs.RawPlace.{depth_after}
@@ -24,7 +25,7 @@ use Rattle.gimli_c.specs.declared.rows.GimliRow.{GimliRow}
 use Rattle.gimli_c.specs.Entries.{AreTold}
 use Rattle.gimli_c.specs.declared.rows.GimliPlace.{GimliPlace}
 use Rattle.gimli_c.specs.Status.{too_deep, refusal_status}
-use Rattle.gimli_c.specs.Fronts.{at, rows_at_place, unit_ahead, first_place, behind_rows, ToldRows}
+use Rattle.gimli_c.specs.Fronts.{at, unit_ahead, first_place, behind_rows, ToldRows}
 use Rattle.gimli_c.specs.Fronts.{Resumes}
 use Rattle.gimli_c.proofs.Bounds.{below_end}
 use Rattle.gimli_c.proofs.Front.{depth_near}
@@ -140,7 +141,8 @@ module _ (limit : ℕ) (u : UnitView) (declared : Map) (fits : length u.entries.
     from = cut (place.offset - header_size u) u.entries
 
     -- what a place is
-    classify : ((unit_ahead limit u declared place ≡ Ok (rows_at_place limit u declared place))
+    classify : ((unit_ahead limit u declared place
+        ≡ Ok (unit_rows_from limit u declared place.offset place.depth))
         × IsLater 0 u.entries from × Shallow place.depth from)
         ⊎ ((stop : ℕ) × (unit_ahead limit u declared place ≡ Err stop))
     classify =
@@ -165,7 +167,8 @@ module _ (limit : ℕ) (u : UnitView) (declared : Map) (fits : length u.entries.
         deep : (place.offset == whole_length u) ≡ false → in_bounds u place.offset ≡ true
             → (b : Bool) → b ≡ nat_lt (unsigned_abs place.depth + (whole_length u - place.offset))
             (2 ^ 63)
-            → ((unit_ahead limit u declared place ≡ Ok (rows_at_place limit u declared place))
+            → ((unit_ahead limit u declared place
+            ≡ Ok (unit_rows_from limit u declared place.offset place.depth))
             × IsLater 0 u.entries from × Shallow place.depth from)
             ⊎ ((stop : ℕ) × (unit_ahead limit u declared place ≡ Err stop))
         deep apart sure true known =
@@ -187,7 +190,8 @@ module _ (limit : ℕ) (u : UnitView) (declared : Map) (fits : length u.entries.
 
         inside : (place.offset == whole_length u) ≡ false → (b : Bool) → b
             ≡ in_bounds u place.offset
-            → ((unit_ahead limit u declared place ≡ Ok (rows_at_place limit u declared place))
+            → ((unit_ahead limit u declared place
+            ≡ Ok (unit_rows_from limit u declared place.offset place.depth))
             × IsLater 0 u.entries from × Shallow place.depth from)
             ⊎ ((stop : ℕ) × (unit_ahead limit u declared place ≡ Err stop))
         inside apart true sure = deep apart (sym sure) (nat_lt (unsigned_abs place.depth
@@ -199,12 +203,12 @@ module _ (limit : ℕ) (u : UnitView) (declared : Map) (fits : length u.entries.
 
     module _ (behind : GimliPlace) (n : ℕ) where
       goes : IsLater 0 u.entries from → Shallow place.depth from
-          → HasMoved (Ok (rows_at_place limit u declared place)) place behind n
+          → HasMoved (Ok (unit_rows_from limit u declared place.offset place.depth)) place behind n
           → unit_ahead limit u declared behind
-          ≡ Ok (behind_rows n (rows_at_place limit u declared place))
+          ≡ Ok (behind_rows n (unit_rows_from limit u declared place.offset place.depth))
       goes l shallow moved =
           let next = entry_at limit u.encoding declared in
-          let a = rows_at_place limit u declared place in
+          let a = unit_rows_from limit u declared place.offset place.depth in
           ap (λ (p : GimliPlace). unit_ahead limit u declared p) moved
           ∙ chain n a.rows from place.depth a.refusal a.stop a.stop_depth
           (exist_rows next (whole_length u) (λ x w y. entry_at-shorter limit u.encoding declared

@@ -9,7 +9,8 @@ use Rattle.gimli_base.specs.Table.{Table, codes_of}
 use Rattle.gimli_units.specs.CursorLent.{HasReadOn}
 use Rattle.gimli_units.specs.CursorMoves.{CursorView, place_of, IsHonestFor}
 use Rattle.gimli_units.specs.CursorPlace.{Place, Moved, next_row, next_of_depth}
-use Rattle.gimli_units.proofs.PlaceLaw.{IsHonestCursor, honest_for, honest_next}
+use Rattle.gimli_units.specs.CursorMoves.{IsHonestCursor}
+use Rattle.gimli_units.proofs.PlaceLaw.{honest_for, honest_next}
 use Rattle.gimli_units.specs.RawPlace.{RawPlace}
 use Rattle.gimli_units.specs.CursorStart.{before_first, cursor_from}
 use Rattle.gimli_units.specs.Unit.{UnitView, whole_length, header_size, in_bounds, range_from}

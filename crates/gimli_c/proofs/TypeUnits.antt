@@ -12,7 +12,8 @@ use Rattle.gimli_base.specs.View.{View, end_of_view}
 use Rattle.gimli_units.specs.declared.unit_type.UnitType.{UnitType}
 use Rattle.gimli_units.specs.Unit.{UnitView, whole_length}
 use Rattle.gimli_headers.specs.Header.{Common, fields_at, unit_at, unit_in}
-use Rattle.gimli_headers.specs.Units.{UnitsPlace, next_unit, unit_alone, header_at}
+use Rattle.gimli_base.specs.Address.{without_rest}
+use Rattle.gimli_headers.specs.Units.{UnitsPlace, next_unit, header_at}
 use Rattle.gimli_c.specs.Units.{at_offset}
 
 -- the unit of an answer, at an offset; where there is none, the input ends
@@ -23,38 +24,38 @@ found_unit n v (Err e) = Err e
 
 module _ (limit : ℕ) (section : SectionId) (n : ℕ) where
   in_at : (m : ℕ) (field : ℕ × Format) (r : Reads (Common × UnitType ℕ)) (rest : View)
-      → unit_alone (unit_in section n field r rest)
-      ≡ answer_of (at_offset n) (unit_alone (unit_in section m field r rest))
+      → without_rest (unit_in section n field r rest)
+      ≡ answer_of (at_offset n) (without_rest (unit_in section m field r rest))
   in_at m field (Ok p) rest = refl
   in_at m field (Err e) rest = refl
 
   -- a unit that is read with another offset differs in that offset alone
   pub placed : (m : ℕ) (v : View)
-      → unit_alone (unit_at limit section n v)
-      ≡ answer_of (at_offset n) (unit_alone (unit_at limit section m v))
+      → without_rest (unit_at limit section n v)
+      ≡ answer_of (at_offset n) (without_rest (unit_at limit section m v))
   unfolding unit_at
   placed m v = first (initial_length_at limit v)
     where
       second : (field : (ℕ × Format) × View) (s : Reads View)
-          → unit_alone (s >>= λ own. unit_in section n field.0 (fields_at limit section field.0.1
+          → without_rest (s >>= λ own. unit_in section n field.0 (fields_at limit section field.0.1
           own.0) own.1)
           ≡ answer_of (at_offset n)
-          (unit_alone (s >>= λ own. unit_in section m field.0 (fields_at limit section field.0.1
+          (without_rest (s >>= λ own. unit_in section m field.0 (fields_at limit section field.0.1
           own.0) own.1))
       second field (Ok own) = in_at m field.0 (fields_at limit section field.0.1 own.0) own.1
       second field (Err e) = refl
 
       first : (r : Reads (ℕ × Format))
-          → unit_alone (r >>= λ field. split_at field.0.0 field.1 >>= λ own.
+          → without_rest (r >>= λ field. split_at field.0.0 field.1 >>= λ own.
           unit_in section n field.0 (fields_at limit section field.0.1 own.0) own.1)
           ≡ answer_of (at_offset n)
-          (unit_alone (r >>= λ field. split_at field.0.0 field.1 >>= λ own.
+          (without_rest (r >>= λ field. split_at field.0.0 field.1 >>= λ own.
           unit_in section m field.0 (fields_at limit section field.0.1 own.0) own.1))
       first (Ok field) = second field (split_at field.0.0 field.1)
       first (Err e) = refl
 
   -- where no byte is left
-  pub no_unit : (v : View) → length v.bytes ≡ 0 → unit_alone (unit_at limit section n v)
+  pub no_unit : (v : View) → length v.bytes ≡ 0 → without_rest (unit_at limit section n v)
       ≡ Err (eof v)
   unfolding unit_at initial_length_at uint_at bytes_at
   no_unit v none = rw none refl
@@ -62,7 +63,7 @@ module _ (limit : ℕ) (section : SectionId) (n : ℕ) where
   -- the next unit of what is left is the one there, at another offset
   next_told : (v : View)
       → found_unit n v (next_unit limit section (record { rest = v; offset = 0 })).0
-      ≡ unit_alone (unit_at limit section n v)
+      ≡ without_rest (unit_at limit section n v)
   unfolding next_unit
   next_told v = elim (eqb_tells (length v.bytes) 0) [
     | inl none ↦ rw none.0 (sym (no_unit v none.1))
@@ -70,11 +71,11 @@ module _ (limit : ℕ) (section : SectionId) (n : ℕ) where
   ]
     where
       read : (r : Reads UnitView)
-          → unit_alone (unit_at limit section n v) ≡ answer_of (at_offset n) (unit_alone r)
+          → without_rest (unit_at limit section n v) ≡ answer_of (at_offset n) (without_rest r)
           → found_unit n v (elim r as (λ x. Result (Option UnitView) Error × UnitsPlace) [
             | Ok p ↦ (Ok (Some p.0), record { rest = p.1; offset = 0 + whole_length p.0 })
             | Err e ↦ (Err e, record { rest = end_of_view v; offset = 0 })
-          ]).0 ≡ unit_alone (unit_at limit section n v)
+          ]).0 ≡ without_rest (unit_at limit section n v)
       read (Ok p) e = sym e
       read (Err x) e = sym e
 
@@ -100,8 +101,8 @@ module _ (limit : ℕ) (section : SectionId) (n : ℕ) where
   header_placed v = skipped (skip_at n v)
     where
       skipped : (r : Reads (Unit {0}))
-          → unit_alone (r >>= λ p. unit_at limit section n p.1)
-          ≡ answer_of (at_offset n) (unit_alone (r >>= λ p. unit_at limit section n p.1))
+          → without_rest (r >>= λ p. unit_at limit section n p.1)
+          ≡ answer_of (at_offset n) (without_rest (r >>= λ p. unit_at limit section n p.1))
       skipped (Ok p) = placed n p.1
       skipped (Err e) = refl
 

@@ -8,6 +8,7 @@ use Rattle.gimli_base.specs.declared.error.Error.TheVariants.{OffsetOutOfBounds}
 use Rattle.gimli_base.specs.View.{View, cut}
 use Rattle.gimli_base.specs.Abbreviations.{Map, map_at}
 use Rattle.gimli_base.specs.Table.{codes_of}
+use Rattle.gimli_units.specs.UnitRows.{unit_rows_from}
 use Rattle.gimli_units.specs.Entry.{entry_at}
 use Rattle.gimli_units.specs.RawPlace.{RawPlace}
 use Rattle.gimli_units.specs.Rows.{Row, Ahead, ahead_at}
@@ -36,19 +37,14 @@ abbrev pub ahead_of : ℕ → ℤ → RawPlace → Ahead
 ahead_of limit base p = ahead_at (entry_at limit p.encoding (codes_of p.abbreviations)) p.end
     (base +ℤ p.depth) p.rest
 
--- the rows of a unit from a place on, which is in bounds or at the unit's end
-abbrev pub rows_at_place : ℕ → UnitView → Map → GimliPlace → Ahead
-rows_at_place limit u declared place =
-    ahead_at (entry_at limit u.encoding declared) (whole_length u) place.depth
-    (cut (place.offset - header_size u) u.entries)
-
 -- the rows of a unit from a place on, or the status of a call that reads none
 abbrev pub unit_ahead : ℕ → UnitView → Map → GimliPlace → Result Ahead ℕ
 unit_ahead limit u declared place =
-    if place.offset == whole_length u then Ok (rows_at_place limit u declared place)
+    if place.offset == whole_length u
+    then Ok (unit_rows_from limit u declared place.offset place.depth)
     else if in_bounds u place.offset then
     (if nat_lt (unsigned_abs place.depth + (whole_length u - place.offset)) (2 ^ 63) then Ok
-    (rows_at_place limit u declared place) else Err too_deep)
+    (unit_rows_from limit u declared place.offset place.depth) else Err too_deep)
     else Err (refusal_status (OffsetOutOfBounds place.offset))
 
 abbrev pub declared_ahead : ℕ → UnitView → Result Map Error → GimliPlace → Result Ahead ℕ

@@ -11,14 +11,11 @@ use Rattle.gimli_units.specs.Rows.{Ahead}
 use Rattle.gimli_units.specs.Unit.{UnitView, whole_length, in_bounds}
 use Rattle.gimli_units.specs.UnitRows.{unit_rows_from, unit_rows, start_view, IsHonestFrom}
 use Rattle.gimli_units.specs.UnitRows.{StandsAt}
+use Rattle.gimli_walk.specs.Cursors.{start_of}
 use Rattle.gimli_c.specs.declared.rows.GimliRow.{GimliRow}
 use Rattle.gimli_c.specs.declared.sections.GimliSections.{GimliSections}
 use Rattle.gimli_c.specs.Status.{more, end, refusal_status, row_refused}
 use Rattle.gimli_c.specs.Units.{section_unit, abbreviations_view}
-
--- the place before these rows
-abbrev pub before : Ahead → Place
-before a = record { ahead = a; current = None; offset = 0; depth = pos 0 }
 
 -- the status and the row where a walk stands: the current entry, as a row of this depth, or none
 abbrev pub current_told : ℤ → Place → GimliRow → ℕ × GimliRow
@@ -57,7 +54,7 @@ place_sibling stop p depth old = behind_told stop (next_row stop p) depth old
 abbrev pub unit_sibling : ℕ → UnitView → Map → ℕ → ℤ → GimliRow → ℕ × GimliRow
 unit_sibling limit u declared offset depth old =
     if in_bounds u offset
-    then place_sibling (whole_length u) (before (unit_rows_from limit u declared offset (pos 0)))
+    then place_sibling (whole_length u) (start_of (unit_rows_from limit u declared offset (pos 0)))
     depth old
     else (refusal_status (OffsetOutOfBounds offset), old)
 

@@ -4,7 +4,7 @@ ghost use Rattle.std.specs.Prelude.{◌≡◌};
 ghost use Rattle.gimli_walk.specs.UnitOfAddress.{unit_holding};
 ghost use Rattle.gimli_c.specs.Addresses.{holding_told};
 
-use crate::status::{END, MORE, refused};
+use crate::status::{END, MORE, refusal_status};
 use gimli_base::{Reader, ReaderOffset, Section};
 use gimli_lists::DebugAranges;
 use gimli_walk::unit_of_address;
@@ -21,6 +21,6 @@ pub(crate) fn find_unit<R: Reader>(aranges: &DebugAranges<R>, address: u64, offs
             MORE
         }
         Ok(None) => END,
-        Err(error) => refused(error),
+        Err(error) => refusal_status(error),
     }
 }

@@ -35,15 +35,15 @@ struct Numbers {
 
 // A number.
 #[inline(always)]
-fn plain(kind: u32, number: u64) -> Numbers
+fn one_number(kind: u32, number: u64) -> Numbers
     ensures { result ≡ numbers kind number 0 }
 {
-    two(kind, number, 0)
+    two_numbers(kind, number, 0)
 }
 
 // Two numbers.
 #[inline(always)]
-fn two(kind: u32, number: u64, more: u64) -> Numbers
+fn two_numbers(kind: u32, number: u64, more: u64) -> Numbers
     ensures { result ≡ numbers kind number more }
 {
     Numbers { kind, number, more }
@@ -51,10 +51,10 @@ fn two(kind: u32, number: u64, more: u64) -> Numbers
 
 // A number of 16 bytes.
 #[inline(always)]
-fn wide(kind: u32, number: u128) -> Numbers
+fn wide_numbers(kind: u32, number: u128) -> Numbers
     ensures { result ≡ numbers kind (number % 2 ^ 64) (number / 2 ^ 64) }
 {
-    two(
+    two_numbers(
         kind,
         (number % (1 << 64)) as u64,
         (number / (1 << 64)) as u64,
@@ -63,10 +63,10 @@ fn wide(kind: u32, number: u128) -> Numbers
 
 // Bytes of the section.
 #[inline(always)]
-fn lying<R: Reader>(kind: u32, bytes: &R) -> Numbers
+fn place_numbers<R: Reader>(kind: u32, bytes: &R) -> Numbers
     ensures { result ≡ place_numbers kind (R.view bytes.now) }
 {
-    two(kind, bytes.offset_id().0, bytes.len().into_u64())
+    two_numbers(kind, bytes.offset_id().0, bytes.len().into_u64())
 }
 
 // A value's numbers.
@@ -75,55 +75,55 @@ fn values_of<R: Reader>(value: &AttributeValue<R>) -> Numbers
     ensures { result ≡ values_of (map_value R.view R.Offset.number value.now) }
 {
     match value {
-        AttributeValue::Addr(number) => plain(1, *number),
-        AttributeValue::Block(bytes) => lying(2, bytes),
-        AttributeValue::Data1(number) => plain(3, u64::from(*number)),
-        AttributeValue::Data2(number) => plain(4, u64::from(*number)),
-        AttributeValue::Data4(number) => plain(5, u64::from(*number)),
-        AttributeValue::Data8(number) => plain(6, *number),
-        AttributeValue::Data16(number) => wide(7, *number),
-        AttributeValue::Sdata(number) => plain(8, number.cast_unsigned()),
-        AttributeValue::Udata(number) => plain(9, *number),
-        AttributeValue::Exprloc(expression) => lying(10, &expression.0),
-        AttributeValue::Flag(flag) => plain(11, u64::from(*flag)),
-        AttributeValue::SecOffset(offset) => plain(12, offset.into_u64()),
-        AttributeValue::DebugAddrBase(offset) => plain(13, offset.0.into_u64()),
-        AttributeValue::DebugAddrIndex(offset) => plain(14, offset.0.into_u64()),
-        AttributeValue::UnitRef(offset) => plain(15, offset.0.into_u64()),
-        AttributeValue::DebugInfoRef(offset) => plain(16, offset.0.into_u64()),
-        AttributeValue::DebugInfoRefSup(offset) => plain(17, offset.0.into_u64()),
-        AttributeValue::DebugLineRef(offset) => plain(18, offset.0.into_u64()),
-        AttributeValue::LocationListsRef(offset) => plain(19, offset.0.into_u64()),
-        AttributeValue::DebugLocListsBase(offset) => plain(20, offset.0.into_u64()),
-        AttributeValue::DebugLocListsIndex(offset) => plain(21, offset.0.into_u64()),
-        AttributeValue::DebugMacinfoRef(offset) => plain(22, offset.0.into_u64()),
-        AttributeValue::DebugMacroRef(offset) => plain(23, offset.0.into_u64()),
-        AttributeValue::RangeListsRef(offset) => plain(24, offset.0.into_u64()),
-        AttributeValue::DebugRngListsBase(offset) => plain(25, offset.0.into_u64()),
-        AttributeValue::DebugRngListsIndex(offset) => plain(26, offset.0.into_u64()),
-        AttributeValue::DebugTypesRef(code) => plain(27, code.0),
-        AttributeValue::DebugStrRef(offset) => plain(28, offset.0.into_u64()),
-        AttributeValue::DebugStrRefSup(offset) => plain(29, offset.0.into_u64()),
-        AttributeValue::DebugStrOffsetsBase(offset) => plain(30, offset.0.into_u64()),
-        AttributeValue::DebugStrOffsetsIndex(offset) => plain(31, offset.0.into_u64()),
-        AttributeValue::DebugLineStrRef(offset) => plain(32, offset.0.into_u64()),
-        AttributeValue::String(bytes) => lying(33, bytes),
-        AttributeValue::Encoding(code) => plain(34, u64::from(code.0)),
-        AttributeValue::DecimalSign(code) => plain(35, u64::from(code.0)),
-        AttributeValue::Endianity(code) => plain(36, u64::from(code.0)),
-        AttributeValue::Accessibility(code) => plain(37, u64::from(code.0)),
-        AttributeValue::Visibility(code) => plain(38, u64::from(code.0)),
-        AttributeValue::Virtuality(code) => plain(39, u64::from(code.0)),
-        AttributeValue::Language(code) => plain(40, u64::from(code.0)),
-        AttributeValue::AddressClass(code) => plain(41, code.0),
-        AttributeValue::IdentifierCase(code) => plain(42, u64::from(code.0)),
-        AttributeValue::CallingConvention(code) => plain(43, u64::from(code.0)),
-        AttributeValue::Inline(code) => plain(44, u64::from(code.0)),
-        AttributeValue::Ordering(code) => plain(45, u64::from(code.0)),
-        AttributeValue::FileIndex(number) => plain(46, *number),
-        AttributeValue::DwoId(code) => plain(47, code.0),
+        AttributeValue::Addr(number) => one_number(1, *number),
+        AttributeValue::Block(bytes) => place_numbers(2, bytes),
+        AttributeValue::Data1(number) => one_number(3, u64::from(*number)),
+        AttributeValue::Data2(number) => one_number(4, u64::from(*number)),
+        AttributeValue::Data4(number) => one_number(5, u64::from(*number)),
+        AttributeValue::Data8(number) => one_number(6, *number),
+        AttributeValue::Data16(number) => wide_numbers(7, *number),
+        AttributeValue::Sdata(number) => one_number(8, number.cast_unsigned()),
+        AttributeValue::Udata(number) => one_number(9, *number),
+        AttributeValue::Exprloc(expression) => place_numbers(10, &expression.0),
+        AttributeValue::Flag(flag) => one_number(11, u64::from(*flag)),
+        AttributeValue::SecOffset(offset) => one_number(12, offset.into_u64()),
+        AttributeValue::DebugAddrBase(offset) => one_number(13, offset.0.into_u64()),
+        AttributeValue::DebugAddrIndex(offset) => one_number(14, offset.0.into_u64()),
+        AttributeValue::UnitRef(offset) => one_number(15, offset.0.into_u64()),
+        AttributeValue::DebugInfoRef(offset) => one_number(16, offset.0.into_u64()),
+        AttributeValue::DebugInfoRefSup(offset) => one_number(17, offset.0.into_u64()),
+        AttributeValue::DebugLineRef(offset) => one_number(18, offset.0.into_u64()),
+        AttributeValue::LocationListsRef(offset) => one_number(19, offset.0.into_u64()),
+        AttributeValue::DebugLocListsBase(offset) => one_number(20, offset.0.into_u64()),
+        AttributeValue::DebugLocListsIndex(offset) => one_number(21, offset.0.into_u64()),
+        AttributeValue::DebugMacinfoRef(offset) => one_number(22, offset.0.into_u64()),
+        AttributeValue::DebugMacroRef(offset) => one_number(23, offset.0.into_u64()),
+        AttributeValue::RangeListsRef(offset) => one_number(24, offset.0.into_u64()),
+        AttributeValue::DebugRngListsBase(offset) => one_number(25, offset.0.into_u64()),
+        AttributeValue::DebugRngListsIndex(offset) => one_number(26, offset.0.into_u64()),
+        AttributeValue::DebugTypesRef(code) => one_number(27, code.0),
+        AttributeValue::DebugStrRef(offset) => one_number(28, offset.0.into_u64()),
+        AttributeValue::DebugStrRefSup(offset) => one_number(29, offset.0.into_u64()),
+        AttributeValue::DebugStrOffsetsBase(offset) => one_number(30, offset.0.into_u64()),
+        AttributeValue::DebugStrOffsetsIndex(offset) => one_number(31, offset.0.into_u64()),
+        AttributeValue::DebugLineStrRef(offset) => one_number(32, offset.0.into_u64()),
+        AttributeValue::String(bytes) => place_numbers(33, bytes),
+        AttributeValue::Encoding(code) => one_number(34, u64::from(code.0)),
+        AttributeValue::DecimalSign(code) => one_number(35, u64::from(code.0)),
+        AttributeValue::Endianity(code) => one_number(36, u64::from(code.0)),
+        AttributeValue::Accessibility(code) => one_number(37, u64::from(code.0)),
+        AttributeValue::Visibility(code) => one_number(38, u64::from(code.0)),
+        AttributeValue::Virtuality(code) => one_number(39, u64::from(code.0)),
+        AttributeValue::Language(code) => one_number(40, u64::from(code.0)),
+        AttributeValue::AddressClass(code) => one_number(41, code.0),
+        AttributeValue::IdentifierCase(code) => one_number(42, u64::from(code.0)),
+        AttributeValue::CallingConvention(code) => one_number(43, u64::from(code.0)),
+        AttributeValue::Inline(code) => one_number(44, u64::from(code.0)),
+        AttributeValue::Ordering(code) => one_number(45, u64::from(code.0)),
+        AttributeValue::FileIndex(number) => one_number(46, *number),
+        AttributeValue::DwoId(code) => one_number(47, code.0),
         AttributeValue::DebugAddrIndexOffset(index, offset) => {
-            two(48, index.0.into_u64(), u64::from(*offset))
+            two_numbers(48, index.0.into_u64(), u64::from(*offset))
         }
     }
 }

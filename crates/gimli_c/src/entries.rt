@@ -11,7 +11,7 @@ use crate::attrs::{GimliAttr, write_attrs};
 use crate::reading::read_numbers;
 use crate::rows::{GimliPlace, place_of};
 use crate::sections::{UnitSections, header_in};
-use crate::status::{END, MORE, TOO_DEEP, refused, row_refused};
+use crate::status::{END, MORE, TOO_DEEP, refusal_status, row_refused};
 use gimli_base::{Abbreviations, DebugAbbrev, Reader, ReaderOffset, Section};
 use gimli_units::{EntriesRaw, UnitHeader, UnitOffset};
 use std::alloc::Allocator;
@@ -79,16 +79,16 @@ pub(crate) fn read_entries<R: Reader, A: Allocator + Copy>(
 {
     let header = match header_in(&sections.units, sections.types, unit) {
         Ok(header) => header,
-        Err(error) => return stopped(offset, depth, refused(error)),
+        Err(error) => return no_entries(offset, depth, refusal_status(error)),
     };
     match header.abbreviations(alloc, &sections.abbreviations) {
         Ok(table) => unit_entries(alloc, &header, &table, offset, depth, rows, attrs),
-        Err(error) => stopped(offset, depth, refused(error)),
+        Err(error) => no_entries(offset, depth, refusal_status(error)),
     }
 }
 
 // No row.
-fn stopped<O: ReaderOffset>(offset: O, depth: isize, status: u32) -> ToldEntries
+fn no_entries<O: ReaderOffset>(offset: O, depth: isize, status: u32) -> ToldEntries
     ensures { let place = at (O.number offset) depth in
         result ≡ record { status = status; filled = wrote 0 0 0; place = place } }
 {
@@ -96,7 +96,7 @@ fn stopped<O: ReaderOffset>(offset: O, depth: isize, status: u32) -> ToldEntries
         offset: offset.into_u64(),
         depth,
     };
-    ended(status, wrote(0, 0, 0), place)
+    told_entries(status, wrote(0, 0, 0), place)
 }
 
 // Fills rows and attributes of a unit with its abbreviations.
@@ -117,16 +117,16 @@ fn unit_entries<R: Reader, A: Allocator + Copy>(
     let whole = unit.length_including_self().into_u64();
     let start = offset.into_u64();
     if start == whole {
-        return stopped(offset, depth, END);
+        return no_entries(offset, depth, END);
     }
     let mut entries = match unit.entries_raw(table, Some(UnitOffset(offset))) {
         Ok(entries) => entries,
-        Err(error) => return stopped(offset, depth, refused(error)),
+        Err(error) => return no_entries(offset, depth, refusal_status(error)),
     };
     let left = whole - start;
     let steps = depth.unsigned_abs() as u64;
     if left >= 1 << 63 || steps >= (1 << 63) - left {
-        return stopped(offset, depth, TOO_DEEP);
+        return no_entries(offset, depth, TOO_DEEP);
     }
     fill_entries(alloc, &mut entries, depth, rows, attrs)
 }
@@ -152,12 +152,12 @@ fn fill_entries<R: Reader, A: Allocator>(
         let place = place_of(entries, base);
         let head = match read_numbers(entries, &mut numbers) {
             Ok(head) => head,
-            Err(error) => return ended(row_refused(error), wrote(count, used, 0), place),
+            Err(error) => return told_entries(row_refused(error), wrote(count, used, 0), place),
         };
         let numbers_read = numbers.as_slice();
         let attributes = numbers_read.len();
         if attributes > attrs.len() - used {
-            return ended(MORE, wrote(count, used, attributes), place);
+            return told_entries(MORE, wrote(count, used, attributes), place);
         }
         write_attrs(numbers_read, attrs, used);
         rows[count] = GimliEntry {
@@ -172,7 +172,7 @@ fn fill_entries<R: Reader, A: Allocator>(
         used += attributes;
     }
     let status = if entries.is_empty() { END } else { MORE };
-    ended(status, wrote(count, used, 0), place_of(entries, base))
+    told_entries(status, wrote(count, used, 0), place_of(entries, base))
 }
 
 // How much was written.
@@ -189,7 +189,7 @@ fn wrote(rows: usize, attributes: usize, wanted: usize) -> GimliFilled
 
 // The answer of a call.
 #[inline(always)]
-fn ended(status: u32, filled: GimliFilled, place: GimliPlace) -> ToldEntries
+fn told_entries(status: u32, filled: GimliFilled, place: GimliPlace) -> ToldEntries
     ensures { result ≡ record { status = status; filled = filled; place = place } }
 {
     ToldEntries {

@@ -7,7 +7,7 @@ ghost use Rattle.gimli_c.specs.Status.{end, UnlessRefused};
 ghost use Rattle.gimli_c.specs.Siblings.{read_false, StandsIn, AreHonestIn};
 
 use crate::sections::{UnitSections, header_in};
-use crate::status::{END, MORE, refused};
+use crate::status::{END, MORE, refusal_status};
 use gimli_base::{DebugAbbrev, Reader, ReaderOffset, Section};
 use gimli_headers::first_false_sibling;
 use std::alloc::Allocator;
@@ -32,11 +32,11 @@ pub(crate) fn find_false<R: Reader, A: Allocator + Copy>(
 {
     let header = match header_in(&sections.units, sections.types, unit) {
         Ok(header) => header,
-        Err(error) => return refused(error),
+        Err(error) => return refusal_status(error),
     };
     let table = match header.abbreviations(alloc, &sections.abbreviations) {
         Ok(table) => table,
-        Err(error) => return refused(error),
+        Err(error) => return refusal_status(error),
     };
     match first_false_sibling(alloc, &header, &table) {
         Ok(Some(first)) => {
@@ -44,6 +44,6 @@ pub(crate) fn find_false<R: Reader, A: Allocator + Copy>(
             MORE
         }
         Ok(None) => END,
-        Err(error) => refused(error),
+        Err(error) => refusal_status(error),
     }
 }

@@ -10,7 +10,7 @@ ghost use Rattle.gimli_c.specs.Lists.{IsToldList, ranges_at, locations_at};
 
 use crate::attrs::GimliAttr;
 use crate::sections::GimliSections;
-use crate::status::{END, MORE, NO_LIST, refused, row_refused};
+use crate::status::{END, MORE, NO_LIST, refusal_status, row_refused};
 use crate::unit::GimliUnit;
 use gimli_base::{
     DebugAddr, DebugAddrBase, DebugLocListsBase, DebugLocListsIndex, DebugRngListsBase,
@@ -93,7 +93,7 @@ fn is_address_size(size: u8) -> bool
 }
 
 // Nothing.
-fn none(status: u32) -> Listed
+fn no_items(status: u32) -> Listed
     ensures { result ≡ record { count = 0; status = status } }
 {
     Listed { count: 0, status }
@@ -121,7 +121,7 @@ pub(crate) fn find_ranges<E: Endianity>(
 {
     let encoding = encoding_of(unit);
     if !is_address_size(unit.address_size) {
-        return none(refused(Error::UnsupportedAddressSize(unit.address_size)));
+        return no_items(refusal_status(Error::UnsupportedAddressSize(unit.address_size)));
     }
     let old = DebugRanges::new(sections.ranges, endian);
     let new = DebugRngLists::new(sections.rnglists, endian);
@@ -133,16 +133,16 @@ pub(crate) fn find_ranges<E: Endianity>(
         let base = DebugRngListsBase(bases.rnglists as usize);
         match lists.get_offset(encoding, base, DebugRngListsIndex(number)) {
             Ok(offset) => offset,
-            Err(error) => return none(refused(error)),
+            Err(error) => return no_items(refusal_status(error)),
         }
     } else {
-        return none(NO_LIST);
+        return no_items(NO_LIST);
     };
     let addresses = DebugAddr::from(EndianSlice::new(sections.addresses, endian));
     let table = DebugAddrBase(bases.addresses as usize);
     match lists.ranges(offset, encoding, bases.address, &addresses, table) {
         Ok(mut list) => fill_ranges(&mut list, ranges),
-        Err(error) => none(refused(error)),
+        Err(error) => no_items(refusal_status(error)),
     }
 }
 
@@ -197,7 +197,7 @@ pub(crate) fn find_locations<E: Endianity>(
 {
     let encoding = encoding_of(unit);
     if !is_address_size(unit.address_size) {
-        return none(refused(Error::UnsupportedAddressSize(unit.address_size)));
+        return no_items(refusal_status(Error::UnsupportedAddressSize(unit.address_size)));
     }
     let old = DebugLoc::new(sections.loc, endian);
     let new = DebugLocLists::new(sections.loclists, endian);
@@ -209,10 +209,10 @@ pub(crate) fn find_locations<E: Endianity>(
         let base = DebugLocListsBase(bases.loclists as usize);
         match lists.get_offset(encoding, base, DebugLocListsIndex(number)) {
             Ok(offset) => offset,
-            Err(error) => return none(refused(error)),
+            Err(error) => return no_items(refusal_status(error)),
         }
     } else {
-        return none(NO_LIST);
+        return no_items(NO_LIST);
     };
     let addresses = DebugAddr::from(EndianSlice::new(sections.addresses, endian));
     let table = DebugAddrBase(bases.addresses as usize);
@@ -223,7 +223,7 @@ pub(crate) fn find_locations<E: Endianity>(
     };
     match found {
         Ok(mut list) => fill_locations(&mut list, locations),
-        Err(error) => none(refused(error)),
+        Err(error) => no_items(refusal_status(error)),
     }
 }
 

@@ -11,7 +11,7 @@ ghost use Rattle.gimli_c.specs.Fronts.{Resumes};
 
 use crate::reading::pass_entry;
 use crate::sections::{UnitSections, header_in};
-use crate::status::{END, MORE, TOO_DEEP, refused, row_refused};
+use crate::status::{END, MORE, TOO_DEEP, refusal_status, row_refused};
 use gimli_base::{Abbreviations, DebugAbbrev, Reader, ReaderOffset, Section};
 use gimli_units::{EntriesRaw, UnitHeader, UnitOffset};
 use std::alloc::Allocator;
@@ -70,16 +70,16 @@ pub(crate) fn read_rows<R: Reader, A: Allocator + Copy>(
 {
     let header = match header_in(&sections.units, sections.types, unit) {
         Ok(header) => header,
-        Err(error) => return stopped(offset, depth, refused(error)),
+        Err(error) => return no_rows(offset, depth, refusal_status(error)),
     };
     match header.abbreviations(alloc, &sections.abbreviations) {
         Ok(table) => unit_rows(&header, &table, offset, depth, rows),
-        Err(error) => stopped(offset, depth, refused(error)),
+        Err(error) => no_rows(offset, depth, refusal_status(error)),
     }
 }
 
 // No row.
-fn stopped<O: ReaderOffset>(offset: O, depth: isize, status: u32) -> Told
+fn no_rows<O: ReaderOffset>(offset: O, depth: isize, status: u32) -> Told
     ensures { result ≡ record { status = status; count = 0; place = at (O.number offset) depth } }
 {
     Told {
@@ -107,16 +107,16 @@ fn unit_rows<R: Reader, A: Allocator + Copy>(
     let whole = unit.length_including_self().into_u64();
     let start = offset.into_u64();
     if start == whole {
-        return stopped(offset, depth, END);
+        return no_rows(offset, depth, END);
     }
     let mut entries = match unit.entries_raw(table, Some(UnitOffset(offset))) {
         Ok(entries) => entries,
-        Err(error) => return stopped(offset, depth, refused(error)),
+        Err(error) => return no_rows(offset, depth, refusal_status(error)),
     };
     let left = whole - start;
     let steps = depth.unsigned_abs() as u64;
     if left >= 1 << 63 || steps >= (1 << 63) - left {
-        return stopped(offset, depth, TOO_DEEP);
+        return no_rows(offset, depth, TOO_DEEP);
     }
     fill_rows(&mut entries, depth, rows)
 }

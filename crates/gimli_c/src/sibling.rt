@@ -6,7 +6,7 @@ ghost use Rattle.gimli_units.specs.CursorMoves.{place_of, Goes, IsHonestFor};
 ghost use Rattle.gimli_units.specs.CursorPlace.{next_of_depth};
 ghost use Rattle.gimli_units.specs.UnitHeld.{unit_view};
 ghost use Rattle.gimli_units.specs.UnitRows.{IsHonestFrom, start_view};
-ghost use Rattle.gimli_units.proofs.PlaceLaw.{IsHonestCursor};
+ghost use Rattle.gimli_units.specs.CursorMoves.{IsHonestCursor};
 ghost use Rattle.gimli_base.specs.Reading.{UnlessMemory};
 ghost use Rattle.gimli_headers.specs.Units.{header_at};
 ghost use Rattle.gimli_c.specs.Units.{section_id};
@@ -15,7 +15,7 @@ ghost use Rattle.gimli_c.specs.Siblings.{place_sibling, unit_sibling, read_sibli
 
 use crate::rows::GimliRow;
 use crate::sections::{UnitSections, header_in};
-use crate::status::{END, MORE, refused, row_refused};
+use crate::status::{END, MORE, refusal_status, row_refused};
 use gimli_base::{Abbreviations, DebugAbbrev, Reader, ReaderOffset, Result, Section};
 use gimli_units::{EntriesCursor, UnitHeader, UnitOffset};
 use std::alloc::Allocator;
@@ -41,11 +41,11 @@ pub(crate) fn find_sibling<R: Reader, A: Allocator + Copy>(
 {
     let header = match header_in(&sections.units, sections.types, unit) {
         Ok(header) => header,
-        Err(error) => return refused(error),
+        Err(error) => return refusal_status(error),
     };
     match header.abbreviations(alloc, &sections.abbreviations) {
         Ok(table) => find_in_unit(alloc, &header, &table, offset, depth, follows, row),
-        Err(error) => refused(error),
+        Err(error) => refusal_status(error),
     }
 }
 
@@ -74,7 +74,7 @@ fn find_in_unit<R: Reader, A: Allocator + Copy>(
     };
     match cursor {
         Ok(mut cursor) => find_behind(&mut cursor, depth, row),
-        Err(error) => refused(error),
+        Err(error) => refusal_status(error),
     }
 }
 

@@ -18,7 +18,7 @@ pub(crate) const TOO_DEEP: u32 = 2;
 pub(crate) const NO_LIST: u32 = 3;
 
 /// The status of a refusal of a unit, of its abbreviations or of an offset.
-pub(crate) fn refused(error: Error) -> u32
+pub(crate) fn refusal_status(error: Error) -> u32
     ensures { result ≡ refusal_status error }
 {
     256 + u32::from(error.number())

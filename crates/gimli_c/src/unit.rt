@@ -7,7 +7,7 @@ ghost use Rattle.gimli_units.specs.UnitKind.{map_type};
 ghost use Rattle.gimli_c.specs.Units.{section_id, at_offset, unit_told, unit_numbers, type_numbers};
 
 use crate::sections::{UnitSections, header_in};
-use crate::status::{END, MORE, refused};
+use crate::status::{END, MORE, refusal_status};
 use gimli_base::{Format, Reader, ReaderOffset};
 use gimli_units::{UnitHeader, UnitType};
 
@@ -65,7 +65,7 @@ pub(crate) fn read_unit<R: Reader>(
             *unit = numbers_of(&header, offset);
             MORE
         }
-        Err(error) => refused(error),
+        Err(error) => refusal_status(error),
     }
 }
 

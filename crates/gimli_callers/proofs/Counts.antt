@@ -11,28 +11,30 @@ use Rattle.gimli_units.specs.Honest.{AreHonest}
 use Rattle.gimli_units.specs.CursorPlace.{Place, Moved, is_entry, has_depth, arrive, skip_until}
 use Rattle.gimli_units.specs.CursorPlace.{seek}
 use Rattle.gimli_units.specs.CursorMoves.{rows_of, place_of}
-use Rattle.gimli_units.proofs.PlaceLaw.{IsHonestCursor}
+use Rattle.gimli_units.specs.CursorMoves.{IsHonestCursor}
 use Rattle.gimli_units.proofs.TreeLaw.{honest_at, honest_sought, honest_first}
 use Rattle.gimli_units.specs.TreeMoves.{TreeView, node_at, list_of, HasGoneOn, HasBegun}
 use Rattle.gimli_units.specs.TreePlace.{TreeMoved, children_of}
-use Rattle.gimli_callers.specs.Children.{counted, count_in, count_below, children_counted}
+use Rattle.gimli_callers.specs.Children.{count_rows, count_in, count_below, children_counted}
 
 -- what is counted after a step
 abbrev pub counted_after : ℤ → ℕ → Result Bool Error → Ahead → Result ℕ Error
-counted_after depth n (Ok true) a = counted depth a.refusal (n + 1) a.rows
+counted_after depth n (Ok true) a = count_rows depth a.refusal (n + 1) a.rows
 counted_after depth n (Ok false) a = Ok n
 counted_after depth n (Err e) a = Err e
 
 -- rows of other depths count for nothing
 skipped : (depth : ℤ) (refusal : Option Error) (n : ℕ) (rows : List Row)
-    → counted depth refusal n rows ≡ counted depth refusal n (skip_until (has_depth depth) rows)
+    → count_rows depth refusal n rows
+    ≡ count_rows depth refusal n (skip_until (has_depth depth) rows)
 skipped depth refusal n [] = refl
 skipped depth refusal n (r ∷ rest) = cases (has_depth depth r) refl (skipped depth refusal n rest)
   where
     cases : (b : Bool) → has_depth depth r ≡ b
-        → counted depth refusal n rest ≡ counted depth refusal n (skip_until (has_depth depth) rest)
-        → counted depth refusal n (r ∷ rest)
-        ≡ counted depth refusal n
+        → count_rows depth refusal n rest
+        ≡ count_rows depth refusal n (skip_until (has_depth depth) rest)
+        → count_rows depth refusal n (r ∷ rest)
+        ≡ count_rows depth refusal n
         (if b then r ∷ rest else skip_until (has_depth depth) rest)
     cases true h more = refl
     cases false h more = rw h more
@@ -57,7 +59,7 @@ arrives : (depth : ℤ) (n : ℕ) (end : ℕ) (rows rs : List Row) (refusal : Op
     ≡ arrive end
     (record { rows = rows; refusal = refusal; stop = stop; stop_depth = stop_depth }) o
     depth is_entry rs
-    → counted depth refusal n rs ≡ counted_after depth n outcome p.ahead
+    → count_rows depth refusal n rs ≡ counted_after depth n outcome p.ahead
 arrives depth n end rows [] None stop stop_depth o outcome p h is =
     let r : outcome ≡ Ok false = ap (λ (m : Moved). m.outcome) is in rw r refl
 arrives depth n end rows [] (Some e) stop stop_depth o outcome p h is =
@@ -71,7 +73,7 @@ arrives depth n end rows (x ∷ rest) refusal stop stop_depth o outcome p h is =
     rw (r, a, deep) (cases (is_null x.entry))
   where
     cases : (b : Bool)
-        → (if b then Ok n else counted depth refusal (n + 1) rest)
+        → (if b then Ok n else count_rows depth refusal (n + 1) rest)
         ≡ counted_after depth n (Ok (not b))
         (record { rows = rest; refusal = refusal; stop = stop; stop_depth = stop_depth })
     cases true = refl
@@ -79,7 +81,7 @@ arrives depth n end rows (x ∷ rest) refusal stop stop_depth o outcome p h is =
 
 seeks : (depth : ℤ) (n : ℕ) (end : ℕ) (a : Ahead) (o : ℕ) (outcome : Result Bool Error) (p : Place)
     → record { outcome = outcome; place = p } ≡ seek end depth o a
-    → counted depth a.refusal n a.rows ≡ counted_after depth n outcome p.ahead
+    → count_rows depth a.refusal n a.rows ≡ counted_after depth n outcome p.ahead
 unfolding seek
 seeks depth n end a o outcome p is =
     skipped depth a.refusal n a.rows
@@ -96,7 +98,7 @@ module _ (limit : ℕ) (depth : ℤ) (old new : TreeView) (outcome : Result Bool
 
   pub counts : (n : ℕ)
       → UnlessMemory outcome
-      (counted depth (rows_of limit old.cursor.raw).refusal n
+      (count_rows depth (rows_of limit old.cursor.raw).refusal n
       (rows_of limit old.cursor.raw).rows
       ≡ counted_after depth n outcome (rows_of limit new.cursor.raw))
   counts n = cases outcome stands
@@ -106,7 +108,7 @@ module _ (limit : ℕ) (depth : ℤ) (old new : TreeView) (outcome : Result Bool
           (record { outcome = r; place = place_of limit new.cursor }
           ≡ seek old.cursor.raw.end depth old.cursor.offset (rows_of limit old.cursor.raw))
           → UnlessMemory r
-          (counted depth (rows_of limit old.cursor.raw).refusal n
+          (count_rows depth (rows_of limit old.cursor.raw).refusal n
           (rows_of limit old.cursor.raw).rows
           ≡ counted_after depth n r (rows_of limit new.cursor.raw))
       cases (Ok b) is =

@@ -8,7 +8,7 @@ use Rattle.gimli_units.specs.Entry.{is_null}
 use Rattle.gimli_units.specs.RawPlace.{depth_after}
 use Rattle.gimli_units.specs.TreePlace.{Lists, children_of}
 use Rattle.gimli_units.specs.CursorMoves.{rows_of}
-use Rattle.gimli_units.proofs.PlaceLaw.{IsHonestCursor}
+use Rattle.gimli_units.specs.CursorMoves.{IsHonestCursor}
 use Rattle.gimli_units.specs.TreeMoves.{TreeView, node_at, HasGoneOn}
 use Rattle.gimli_units.specs.TreeWalker.{Standing, IsWalker, after_asked, WasAsked, HasAskedOne}
 use Rattle.gimli_units.specs.TreeWalker.{entered_from, left_from}

@@ -18,10 +18,10 @@ use Rattle.gimli_units.proofs.RowChain.{AreRows, AreAhead, exist_rows}
 use Rattle.gimli_units.specs.CursorPlace.{Place, Moved, is_entry, has_depth, arrive, skip_until}
 use Rattle.gimli_units.specs.CursorPlace.{seek}
 use Rattle.gimli_units.specs.CursorMoves.{next_of, rows_of, place_of}
-use Rattle.gimli_units.proofs.PlaceLaw.{IsHonestCursor}
+use Rattle.gimli_units.specs.CursorMoves.{IsHonestCursor}
 use Rattle.gimli_units.proofs.TreeLaw.{honest_at}
 use Rattle.gimli_units.specs.TreeMoves.{TreeView, HasGoneOn}
-use Rattle.gimli_callers.specs.Children.{counted}
+use Rattle.gimli_callers.specs.Children.{count_rows}
 use Rattle.gimli_callers.specs.Enters.{HasEntered}
 use Rattle.gimli_callers.proofs.Counts.{Heads, heads, stays_honest}
 
@@ -40,7 +40,7 @@ differs a b h e = clash (sym h ∙ (Decides-int_eq a b).1 e)
 
 -- what is counted after a step of the inner list
 abbrev pub counted_then : ℤ → ℕ → Result Bool Error → Ahead → Result ℕ Error
-counted_then depth n (Ok b) a = counted depth a.refusal n a.rows
+counted_then depth n (Ok b) a = count_rows depth a.refusal n a.rows
 counted_then depth n (Err e) a = Err e
 
 module _ (depth inner : ℤ) (is : inner ≡ depth +ℤ pos 1) where
@@ -62,7 +62,8 @@ module _ (depth inner : ℤ) (is : inner ≡ depth +ℤ pos 1) where
   module _ (next : View → Reads Entry) (end : ℕ) where
     inside : (rows : List Row) (v : View) (d : ℤ) (refusal : Option Error) (stop : ℕ)
         (stop_depth : ℤ) (n : ℕ) → AreRows next end v d rows refusal stop stop_depth → inner ≤ℤ d
-        → counted depth refusal n rows ≡ counted depth refusal n (skip_until (has_depth inner) rows)
+        → count_rows depth refusal n rows
+        ≡ count_rows depth refusal n (skip_until (has_depth inner) rows)
     inside [] v d refusal stop stop_depth n are low = refl
     inside (r ∷ rest) v d refusal stop stop_depth n (w, row, more) low =
         let high : inner ≤ℤ r.depth = rw row.depth_is low in
@@ -72,10 +73,10 @@ module _ (depth inner : ℤ) (is : inner ≡ depth +ℤ pos 1) where
       where
         cases : (b : Bool) → has_depth inner r ≡ b → has_depth depth r ≡ false
             → (has_depth inner r ≡ false
-            → counted depth refusal n rest
-            ≡ counted depth refusal n (skip_until (has_depth inner) rest))
-            → counted depth refusal n (r ∷ rest)
-            ≡ counted depth refusal n
+            → count_rows depth refusal n rest
+            ≡ count_rows depth refusal n (skip_until (has_depth inner) rest))
+            → count_rows depth refusal n (r ∷ rest)
+            ≡ count_rows depth refusal n
             (if b then r ∷ rest else skip_until (has_depth inner) rest)
         cases true h o f = refl
         cases false h o f = rw o (f h)
@@ -86,7 +87,7 @@ module _ (depth inner : ℤ) (is : inner ≡ depth +ℤ pos 1) where
       ≡ arrive end
       (record { rows = rows; refusal = refusal; stop = stop; stop_depth = stop_depth }) o
       inner is_entry rs
-      → counted depth refusal n rs ≡ counted_then depth n outcome p.ahead
+      → count_rows depth refusal n rs ≡ counted_then depth n outcome p.ahead
   arrives n end rows [] None stop stop_depth o outcome p h e =
       let r : outcome ≡ Ok false = ap (λ (m : Moved). m.outcome) e in
       let a : p.ahead
@@ -110,7 +111,8 @@ module _ (depth inner : ℤ) (is : inner ≡ depth +ℤ pos 1) where
     seeks : (n : ℕ) (o : ℕ) (r : Result Bool Error) (p : Place)
         → record { outcome = r; place = p }
         ≡ seek old.cursor.raw.end inner o (rows_of limit old.cursor.raw)
-        → counted depth (rows_of limit old.cursor.raw).refusal n (rows_of limit old.cursor.raw).rows
+        → count_rows depth (rows_of limit old.cursor.raw).refusal n
+        (rows_of limit old.cursor.raw).rows
         ≡ counted_then depth n r p.ahead
     unfolding seek
     seeks n o r p e =
@@ -128,7 +130,7 @@ module _ (depth inner : ℤ) (is : inner ≡ depth +ℤ pos 1) where
     -- a step of the inner list leaves the outer count
     pub counts_inside : (n : ℕ)
         → UnlessMemory outcome
-        (counted depth (rows_of limit old.cursor.raw).refusal n
+        (count_rows depth (rows_of limit old.cursor.raw).refusal n
         (rows_of limit old.cursor.raw).rows
         ≡ counted_then depth n outcome (rows_of limit new.cursor.raw))
     counts_inside n = cases outcome (h.sought.found (λ f. honest_at limit old.cursor inner honest))
@@ -139,7 +141,7 @@ module _ (depth inner : ℤ) (is : inner ≡ depth +ℤ pos 1) where
             ≡ seek old.cursor.raw.end inner old.cursor.offset
             (rows_of limit old.cursor.raw))
             → UnlessMemory r
-            (counted depth (rows_of limit old.cursor.raw).refusal n
+            (count_rows depth (rows_of limit old.cursor.raw).refusal n
             (rows_of limit old.cursor.raw).rows
             ≡ counted_then depth n r (rows_of limit new.cursor.raw))
         cases (Ok b) e = seeks n old.cursor.offset (Ok b) (place_of limit new.cursor) e
@@ -174,15 +176,16 @@ module _ (limit : ℕ) (depth : ℤ) (old new : TreeView) (entry : is_null old.c
 
   pub entered_count : (b : Bool) → HasEntered limit old (Ok b) new → IsHonestCursor limit old.cursor
       → (n : ℕ)
-      → counted depth (rows_of limit old.cursor.raw).refusal n (rows_of limit old.cursor.raw).rows
-      ≡ counted depth (rows_of limit new.cursor.raw).refusal n
+      → count_rows depth (rows_of limit old.cursor.raw).refusal n
+      (rows_of limit old.cursor.raw).rows
+      ≡ count_rows depth (rows_of limit new.cursor.raw).refusal n
       (rows_of limit new.cursor.raw).rows
   entered_count b h honest n = cases old.cursor.entry.has_children refl
     where
       cases : (f : Bool) → old.cursor.entry.has_children ≡ f
-          → counted depth (rows_of limit old.cursor.raw).refusal n
+          → count_rows depth (rows_of limit old.cursor.raw).refusal n
           (rows_of limit old.cursor.raw).rows
-          ≡ counted depth (rows_of limit new.cursor.raw).refusal n
+          ≡ count_rows depth (rows_of limit new.cursor.raw).refusal n
           (rows_of limit new.cursor.raw).rows
       cases true flag =
           counts_inside depth old.cursor.raw.depth (one_more flag) limit old new (Ok b)
@@ -191,12 +194,13 @@ module _ (limit : ℕ) (depth : ℤ) (old new : TreeView) (entry : is_null old.c
 
   pub entered_fails : (e : Error) → HasEntered limit old (Err e) new
       → IsHonestCursor limit old.cursor → (e ≡ OutOfMemory → ⊥) → (n : ℕ)
-      → counted depth (rows_of limit old.cursor.raw).refusal n (rows_of limit old.cursor.raw).rows
+      → count_rows depth (rows_of limit old.cursor.raw).refusal n
+      (rows_of limit old.cursor.raw).rows
       ≡ Err e
   entered_fails e h honest fine n = cases old.cursor.entry.has_children refl
     where
       cases : (f : Bool) → old.cursor.entry.has_children ≡ f
-          → counted depth (rows_of limit old.cursor.raw).refusal n
+          → count_rows depth (rows_of limit old.cursor.raw).refusal n
           (rows_of limit old.cursor.raw).rows ≡ Err e
       cases true flag =
           counts_inside depth old.cursor.raw.depth (one_more flag) limit old new (Err e)

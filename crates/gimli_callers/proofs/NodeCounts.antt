@@ -5,7 +5,7 @@ use Rattle.gimli_base.specs.declared.error.Error.{Error}
 use Rattle.gimli_base.specs.declared.error.Error.TheVariants.{OutOfMemory}
 use Rattle.gimli_units.specs.TreePlace.{Lists}
 use Rattle.gimli_units.specs.CursorMoves.{rows_of}
-use Rattle.gimli_units.proofs.PlaceLaw.{IsHonestCursor}
+use Rattle.gimli_units.specs.CursorMoves.{IsHonestCursor}
 use Rattle.gimli_units.specs.TreeWalker.{Standing, HasAskedOne}
 use Rattle.gimli_callers.specs.Subtree.{count_innermost}
 use Rattle.gimli_callers.proofs.Counts.{counts, stays_honest, fewer_left}

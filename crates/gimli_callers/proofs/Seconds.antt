@@ -17,7 +17,8 @@ use Rattle.gimli_units.specs.CursorPlace.{Place, Moved, next_row, next_of_depth}
 use Rattle.gimli_units.specs.CursorMoves.{CursorView, place_of, Goes, IsHonestFor}
 use Rattle.gimli_units.specs.CursorStart.{before_first, cursor_of, cursor_from}
 use Rattle.gimli_units.specs.CursorLent.{HasReadOn}
-use Rattle.gimli_units.proofs.PlaceLaw.{IsHonestCursor, honest_start, honest_next, honest_for}
+use Rattle.gimli_units.specs.CursorMoves.{IsHonestCursor}
+use Rattle.gimli_units.proofs.PlaceLaw.{honest_start, honest_next, honest_for}
 use Rattle.gimli_callers.specs.Second.{on_first, offset_if, second_of_rows}
 
 abbrev pub offset_answer : Bool → ℕ → Option ℕ

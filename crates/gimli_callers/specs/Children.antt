@@ -10,16 +10,17 @@ use Rattle.gimli_units.specs.TreePlace.{a_fault, to_root, children_of}
 
 -- the rows of a depth before the null that closes their list, counted on from n; a refusal before
 -- it is the answer
-abbrev pub counted : ℤ → Option Error → ℕ → List Row → Result ℕ Error
-counted depth refusal n [] = elim refusal [ None ↦ Ok n | Some e ↦ Err e ]
-counted depth refusal n (r ∷ rest) =
-    if has_depth depth r then (if is_null r.entry then Ok n else counted depth refusal (n + 1) rest)
-    else counted depth refusal n rest
+abbrev pub count_rows : ℤ → Option Error → ℕ → List Row → Result ℕ Error
+count_rows depth refusal n [] = elim refusal [ None ↦ Ok n | Some e ↦ Err e ]
+count_rows depth refusal n (r ∷ rest) =
+    if has_depth depth r
+    then (if is_null r.entry then Ok n else count_rows depth refusal (n + 1) rest)
+    else count_rows depth refusal n rest
 
 -- a list's, which has none where it is closed
 abbrev pub count_in : Option ℤ → ℕ → Ahead → Result ℕ Error
 count_in None n a = Ok n
-count_in (Some depth) n a = counted depth a.refusal n a.rows
+count_in (Some depth) n a = count_rows depth a.refusal n a.rows
 
 -- those of the root, which may be refused
 abbrev pub count_below : Told → Ahead → Result ℕ Error

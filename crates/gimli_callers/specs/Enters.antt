@@ -1,4 +1,4 @@
--- The first entry of a node's list was asked for.
+-- What a caller learns that asks for the first entry of a node's list (DWARF 5, 2.3).
 use Rattle.std.specs.Prelude.{◌≡◌, ℕ, Bool, true, false, Result, Ok}
 use Rattle.gimli_base.specs.declared.error.Error.{Error}
 use Rattle.gimli_units.specs.TreeMoves.{TreeView, HasGoneOn}

@@ -1,4 +1,4 @@
--- Runs of both kinds of cursor tell the same, memory aside.
+-- That runs of both kinds of cursor tell the same, memory aside (DWARF 5, 2.3).
 use Rattle.std.specs.Prelude.{ℕ, List, Option, Some, None}
 use Rattle.gimli_units.specs.Rows.{Row}
 use Rattle.gimli_units.specs.UnitRows.{StandsAt}

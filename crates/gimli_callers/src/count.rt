@@ -4,9 +4,9 @@ ghost use Rattle.std.specs.Prelude.{◌≡◌, ◌<◌, ◌+◌, ◌^◌, ℕ, u
 ghost use Rattle.gimli_base.specs.Reading.{UnlessMemory};
 ghost use Rattle.gimli_units.specs.Honest.{AreHonest};
 ghost use Rattle.gimli_units.specs.CursorMoves.{rows_of};
-ghost use Rattle.gimli_units.proofs.PlaceLaw.{IsHonestCursor};
+ghost use Rattle.gimli_units.specs.CursorMoves.{IsHonestCursor};
 ghost use Rattle.gimli_units.specs.TreeMoves.{list_of, IsTree};
-ghost use Rattle.gimli_callers.specs.Children.{counted, count_in, children_counted};
+ghost use Rattle.gimli_callers.specs.Children.{count_rows, count_in, children_counted};
 
 use gimli_base::{Reader, Result};
 use gimli_units::{EntriesTree, EntriesTreeIter};

@@ -6,7 +6,7 @@ ghost use Rattle.gimli_base.specs.Reading.{UnlessMemory};
 ghost use Rattle.gimli_units.specs.Honest.{AreHonest};
 ghost use Rattle.gimli_units.specs.CursorMoves.{rows_of};
 ghost use Rattle.gimli_callers.specs.Children.{children_counted};
-ghost use Rattle.gimli_units.proofs.PlaceLaw.{IsHonestCursor};
+ghost use Rattle.gimli_units.specs.CursorMoves.{IsHonestCursor};
 ghost use Rattle.gimli_units.specs.TreeWalker.{IsWalker};
 ghost use Rattle.gimli_callers.specs.Subtree.{count_innermost};
 ghost use Rattle.gimli_callers.specs.Enters.{HasEntered};

@@ -4,7 +4,7 @@ ghost use Rattle.std.specs.Prelude.{◌≡◌, ◌<◌, ◌+◌, ◌^◌, ℕ, l
 ghost use Rattle.gimli_base.specs.Reading.{UnlessMemory};
 ghost use Rattle.gimli_units.specs.Honest.{AreHonest};
 ghost use Rattle.gimli_units.specs.CursorMoves.{rows_of};
-ghost use Rattle.gimli_units.proofs.PlaceLaw.{IsHonestCursor};
+ghost use Rattle.gimli_units.specs.CursorMoves.{IsHonestCursor};
 ghost use Rattle.gimli_units.specs.TreeWalker.{IsWalker};
 ghost use Rattle.gimli_callers.specs.Children.{children_counted};
 ghost use Rattle.gimli_callers.specs.Subtree.{count_innermost, rest_of, entries_counted};
@@ -56,7 +56,7 @@ fn count_on<R: Reader, A: Allocator>(
     ensures counted { UnlessMemory result (result ≡ rest_of R.Offset.limit from walker.old) }
 {
     let mut count = from;
-    'walk: while walker.entered() > 0 {
+    'walk: while walker.list_count() > 0 {
         if walker.next()? {
             count += 1;
             walker.enter()?;

@@ -23,7 +23,8 @@ use Rattle.gimli_base.proofs.ChainSteps.{chain_ended, chain_more}
 use Rattle.gimli_headers.specs.Units.{UnitsPlace, Units, after_unit, unit_or_end}
 use Rattle.gimli_headers.specs.Units.{units_ahead, units_of, next_unit, before_units}
 use Rattle.gimli_base.specs.Reading.{transpose}
-use Rattle.gimli_headers.specs.Units.{IsNextUnit, unit_alone, header_at, Tile, EndsAt}
+use Rattle.gimli_base.specs.Address.{without_rest}
+use Rattle.gimli_headers.specs.Units.{IsNextUnit, header_at, Tile, EndsAt}
 use Rattle.gimli_headers.specs.Units.{Tiles, IsHeaderAt}
 
 module _ (limit : ℕ) (section : SectionId) where
@@ -176,7 +177,7 @@ module _ (limit : ℕ) (section : SectionId) where
     place_at o = record { rest = cut o v; offset = o }
 
     header_at-here : (o : ℕ) → o ≤ length v.bytes
-        → header_at limit section o v ≡ unit_alone (unit_at limit section o (cut o v))
+        → header_at limit section o v ≡ without_rest (unit_at limit section o (cut o v))
     unfolding header_at skip_at
     header_at-here o le = let t : nat_le o (length v.bytes) ≡ true = le-leb o (length v.bytes) le in
         rw t refl
@@ -215,7 +216,7 @@ module _ (limit : ℕ) (section : SectionId) where
         by (Err e) is some rest =
             let before : o < length v.bytes = omega (arith, length-drop o v.bytes, some) in
             subst (Lie o) (sym (ahead_refused (place_at o) e some is)) (
-              (o, refl, (before, header_at-here o le ∙ ap unit_alone (sym is))),
+              (o, refl, (before, header_at-here o le ∙ ap without_rest (sym is))),
               All-nil (IsHeaderAt limit section v),
             )
         by (Ok q) is some rest =
@@ -232,7 +233,7 @@ module _ (limit : ℕ) (section : SectionId) where
             let others = rest (o + whole_length u) after (omega (arith, enough, positive)) in
             let here : header_at limit section u.offset v
             ≡ Ok u = ap (λ k. header_at limit section k v) known.offset_is
-            ∙ header_at-here o le ∙ ap unit_alone (sym is) in
+            ∙ header_at-here o le ∙ ap without_rest (sym is) in
             let more = ahead_more (place_at o) u q.1 some is
             ∙ ap (λ p. then_item u (units_ahead limit section p)) (behind-here o u) in
             subst (Lie o) (sym more) (

@@ -1,6 +1,7 @@
 -- The units of a section, one after the other (DWARF 5, 7.5.1).
 use Rattle.std.specs.Prelude.{◌≡◌, ℕ, ◌+◌, ◌<◌, ◌==◌, if◌then◌else◌, List, [], ◌∷◌, length, Option}
 use Rattle.std.specs.Prelude.{Some, None, Result, Ok, Err, IfOk, IfSome}
+use Rattle.gimli_base.specs.Address.{without_rest}
 use Rattle.gimli_base.specs.declared.common.SectionId.{SectionId}
 use Rattle.gimli_base.specs.declared.error.Error.{Error}
 use Rattle.gimli_base.specs.View.{View, cut, end_of_view}
@@ -67,15 +68,10 @@ pub record IsNextUnit (limit : ℕ) (section : SectionId) (p : UnitsPlace)
   pub ahead : units_ahead limit section p ≡ before_units a (units_ahead limit section q)
   pub size : IfOk a (λ o. IfSome o (λ u. size_of_header u ≡ header_size u))
 
--- a unit, without what is left after it
-abbrev pub unit_alone : Reads UnitView → Result UnitView Error
-unit_alone (Ok p) = Ok p.0
-unit_alone (Err e) = Err e
-
 -- the unit at an offset of a section
 unfoldable pub header_at : ℕ → SectionId → ℕ → View → Result UnitView Error
 header_at limit section offset v =
-    unit_alone (skip_at offset v >>= λ p. unit_at limit section offset p.1)
+    without_rest (skip_at offset v >>= λ p. unit_at limit section offset p.1)
 
 -- units that lie one after the other, the first at `start`, and the last up to `end`
 abbrev pub Tile : ℕ → List UnitView → ℕ → Type 0

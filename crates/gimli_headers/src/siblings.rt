@@ -6,8 +6,7 @@ ghost use Rattle.std.specs.Option.{option_map};
 ghost use Rattle.gimli_base.specs.declared.error.Error.TheVariants.{OutOfMemory};
 ghost use Rattle.gimli_base.specs.Table.{codes_of};
 ghost use Rattle.gimli_units.specs.Entry.{entry_of, is_null};
-ghost use Rattle.gimli_units.specs.Value.{map_value};
-ghost use Rattle.gimli_units.specs.Kind.{kind_of, unit_reference};
+ghost use Rattle.gimli_units.specs.Kind.{kind_of};
 ghost use Rattle.gimli_units.specs.RawPlace.{depth_after};
 ghost use Rattle.gimli_units.specs.Rows.{Row};
 ghost use Rattle.gimli_units.specs.Honest.{target, within};
@@ -21,8 +20,8 @@ ghost use Rattle.gimli_units.specs.FirstFalse.{IsLeastFalse};
 ghost use Rattle.gimli_headers.specs.OpenRows.{OpenRow, open_of, check_held, row_of, Rise};
 ghost use Rattle.gimli_headers.specs.OpenRows.{judgement};
 
-use gimli_base::{Abbreviations, DW_AT_sibling, Error, Reader, ReaderOffset, Result};
-use gimli_units::{AttributeValue, DebuggingInformationEntry, EntriesRaw, UnitHeader, UnitOffset};
+use gimli_base::{Abbreviations, Error, Reader, ReaderOffset, Result};
+use gimli_units::{DebuggingInformationEntry, EntriesRaw, UnitHeader, UnitOffset};
 use std::alloc::Allocator;
 
 // An entry whose children are not closed yet, and whose reference can be followed.
@@ -42,36 +41,9 @@ struct Check<Offset, A: Allocator> {
     first: Option<UnitOffset<Offset>>,
 }
 
-// Where a value leads in its unit, if it is a reference there.
-fn reference<R: Reader>(value: &AttributeValue<R>) -> Option<UnitOffset<R::Offset>>
-    ensures { let number = R.Offset.number in
-        option_map (λ o. number o.0) result ≡ unit_reference (map_value R.view number value.now) }
-{
-    match value {
-        AttributeValue::UnitRef(offset) => Some(*offset),
-        _ => None,
-    }
-}
-
-// Where the reference of an entry leads, if it has children and its first sibling reference is an
-// offset in the unit.
-fn sibling<R: Reader, A: Allocator>(
-    entry: &DebuggingInformationEntry<R, A>,
-) -> Option<UnitOffset<R::Offset>>
-    ensures { let number = R.Offset.number in
-        option_map (λ o. number o.0) result ≡ target (kind_of (entry_of R.view number entry.now)) }
-{
-    if entry.is_null() || !entry.has_children() {
-        return None;
-    }
-    match entry.attr_value_raw(DW_AT_sibling) {
-        Some(value) => reference(&value),
-        None => None,
-    }
-}
-
-// Where it leads, if it can be followed: not before what is after the entry, and not past the end.
-fn usable<R: Reader, A: Allocator>(
+// Where the reference of an entry leads, if it can be followed: not before what is after the entry,
+// and not past the end.
+fn usable_target<R: Reader, A: Allocator>(
     entry: &DebuggingInformationEntry<R, A>,
     behind: UnitOffset<R::Offset>,
     end: UnitOffset<R::Offset>,
@@ -80,7 +52,7 @@ fn usable<R: Reader, A: Allocator>(
         let leads = target (kind_of (entry_of R.view number entry.now)) in
         option_map (λ o. number o.0) result ≡ within (number behind.0) (number end.0) leads }
 {
-    let target = sibling(entry)?;
+    let target = entry.sibling()?;
     let number = target.0.into_u64();
     if behind.0.into_u64() <= number && number <= end.0.into_u64() {
         Some(target)
@@ -199,7 +171,7 @@ fn go_behind<R: Reader, A: Allocator>(
     if check.first.is_some() {
         return Ok(());
     }
-    match usable(entry, behind, end) {
+    match usable_target(entry, behind, end) {
         Some(target) => check.enter(entry.offset(), entry.depth(), target),
         None => Ok(()),
     }

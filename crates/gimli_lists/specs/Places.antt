@@ -142,7 +142,7 @@ abbrev pub read_from : {P : Type 0} → Grammar P → ℕ → ListPlace → ℕ
 read_from grammar limit p =
     entries_read p.raw.encoding.address_size (look_up_of limit p) p.base (entries_ahead grammar p)
 
--- q is after p in the same list, with a base address of its own
+-- q is a place of the same list as p: all but what is left of it and the base address is p's
 abbrev pub InList : ListPlace → ListPlace → Type 0
 InList p q = q ≡ record p { raw = record p.raw { rest = q.raw.rest }; base = q.base }
 

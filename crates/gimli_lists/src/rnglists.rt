@@ -225,7 +225,7 @@ impl Range {
     // The range, if it begins below the least address that stands for none, and below its end. The
     // size has to be 1, 2, 4 or 8.
     #[inline]
-    fn kept(self, address_size: u8) -> Option<Range>
+    fn if_kept(self, address_size: u8) -> Option<Range>
         requires { IsTrue (is_size address_size) }
         ensures { option_map resolved_of result
             ≡ resolved_if_kept address_size self.begin self.end tt }
@@ -250,6 +250,6 @@ impl Range {
         }
         let mut range = self;
         range.add_base_address(base_address, address_size);
-        range.kept(address_size)
+        range.if_kept(address_size)
     }
 }

@@ -1,16 +1,13 @@
 //! The calls that a case can name.
 
-use crate::lists::{write_locations, write_ranges, write_unit_of};
-use crate::runs::write_run;
-use crate::texts::write_status;
 use crate::trial::{Heap, Trial};
 use crate::units::Stage;
-use gimli_base::{Abbreviations, DebugAbbrev, Reader, ReaderOffset};
-use gimli_headers::{DebugInfo, DebugTypes};
-use gimli_units::{DebugInfoOffset, UnitHeader, UnitOffset};
-use gimli_walk::{run_type_units, run_units};
+use gimli_base::{Abbreviations, Reader, ReaderOffset};
+use gimli_lists::DebugAranges;
+use gimli_units::UnitOffset;
+use gimli_walk::unit_of_address;
 use std::io::Write;
-use test_tables::{Call, Outcome};
+use test_tables::{Call, Outcome, first_unit, write_section_run, write_with_status};
 
 /// Makes the call of a case, and writes what it answers.
 pub(crate) fn write_call<R: Reader>(
@@ -18,13 +15,10 @@ pub(crate) fn write_call<R: Reader>(
     trial: Trial<'_>,
     out: &mut Vec<u8>,
 ) -> Outcome {
-    let (heap, first) = (&trial.heaps.failing, call.section(0)?);
+    let heap = &trial.heaps.failing;
     match call.name() {
-        "text" | "words" => write_status(call.case, trial, out),
-        "units" => write_run(&run_units(heap, &DebugInfo::from(first)), out),
-        "type_units" => write_run(&run_type_units(heap, &DebugTypes::from(first)), out),
-        "ranges" => write_ranges(call, heap, out),
-        "locations" => write_locations(call, heap, out),
+        "text" | "words" => write_with_status(call, heap, 1, out),
+        "units" | "type_units" | "ranges" | "locations" => write_section_run(call, heap, out),
         "unit_of_address" => write_unit_of(call, out),
         "table" => {
             let (_, table) = first_unit(call, heap)?;
@@ -45,17 +39,6 @@ pub(crate) fn write_call<R: Reader>(
     }
 }
 
-// The first unit, and its table, by an allocator.
-fn first_unit<'h, R: Reader>(
-    call: &Call<'_, R>,
-    heap: Heap<'h>,
-) -> Outcome<(UnitHeader<R>, Abbreviations<Heap<'h>>)> {
-    let zero = DebugInfoOffset(R::Offset::from_u8(0));
-    let unit = DebugInfo::from(call.section(0)?).header_from_offset(zero)?;
-    let table = unit.abbreviations(heap, &DebugAbbrev::from(call.section(1)?))?;
-    Ok((unit, table))
-}
-
 // Writes the declarations of the codes up to 10: the code, the tag, the children flag and the number of
 // attributes.
 fn write_table(table: &Abbreviations<Heap<'_>>, out: &mut Vec<u8>) -> Outcome {
@@ -67,4 +50,17 @@ fn write_table(table: &Abbreviations<Heap<'_>>, out: &mut Vec<u8>) -> Outcome {
         }
     }
     Ok(writeln!(out, "end")?)
+}
+
+// Writes the offset of the unit of an address.
+fn write_unit_of<R: Reader>(call: &Call<'_, R>, out: &mut Vec<u8>) -> Outcome {
+    let aranges = DebugAranges::from(call.section(0)?);
+    match unit_of_address(&aranges, call.number(1)?)? {
+        Some(offset) => {
+            let offset = offset.0.into_u64();
+            writeln!(out, "unit {offset:x}")?;
+        }
+        None => writeln!(out, "none")?,
+    }
+    Ok(())
 }

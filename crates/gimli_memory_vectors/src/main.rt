@@ -3,7 +3,6 @@
 
 mod calls;
 mod cursors;
-mod lists;
 mod runs;
 mod texts;
 mod trees;

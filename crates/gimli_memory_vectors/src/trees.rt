@@ -63,7 +63,7 @@ impl<'table, 'h, R: Reader> Walk for EntriesTreeWalker<'table, R, Heap<'h>> {
 
     fn show(&self, out: &mut Vec<u8>) -> Outcome {
         write_counted(self.entry(), out)?;
-        let lists = self.entered();
+        let lists = self.list_count();
         let reads = self.reads();
         Ok(write!(out, " in {lists} reads {reads}")?)
     }

@@ -1,8 +1,7 @@
 //! Tests of `gimli_base`.
 
+mod declarations;
 mod endianity;
-mod error;
 mod newtypes;
 mod offset;
 mod readers;
-mod sections;

@@ -1,7 +1,3 @@
-//! Tests of the cursors and trees of `gimli_units`.
+//! Tests of the cursors of `gimli_units`.
 
-mod callers;
-mod clones;
 mod long;
-mod samples;
-mod walked;

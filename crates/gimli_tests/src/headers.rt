@@ -1,5 +1,3 @@
 //! Tests of `gimli_headers`.
 
-mod debug_info;
-mod debug_types;
-mod samples;
+mod sections;

@@ -12,6 +12,8 @@ mod lists;
 #[cfg(test)]
 mod samples;
 #[cfg(test)]
+mod sections;
+#[cfg(test)]
 mod units;
 #[cfg(test)]
 mod walk;

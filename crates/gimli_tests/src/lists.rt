@@ -3,4 +3,3 @@
 mod aranges;
 mod loclists;
 mod rnglists;
-mod samples;

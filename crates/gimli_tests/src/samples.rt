@@ -1,22 +1,28 @@
 //! The readers, tables and units that the tests try, and what they ask of them.
 
+ghost use Rattle.std.specs.Prelude.{◌≡◌};
+
 use gimli_base::{
     Abbreviations, DebugAbbrev, DebugAbbrevOffset, Encoding, EndianSlice, Endianity, Error, Format,
     LittleEndian, Reader, ReaderOffset, ReaderOffsetId, Result, SectionId, WholeSlice,
 };
 use gimli_units::{UnitHeader, UnitSectionOffset, UnitType};
 use std::alloc::Global;
+use std::fmt::Debug;
 use std::hash::{DefaultHasher, Hash, Hasher};
 use std::process::Abort;
 
 /// Code 1: the tag 0x2e, children, and the attribute 0x03 of form string.
 pub(crate) const TABLE_NESTED_STRINGS: [u8; 8] = [0x01, 0x2e, 0x01, 0x03, 0x08, 0x00, 0x00, 0x00];
 
-/// Three entries of the nested strings, each the child of the one before, and three nulls.
-pub(crate) const NESTED_STRINGS: [u8; 18] = [
-    0x01, 0x66, 0x6f, 0x6f, 0x00, 0x01, 0x66, 0x6f, 0x6f, 0x00, 0x01, 0x66, 0x6f, 0x6f, 0x00, 0x00,
-    0x00, 0x00,
+/// A unit of three nested strings, each the child of the one before, and the three nulls that close their lists.
+pub(crate) const THREE_NESTED: [u8; 29] = [
+    0x19, 0x00, 0x00, 0x00, 0x04, 0x00, 0x00, 0x00, 0x00, 0x00, 0x04, 0x01, 0x66, 0x6f, 0x6f, 0x00,
+    0x01, 0x66, 0x6f, 0x6f, 0x00, 0x01, 0x66, 0x6f, 0x6f, 0x00, 0x00, 0x00, 0x00,
 ];
+
+/// A reader of the kind that most tests take.
+pub(crate) type Part<'a> = EndianSlice<'a, LittleEndian>;
 
 /// A reader that keeps what is left of these bytes, from the place 100 on.
 pub(crate) fn part<E: Endianity>(bytes: &[u8], endian: E) -> EndianSlice<'_, E> {
@@ -30,7 +36,7 @@ pub(crate) fn whole<'a, E: Endianity>(
     bytes: &'a [u8],
     endian: E,
 ) -> WholeSlice<'a, E> {
-    assert!(rt; bytes.len() < 0x1_0000);
+    assert!(rt; bytes.len() < 0x100_0000);
     WholeSlice::new_at(bytes, endian, 100)
 }
 
@@ -39,16 +45,18 @@ pub(crate) fn table_of(alloc: Global, bytes: &[u8]) -> Result<Abbreviations<Glob
     DebugAbbrev::new(bytes, LittleEndian).abbreviations(alloc, DebugAbbrevOffset(0))
 }
 
-/// Version 4, the 32-bit format, and addresses of 4 bytes.
-pub(crate) fn version_4() -> Encoding {
+/// The 32-bit format, a version, and a number of bytes of an address.
+pub(crate) fn encoding(version: u16, address_size: u8) -> Encoding
+    ensures { result.address_size ≡ address_size }
+{
     Encoding {
         format: Format::Dwarf32,
-        version: 4,
-        address_size: 4,
+        version,
+        address_size,
     }
 }
 
-/// The compilation unit of that encoding with these entries, the first of them at 11.
+/// The compilation unit of version 4 with these entries, the first of them at 11.
 pub(crate) fn unit_of<R: Reader>(rt: &impl Abort, entries: R) -> UnitHeader<R> {
     let zero = R::Offset::from_u8(0);
     let unit_length = R::Offset::from_u8(7)
@@ -57,7 +65,7 @@ pub(crate) fn unit_of<R: Reader>(rt: &impl Abort, entries: R) -> UnitHeader<R> {
     let whole = R::Offset::from_u8(12).checked_add(unit_length);
     assert!(rt; whole.is_some());
     UnitHeader::new(
-        version_4(),
+        encoding(4, 4),
         unit_length,
         UnitType::Compilation,
         DebugAbbrevOffset(zero),
@@ -79,6 +87,11 @@ pub(crate) fn end_at(place: u64) -> Error {
     Error::UnexpectedEof(ReaderOffsetId(place))
 }
 
+/// Whether a reader has these bytes left, the first of them at a place, and no other.
+pub(crate) fn has_bytes_at<R: Reader>(reader: &R, bytes: &[u8], place: u64) -> bool {
+    has_bytes(reader, bytes) && reader.offset_id() == ReaderOffsetId(place)
+}
+
 /// Whether a reader has these bytes left, and no other.
 pub(crate) fn has_bytes<R: Reader>(reader: &R, bytes: &[u8]) -> bool {
     let mut rest = reader.copy();
@@ -95,4 +108,21 @@ pub(crate) fn hash_of<T: Hash>(value: &T) -> u64 {
     let mut state = DefaultHasher::new();
     value.hash(&mut state);
     state.finish()
+}
+
+/// Tries a value with others that are equal to it, and with others that are not.
+pub(crate) fn compares<T: Copy + Debug + PartialEq + Hash>(
+    rt: &impl Abort,
+    value: T,
+    same: [T; 2],
+    others: [T; 4],
+) {
+    for other in same {
+        assert!(rt; value == other);
+        assert!(rt; hash_of(&value) == hash_of(&other));
+    }
+    for other in others {
+        assert_ne!(rt; value, other);
+        assert_ne!(rt; hash_of(&value), hash_of(&other));
+    }
 }

@@ -5,6 +5,5 @@ mod counting;
 mod entry;
 mod header;
 mod hostile;
-mod raw;
 mod samples;
 mod section;

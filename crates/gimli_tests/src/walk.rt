@@ -3,5 +3,4 @@
 mod deep;
 mod faults;
 mod large;
-mod samples;
 mod walks;

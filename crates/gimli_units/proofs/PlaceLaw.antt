@@ -18,7 +18,7 @@ use Rattle.gimli_units.specs.CursorPlace.{last_offset, last_depth, next_row}
 use Rattle.gimli_units.specs.CursorPlace.{next_in_depth_first_order, seek, next_of_depth}
 use Rattle.gimli_units.specs.CursorPlace.{next_offset, next_depth}
 use Rattle.gimli_units.specs.CursorMoves.{CursorView, next_of, rows_of, place_of, last_row, Goes}
-use Rattle.gimli_units.specs.CursorMoves.{IsHonestFor}
+use Rattle.gimli_units.specs.CursorMoves.{IsHonestFor, IsHonestCursor}
 
 -- each row is followed by the one that stands after it
 abbrev pub AreLinked : ℕ → List Row → Type 0
@@ -76,11 +76,6 @@ honest_until end depth [] h = tt
 honest_until end depth (r ∷ rest) h = λ other. (λ deep. h.0, honest_until end depth rest h.1)
 
 module _ (limit : ℕ) where
-  -- the rows ahead of a cursor are honest, and so is its current row
-  pub record IsHonestCursor (c : CursorView) : Type 0 where
-    pub ahead : AreHonest c.raw.end (rows_of limit c.raw).rows
-    pub current : IsHonest c.raw.end (last_row c) (rows_of limit c.raw).rows
-
   chain : (p : RawPlace) → AreAhead (next_of limit p) p.end p.rest p.depth (rows_of limit p)
   chain p = exist_rows (next_of limit p) p.end
       (λ v w e. entry_at-shorter limit p.encoding (codes_of p.abbreviations) v w e) p.rest p.depth
@@ -108,11 +103,11 @@ module _ (limit : ℕ) where
       let e : ◌≡◌ {A = Option ℕ} None (Some t) = sym nowhere ∙ leads in absurd (cc)
 
   pub honest_start : (c : CursorView) → is_null c.entry ≡ true
-      → AreHonest c.raw.end (rows_of limit c.raw).rows → IsHonestCursor c
+      → AreHonest c.raw.end (rows_of limit c.raw).rows → IsHonestCursor limit c
   honest_start c is_none h =
       record { ahead = h; current = null_honest c (rows_of limit c.raw).rows is_none }
 
-  pub honest_for : (c : CursorView) → IsHonestCursor c → IsHonestFor limit c.depth c
+  pub honest_for : (c : CursorView) → IsHonestCursor limit c → IsHonestFor limit c.depth c
   honest_for c h =
       record {
         current = λ deep. h.current;
@@ -135,7 +130,7 @@ module _ (limit : ℕ) where
       cases false k = cc
 
   empty_honest : (new : CursorView) → (rows_of limit new.raw).rows ≡ [] → is_null new.entry ≡ true
-      → IsHonestCursor new
+      → IsHonestCursor limit new
   empty_honest new none is_none = honest_start new is_none (rw none tt)
 
   -- where a step takes the first of rows that are honest, or none, what is ahead is honest
@@ -146,7 +141,7 @@ module _ (limit : ℕ) where
       → record { outcome = outcome; place = place_of limit new }
       ≡ arrive end (record { rows = rows; refusal = refusal; stop = stop; stop_depth = stop_depth })
       o d answer rs
-      → IsHonestCursor new
+      → IsHonestCursor limit new
   arrived new end rows [] None stop stop_depth o d answer outcome same h l is =
       empty_honest new (ap (λ (m : Moved). m.place.ahead.rows) is)
       (none_null new.entry (ap (λ (m : Moved). m.place.current) is))
@@ -176,7 +171,8 @@ module _ (limit : ℕ) where
           left h.0
 
   pub honest_next : (c new : CursorView) (outcome : Result Bool Error) → new.raw.end ≡ c.raw.end
-      → IsHonestCursor c → Goes limit (next_row c.raw.end) c outcome new → IsHonestCursor new
+      → IsHonestCursor limit c
+      → Goes limit (next_row c.raw.end) c outcome new → IsHonestCursor limit new
   unfolding next_row
   honest_next c new outcome same h is =
       let a : Ahead = rows_of limit c.raw in
@@ -184,8 +180,9 @@ module _ (limit : ℕ) where
       outcome same h.ahead (linked_rows c.raw) is
 
   pub honest_dfs : (c new : CursorView) (outcome : Result Bool Error) → new.raw.end ≡ c.raw.end
-      → IsHonestCursor c → Goes limit (next_in_depth_first_order c.raw.end) c outcome new
-      → IsHonestCursor new
+      → IsHonestCursor limit c
+      → Goes limit (next_in_depth_first_order c.raw.end) c outcome new
+      → IsHonestCursor limit new
   unfolding next_in_depth_first_order
   honest_dfs c new outcome same h is =
       let a : Ahead = rows_of limit c.raw in
@@ -195,7 +192,8 @@ module _ (limit : ℕ) where
       (linked_skip a.stop is_entry a.rows (linked_rows c.raw)) is
 
   pub honest_sibling : (c new : CursorView) (outcome : Result Bool Error) → new.raw.end ≡ c.raw.end
-      → IsHonestCursor c → Goes limit (next_of_depth c.raw.end) c outcome new → IsHonestCursor new
+      → IsHonestCursor limit c
+      → Goes limit (next_of_depth c.raw.end) c outcome new → IsHonestCursor limit new
   unfolding next_of_depth seek
   honest_sibling c new outcome same h = cases (is_null c.entry) refl
     where
@@ -208,7 +206,7 @@ module _ (limit : ℕ) where
             | None ↦ record { outcome = Ok false; place = place_of limit c }
             | Some e ↦ arrive c.raw.end a c.offset c.depth is_entry
                 (skip_until (has_depth c.depth) a.rows)
-          ]) → IsHonestCursor new
+          ]) → IsHonestCursor limit new
       cases true is_none is = record {
         ahead = rw (ap (λ (m : Moved). m.place.ahead.rows) is, same) h.ahead;
         current = null_honest new (rows_of limit new.raw).rows

@@ -20,8 +20,8 @@ use Rattle.gimli_units.specs.Layout.{Layout, byte, number, section_or, address, 
 use Rattle.gimli_units.specs.Layout.{word_offset, reference, offset_leb, offset_leb_and, block}
 use Rattle.gimli_units.specs.Layout.{block_leb, text, nothing, constant, layout_of}
 use Rattle.gimli_units.specs.Form.{form_at, form_within}
-use Rattle.gimli_units.proofs.WidthLaw.{form_size-known}
-use Rattle.gimli_units.specs.Passing.{pass, pass_at, pass_direct, known_size, size_of, pass_all}
+use Rattle.gimli_units.proofs.WidthLaw.{size_of, known_size, form_size-known}
+use Rattle.gimli_units.specs.Passing.{pass, pass_at, pass_direct, pass_all}
 use Rattle.gimli_units.specs.Passing.{somewhere, without_place, NamesPlaceOf}
 use Rattle.gimli_units.proofs.EntryReads.{none_later}
 use Rattle.gimli_units.proofs.PassReads.{pass_at-later}

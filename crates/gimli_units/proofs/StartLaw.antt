@@ -14,7 +14,8 @@ use Rattle.gimli_units.specs.Honest.{AreHonest}
 use Rattle.gimli_units.specs.CursorMoves.{CursorView, rows_of}
 use Rattle.gimli_units.specs.CursorStart.{before_first, cursor_start}
 use Rattle.gimli_units.specs.TreeMoves.{TreeView, before_root, tree_from}
-use Rattle.gimli_units.proofs.PlaceLaw.{IsHonestCursor, honest_start}
+use Rattle.gimli_units.specs.CursorMoves.{IsHonestCursor}
+use Rattle.gimli_units.proofs.PlaceLaw.{honest_start}
 use Rattle.gimli_units.specs.UnitRows.{start_view, IsHonestAt, IsHonestFrom}
 
 module _ (limit : ℕ) (u : UnitView) (t : Table) where

@@ -18,7 +18,8 @@ use Rattle.gimli_units.specs.CursorMoves.{IsHonestFor}
 use Rattle.gimli_units.proofs.CursorLaw.{StandsIn, unit_view, header_low, entry_law}
 use Rattle.gimli_units.specs.CursorStart.{before_first}
 use Rattle.gimli_units.specs.TreeMoves.{TreeView, HasBegun, HasGoneOn}
-use Rattle.gimli_units.proofs.PlaceLaw.{IsHonestCursor, honest_until, honest_skip, linked_skip}
+use Rattle.gimli_units.specs.CursorMoves.{IsHonestCursor}
+use Rattle.gimli_units.proofs.PlaceLaw.{honest_until, honest_skip, linked_skip}
 use Rattle.gimli_units.proofs.PlaceLaw.{linked_rows, arrived}
 
 module _ (limit : ℕ) where

@@ -6,12 +6,36 @@ use Rattle.gimli_base.specs.declared.common.Encoding.{Encoding}
 use Rattle.gimli_base.specs.declared.width.Width.{Width}
 use Rattle.gimli_base.specs.declared.width.Width.TheVariants.{Fixed, Address, Word, Reference}
 use Rattle.gimli_base.specs.declared.width.Width.TheVariants.{Unknown}
+use Rattle.gimli_base.specs.Reading.{word_size_of}
 use Rattle.gimli_base.specs.Width.{widths, width_in, width_of, size_in, form_size}
 use Rattle.gimli_units.specs.Layout.{Layout, byte, number, section_or, address, uleb, sleb, offset}
 use Rattle.gimli_units.specs.Layout.{word_offset, reference, offset_leb, offset_leb_and, block}
 use Rattle.gimli_units.specs.Layout.{block_leb, text, nothing, constant, forms, layout_in}
 use Rattle.gimli_units.specs.Layout.{layout_of}
-use Rattle.gimli_units.specs.Passing.{size_of, known_size}
+
+-- the number of bytes of a layout, where it does not depend on the bytes
+abbrev pub size_of : Encoding → Layout → Option ℕ
+size_of e (byte f) = Some 1
+size_of e (number n f) = Some n
+size_of e (section_or n f) = Some n
+size_of e (address f) = Some e.address_size
+size_of e (offset n f) = Some n
+size_of e (word_offset f) = Some (word_size_of e.format)
+size_of e (reference f) = Some (if e.version == 2 then e.address_size else word_size_of e.format)
+size_of e (nothing x) = Some 0
+size_of e (constant f) = Some 0
+size_of e (uleb f) = None
+size_of e (sleb f) = None
+size_of e (offset_leb f) = None
+size_of e (offset_leb_and n f) = None
+size_of e (block n f) = None
+size_of e (block_leb f) = None
+size_of e (text f) = None
+
+-- the number of bytes of a form, where it does not depend on the bytes
+unfoldable pub known_size : Encoding → ℕ → Option ℕ
+unfolding layout_of
+known_size e form = elim (layout_of form) [ Some l ↦ size_of e l | None ↦ None ]
 
 -- the width of a layout
 abbrev width_as : Layout → Width

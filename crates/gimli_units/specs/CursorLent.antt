@@ -1,5 +1,5 @@
--- What the steps that lend an entry answer, and what they leave once it is no longer borrowed
--- (DWARF 5, 2.3).
+-- What the steps of a cursor answer, and what those that lend an entry leave once it is no longer
+-- borrowed (DWARF 5, 2.3).
 use Rattle.std.specs.Prelude.{◌≡◌, ℕ, ◌+◌, ◌<◌, ◌≤◌, Bool, true, false, is_some, length, Option}
 use Rattle.std.specs.Prelude.{Some, IfSome, Result, Ok, Err, IfOk, OnErr}
 use Rattle.std.specs.Option.{option_map}

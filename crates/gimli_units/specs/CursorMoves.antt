@@ -14,7 +14,7 @@ use Rattle.gimli_units.specs.Entry.{Entry, entry_of, entry_at, abbreviation_at, 
 use Rattle.gimli_units.specs.Entry.{null_entry, is_null}
 use Rattle.gimli_units.specs.RawPlace.{RawPlace, next_offset_of, depth_after}
 use Rattle.gimli_units.specs.Rows.{Row, Ahead, ahead_at}
-use Rattle.gimli_units.specs.Honest.{usable_target, IsHonest, AreHonestUntil}
+use Rattle.gimli_units.specs.Honest.{usable_target, IsHonest, AreHonest, AreHonestUntil}
 use Rattle.gimli_units.specs.CursorPlace.{Place, Moved, some_of, IsPlaceUntil}
 
 -- A cursor: where its reader stands, the entry that it read last (a null, where there is no current
@@ -77,6 +77,11 @@ pub record IsHonestFor (limit : ℕ) (sought : ℤ) (c : CursorView) : Type 0 wh
   pub current : int_le sought c.depth ≡ true
       → IsHonest c.raw.end (last_row c) (rows_of limit c.raw).rows
   pub ahead : AreHonestUntil c.raw.end sought (rows_of limit c.raw).rows
+
+-- what is asked of a whole walk: the current row is honest, and so are all rows ahead
+pub record IsHonestCursor (limit : ℕ) (c : CursorView) : Type 0 where
+  pub ahead : AreHonest c.raw.end (rows_of limit c.raw).rows
+  pub current : IsHonest c.raw.end (last_row c) (rows_of limit c.raw).rows
 
 -- where the reference of the current entry leads, if it is followed
 abbrev pub followed_to : CursorView → Option ℕ

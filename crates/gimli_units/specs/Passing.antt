@@ -1,6 +1,6 @@
 -- Passing values without reading them (DWARF 5, 7.5.5 and 7.5.6).
-use Rattle.std.specs.Prelude.{◌≡◌, ℕ, ◌+◌, ◌≤◌, ◌==◌, if◌then◌else◌, length, List, [], ◌∷◌, Option}
-use Rattle.std.specs.Prelude.{Some, None, Ok, Err}
+use Rattle.std.specs.Prelude.{◌≡◌, ℕ, ◌+◌, ◌≤◌, ◌==◌, if◌then◌else◌, length, List, [], ◌∷◌, Some}
+use Rattle.std.specs.Prelude.{None, Ok, Err}
 use Rattle.gimli_base.specs.declared.common.Encoding.{Encoding}
 use Rattle.gimli_base.specs.declared.error.Error.{Error}
 use Rattle.gimli_base.specs.declared.error.Error.TheVariants.{UnknownForm, UnexpectedEof}
@@ -12,25 +12,6 @@ use Rattle.gimli_units.specs.Layout.{Layout, byte, number, section_or, address, 
 use Rattle.gimli_units.specs.Layout.{word_offset, reference, offset_leb, offset_leb_and, block}
 use Rattle.gimli_units.specs.Layout.{block_leb, text, nothing, constant, layout_of}
 use Rattle.gimli_units.specs.Form.{uleb_offset_at, form_at}
-
--- the number of bytes of a layout, where it does not depend on the bytes
-abbrev pub size_of : Encoding → Layout → Option ℕ
-size_of e (byte f) = Some 1
-size_of e (number n f) = Some n
-size_of e (section_or n f) = Some n
-size_of e (address f) = Some e.address_size
-size_of e (offset n f) = Some n
-size_of e (word_offset f) = Some (word_size_of e.format)
-size_of e (reference f) = Some (if e.version == 2 then e.address_size else word_size_of e.format)
-size_of e (nothing x) = Some 0
-size_of e (constant f) = Some 0
-size_of e (uleb f) = None
-size_of e (sleb f) = None
-size_of e (offset_leb f) = None
-size_of e (offset_leb_and n f) = None
-size_of e (block n f) = None
-size_of e (block_leb f) = None
-size_of e (text f) = None
 
 -- passes the value in a layout
 abbrev pub pass : ℕ → Encoding → Layout → View → Reads (Unit {0})
@@ -51,11 +32,6 @@ pass limit e (offset_leb_and n f) v = skip_leb_at v >>= λ p. skip_at n p.1
 pass limit e (block n f) v = uint_offset_at limit n v >>= λ p. skip_at p.0 p.1
 pass limit e (block_leb f) v = uleb_offset_at limit v >>= λ p. skip_at p.0 p.1
 pass limit e (text f) v = map_read (λ _. tt) (text_at v)
-
--- the number of bytes of a form, where it does not depend on the bytes
-unfoldable pub known_size : Encoding → ℕ → Option ℕ
-unfolding layout_of
-known_size e form = elim (layout_of form) [ Some l ↦ size_of e l | None ↦ None ]
 
 -- passes the value of a form that is not indirect
 unfoldable pub pass_direct : ℕ → Encoding → ℕ → View → Reads (Unit {0})

@@ -11,7 +11,8 @@ use Rattle.gimli_units.specs.Entry.{is_null}
 use Rattle.gimli_units.specs.RawPlace.{RawPlace, next_offset_of}
 use Rattle.gimli_units.specs.Unit.{UnitView, entries_from, some_entry}
 use Rattle.gimli_units.specs.CursorMoves.{CursorView, next_of, rows_of, takes_memory_at, place_of}
-use Rattle.gimli_units.specs.CursorMoves.{followed_to, IsAheadOf, IsHonestFor, IsTrueEntry}
+use Rattle.gimli_units.specs.CursorMoves.{followed_to, view_from, one_if_left, AreFewReads}
+use Rattle.gimli_units.specs.CursorMoves.{IsAheadOf, IsHonestFor, IsTrueEntry}
 use Rattle.gimli_units.specs.CursorMoves.{IsSameUnit, IsFurther, IsSound}
 use Rattle.gimli_units.specs.CursorPlace.{has_depth, first_of_rows}
 use Rattle.gimli_units.specs.CursorRead.{HasSought, after_refusal}
@@ -146,3 +147,21 @@ pub record HasGoneOn (limit : ℕ) (depth : ℤ) (old : TreeView) (outcome : Res
   pub past : outcome ≡ Ok true → is_null old.cursor.entry ≡ false
       → old.cursor.offset < new.cursor.offset
   pub inside : outcome ≡ Ok true → depth ≤ℤ new.cursor.raw.depth
+
+-- A child was found by a list of children. Whatever the references, it is what decoding at its
+-- offset gives, no null, of the list's depth, and stands after the entry before it; where the rows
+-- are honest, the tree stands on it as the definition says.
+pub record IsChild (limit : ℕ) (is_open : Bool) (depth : ℤ) (old : TreeView) (new : TreeView)
+    : Type 0 where
+  pub true_entry : IsTrueEntry limit old.cursor new.cursor
+  pub no_null : is_null new.cursor.entry ≡ false
+  pub deep : new.cursor.depth ≡ depth
+  pub past : is_null old.cursor.entry ≡ false → old.cursor.offset < new.cursor.offset
+  pub inside : unsigned_abs depth < 2 ^ 63 → IsInside depth new
+  pub place : IsHonestFor limit depth old.cursor
+      → on_node limit new (list_of is_open depth ∷ [])
+      ≡ (to_next old.start.end (in_lists limit old (list_of is_open depth ∷ []))).place
+  pub gone_on : HasGoneOn limit depth old (Ok true) new
+  pub few : AreFewReads old.cursor new.cursor
+  pub one_read : old.cursor.depth ≡ depth → (t : ℕ) → followed_to old.cursor ≡ Some t
+      → new.cursor.reads ≡ old.cursor.reads + one_if_left (view_from old.cursor.raw t)

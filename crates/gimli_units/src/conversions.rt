@@ -11,7 +11,7 @@ use gimli_base::{DebugStr, Expression, Reader, Section};
 
 // A number below twice `half` that stands for one less than `half`, by twice `half` where it is not
 // less.
-fn signed(number: u64, half: u64) -> i64
+fn signed_of(number: u64, half: u64) -> i64
     requires low { 0 < half }
     requires high { half ≤ 2 ^ 63 }
     requires fits { number < 2 * half }
@@ -66,10 +66,10 @@ impl<R: Reader> AttributeValue<R> {
         ensures { result ≡ sdata_of (map_value R.view R.Offset.number self.now) }
     {
         match self {
-            AttributeValue::Data1(data) => Some(signed(u64::from(*data), 0x80)),
-            AttributeValue::Data2(data) => Some(signed(u64::from(*data), 0x8000)),
-            AttributeValue::Data4(data) => Some(signed(u64::from(*data), 0x8000_0000)),
-            AttributeValue::Data8(data) => Some(signed(*data, 0x8000_0000_0000_0000)),
+            AttributeValue::Data1(data) => Some(signed_of(u64::from(*data), 0x80)),
+            AttributeValue::Data2(data) => Some(signed_of(u64::from(*data), 0x8000)),
+            AttributeValue::Data4(data) => Some(signed_of(u64::from(*data), 0x8000_0000)),
+            AttributeValue::Data8(data) => Some(signed_of(*data, 0x8000_0000_0000_0000)),
             AttributeValue::Sdata(data) => Some(*data),
             AttributeValue::Udata(data) => {
                 if *data < 0x8000_0000_0000_0000 {

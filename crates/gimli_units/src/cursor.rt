@@ -90,7 +90,9 @@ impl<'abbrev, R: Reader, A: Allocator> EntriesCursor<'abbrev, R, A> {
         }
     }
 
-    /// The offset of the entry or the null that was read last; 0 before the first step.
+    /// The offset of the entry or the null that was read last, or of what was refused; 0 before the
+    /// first step. A sibling that was sought up to the end of the bytes leaves the offset of the
+    /// entry from which it was sought.
     #[inline]
     pub fn offset(&self) -> UnitOffset<R::Offset>
         ensures { R.Offset.number result.0 ≡ self.now.offset }
@@ -98,7 +100,7 @@ impl<'abbrev, R: Reader, A: Allocator> EntriesCursor<'abbrev, R, A> {
         self.entry.offset
     }
 
-    /// The depth of the entry or the null that was read last; 0 before the first step.
+    /// The depth of what `offset` names; 0 before the first step.
     #[inline]
     pub fn depth(&self) -> isize
         ensures { result ≡ self.now.depth }

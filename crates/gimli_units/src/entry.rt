@@ -142,9 +142,10 @@ impl<R: Reader, A: Allocator> DebuggingInformationEntry<R, A> {
         self.attrs.iter().find(|attr| attr.name() == name)
     }
 
-    // Where the sibling reference leads, if there are children and the first reference is an offset
-    // in the unit.
-    pub(crate) fn sibling(&self) -> Option<UnitOffset<R::Offset>>
+    /// Where the sibling reference leads, as an offset in the unit: none for a null, without
+    /// children, and where the first `DW_AT_sibling` is no reference in the unit. Whether an entry
+    /// begins there is not looked at (DWARF 5, 2.3).
+    pub fn sibling(&self) -> Option<UnitOffset<R::Offset>>
         ensures { option_map (λ o. R.Offset.number o.0) result
             ≡ target (kind_of (entry_of R.view R.Offset.number self.now)) }
     {

@@ -88,7 +88,7 @@ pub(crate) fn uleb128_offset<R: Reader>(input: &mut R) -> Result<R::Offset>
 // The value of a form that is not indirect; where it is refused, the input is left anywhere.
 #[inline(always)]
 #[tactic(auto, unfolding(crate::specs::Form::direct_at, gimli_base::specs::Reading::sized_offset_at))]
-fn direct<R: Reader>(
+fn parse_direct<R: Reader>(
     input: &mut R,
     encoding: Encoding,
     name: DwAt,
@@ -252,7 +252,7 @@ pub(crate) fn parse_value<R: Reader>(
         specification.form.0 (R.view input.old) }
 {
     let form = direct_form(input, specification.form())?;
-    direct(
+    parse_direct(
         input,
         encoding,
         specification.name(),

@@ -24,14 +24,6 @@ use std::alloc::{AllocError, Allocator};
 use std::fmt::Debug;
 use std::ops::{Range, RangeFrom, RangeTo};
 
-/// What stands for a unit in contracts: its fields, at views and numbers.
-pub trait HasUnit {
-    ghost use Rattle.gimli_units.specs.Unit.{UnitView};
-
-    // the unit
-    ghost unit: { Self → UnitView };
-}
-
 /// The header of a unit, with the bytes of its entries (DWARF 5, 7.5.1).
 ///
 /// The unit's whole length fits the reader's offsets, and is no less than the number of the
@@ -73,21 +65,6 @@ impl<R: Reader + Copy, Offset: ReaderOffset> Clone for UnitHeader<R, Offset> {
 }
 
 impl<R: Reader + Copy, Offset: ReaderOffset> Copy for UnitHeader<R, Offset> {}
-
-impl<R: Reader> HasUnit for UnitHeader<R> {
-    ghost unit = { λ u.
-        record {
-          encoding = u.encoding;
-          unit_length = R.Offset.number u.unit_length;
-          kind = map_type R.Offset.number u.unit_type;
-          abbreviations =
-              R.Offset.number u.debug_abbrev_offset.0;
-          section = u.section;
-          offset =
-              R.Offset.number u.unit_offset.0;
-          entries = R.view u.entries_buf;
-        } };
-}
 
 impl<R: Reader> UnitHeader<R> {
     ghost use Rattle.gimli_units.specs.UnitHeld.{unit_view};

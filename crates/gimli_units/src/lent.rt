@@ -21,7 +21,7 @@ impl<'abbrev, R: Reader, A: Allocator> EntriesCursor<'abbrev, R, A> {
         ensures* leaves { let row = the_row (record { mir = named 0; lft = [] }) R.row A.row
             R.Endian.row R.Offset.row R.Endian.Kept.row (record { view = R.view })
             (record { debug_output = R.debug_output })
-            (record { big = R.Endian.big; kept = R.Endian.kept; order = R.Endian.order })
+            (record { big = R.Endian.big; to_kept = R.Endian.to_kept; order = R.Endian.order })
             (record { debug_output = R.Endian.debug_output }) (record { eq = R.Endian.eq })
             (record { number = R.Offset.number; limit = R.Offset.limit })
             (record { debug_output = R.Offset.debug_output }) (record { eq = R.Offset.eq })
@@ -52,7 +52,7 @@ impl<'abbrev, R: Reader, A: Allocator> EntriesCursor<'abbrev, R, A> {
         ensures* leaves { let row = the_row (record { mir = named 0; lft = [] }) R.row A.row
             R.Endian.row R.Offset.row R.Endian.Kept.row (record { view = R.view })
             (record { debug_output = R.debug_output })
-            (record { big = R.Endian.big; kept = R.Endian.kept; order = R.Endian.order })
+            (record { big = R.Endian.big; to_kept = R.Endian.to_kept; order = R.Endian.order })
             (record { debug_output = R.Endian.debug_output }) (record { eq = R.Endian.eq })
             (record { number = R.Offset.number; limit = R.Offset.limit })
             (record { debug_output = R.Offset.debug_output }) (record { eq = R.Offset.eq })

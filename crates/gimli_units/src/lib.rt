@@ -22,7 +22,7 @@ mod value;
 pub use attribute::Attribute;
 pub use cursor::EntriesCursor;
 pub use entry::DebuggingInformationEntry;
-pub use header::{HasUnit, UnitHeader};
+pub use header::UnitHeader;
 pub use offset::{DebugInfoOffset, DebugTypesOffset, UnitOffset, UnitSectionOffset};
 pub use raw::EntriesRaw;
 pub use tree::{EntriesTree, EntriesTreeIter, EntriesTreeNode};

@@ -10,14 +10,13 @@ ghost use Rattle.gimli_base.specs.Offset.{answer_of};
 ghost use Rattle.gimli_base.specs.Reading.{UnlessMemory};
 ghost use Rattle.gimli_units.specs.Entry.{entry_of, is_null};
 ghost use Rattle.gimli_units.specs.CursorPlace.{first_of_rows};
-ghost use Rattle.gimli_units.specs.CursorMoves.{CursorView, rows_of, rows_from, view_from};
-ghost use Rattle.gimli_units.specs.CursorMoves.{followed_to, one_if_left, IsHonestFor, IsTrueEntry};
-ghost use Rattle.gimli_units.specs.CursorMoves.{IsRefused, IsOver, AreFewReads};
+ghost use Rattle.gimli_units.specs.CursorMoves.{CursorView, rows_of, rows_from};
+ghost use Rattle.gimli_units.specs.CursorMoves.{followed_to, IsHonestFor, IsRefused, IsOver};
 ghost use Rattle.gimli_units.specs.TreePlace.{children_of, to_root, to_next, found_in};
 ghost use Rattle.gimli_units.specs.TreeMoves.{TreeView, node_at, list_of, on_node, in_lists};
 ghost use Rattle.gimli_units.specs.TreeMoves.{before_root, tree_from, told_root, told_next, IsTree};
 ghost use Rattle.gimli_units.specs.TreeMoves.{IsNoRoot, HasBegun, IsRefusedWithin, HasGoneOn};
-ghost use Rattle.gimli_units.specs.TreeMoves.{IsInside};
+ghost use Rattle.gimli_units.specs.TreeMoves.{IsInside, IsChild};
 ghost use Rattle.gimli_units.specs.UnitHeld.{unit_view};
 
 use crate::{DebuggingInformationEntry, EntriesCursor, EntriesRaw, UnitHeader, UnitOffset};
@@ -336,62 +335,28 @@ impl<'abbrev, 'tree, R: Reader, A: Allocator> EntriesTreeIter<'abbrev, 'tree, R,
     /// Refusals: those of `EntriesRaw::read_entry`. Every list of the tree is then at its end,
     /// until `root` is asked for.
     pub fn next<'me>(&'me mut self) -> Result<Option<EntriesTreeNode<'abbrev, 'me, R, A>>>
-        ensures answers { unsigned_abs self.old.depth < 2 ^ 63
-            → IsHonestFor R.Offset.limit self.old.depth self.old.tree.now.cursor
+        ensures answers { let tree = self.old.tree.now in
+            let lists = list_of self.old.is_open self.old.depth ∷ [] in
+            unsigned_abs self.old.depth < 2 ^ 63
+            → IsHonestFor R.Offset.limit self.old.depth tree.cursor
             → UnlessMemory result
             (told_next (answer_of (option_map (λ node. node.tree.now)) result)
-            ≡ (to_next self.old.tree.now.start.end
-            (in_lists R.Offset.limit self.old.tree.now
-            (list_of self.old.is_open self.old.depth ∷ []))).told) }
-        ensures place { IsHonestFor R.Offset.limit self.old.depth self.old.tree.now.cursor
-            → IfOk result
-            (λ o.
-            IfSome o
-            (λ node. on_node R.Offset.limit node.tree.now
-            (list_of self.old.is_open self.old.depth ∷ [])
-            ≡ (to_next self.old.tree.now.start.end
-            (in_lists R.Offset.limit self.old.tree.now
-            (list_of self.old.is_open self.old.depth ∷ []))).place)) }
-        ensures true_child { IfOk result
-            (λ o.
-            IfSome o
-            (λ node. IsTrueEntry R.Offset.limit self.old.tree.now.cursor node.tree.now.cursor
-            × (is_null node.tree.now.cursor.entry ≡ false)
-            × (node.tree.now.cursor.depth ≡ self.old.depth))) }
-        ensures refused { IfErr result
-            (λ e. (last : CursorView) × IsRefused R.Offset.limit self.old.tree.now.cursor e last
-            × IsRefusedWithin R.Offset.limit self.old.depth self.old.tree.now.cursor last) }
-        ensures taken { unsigned_abs self.old.depth < 2 ^ 63 → self.old.is_open ≡ true
-            → self.old.tree.now.cursor.depth ≡ self.old.depth → (t : ℕ)
-            → followed_to self.old.tree.now.cursor ≡ Some t
+            ≡ (to_next tree.start.end (in_lists R.Offset.limit tree lists)).told) }
+        ensures child { let is_child =
+            IsChild R.Offset.limit self.old.is_open self.old.depth self.old.tree.now in
+            IfOk result (λ o. IfSome o (λ node. is_child node.tree.now)) }
+        ensures refused { let cursor = self.old.tree.now.cursor in
+            IfErr result
+            (λ e. (last : CursorView) × IsRefused R.Offset.limit cursor e last
+            × IsRefusedWithin R.Offset.limit self.old.depth cursor last) }
+        ensures taken { let cursor = self.old.tree.now.cursor in let depth = self.old.depth in
+            unsigned_abs depth < 2 ^ 63 → self.old.is_open ≡ true → cursor.depth ≡ depth
+            → (t : ℕ) → followed_to cursor ≡ Some t
             → UnlessMemory result
             (told_next (answer_of (option_map (λ node. node.tree.now)) result)
-            ≡ (found_in self.old.depth []
-            (first_of_rows self.old.tree.now.cursor.raw.end self.old.depth
-            self.old.tree.now.cursor.offset
-            (rows_from R.Offset.limit self.old.tree.now.cursor.raw t self.old.depth))).told) }
-        ensures past { IfOk result
-            (λ o.
-            IfSome o
-            (λ node. is_null self.old.tree.now.cursor.entry ≡ false
-            → self.old.tree.now.cursor.offset < node.tree.now.cursor.offset)) }
-        ensures one_read { self.old.tree.now.cursor.depth ≡ self.old.depth → (t : ℕ)
-            → followed_to self.old.tree.now.cursor ≡ Some t
-            → IfOk result
-            (λ o.
-            IfSome o
-            (λ node. node.tree.now.cursor.reads
-            ≡ self.old.tree.now.cursor.reads
-            + one_if_left (view_from self.old.tree.now.cursor.raw t))) }
-        ensures few { IfOk result
-            (λ o. IfSome o (λ node. AreFewReads self.old.tree.now.cursor node.tree.now.cursor)) }
-        ensures gone_on { IfOk result
-            (λ o.
-            IfSome o
-            (λ node. HasGoneOn R.Offset.limit self.old.depth self.old.tree.now (Ok true)
-            node.tree.now)) }
-        ensures inside { unsigned_abs self.old.depth < 2 ^ 63
-            → IfOk result (λ o. IfSome o (λ node. IsInside self.old.depth node.tree.now)) }
+            ≡ (found_in depth []
+            (first_of_rows cursor.raw.end depth cursor.offset
+            (rows_from R.Offset.limit cursor.raw t depth))).told) }
         ensures as_advance { let gone_on =
             HasGoneOn R.Offset.limit self.old.depth self.old.tree.now in
             self.old.is_open ≡ true → unsigned_abs self.old.depth < 2 ^ 63

@@ -88,7 +88,7 @@ impl<'abbrev, R: Reader, A: Allocator> EntriesTreeWalker<'abbrev, R, A> {
     }
 
     /// How many lists were entered and not left.
-    pub fn entered(&self) -> usize
+    pub fn list_count(&self) -> usize
         ensures { result ≡ length self.now.lists }
     {
         self.lists.len()
@@ -155,8 +155,8 @@ impl<'abbrev, R: Reader, A: Allocator> EntriesTreeWalker<'abbrev, R, A> {
     ///
     /// An entry whose `DW_AT_sibling` leads on in the unit is left for where it leads, with what is
     /// below it unread. So the nodes are those of plain walking where these references are honest;
-    /// where they are not, a node is still an entry of the unit, of the list's depth, past the one
-    /// before.
+    /// where they are not, a node is still what decoding at its offset gives, told with the list's
+    /// depth.
     ///
     /// Refusals: those of `EntriesRaw::read_entry`. Every list is then at its end, until `root` is
     /// asked for.

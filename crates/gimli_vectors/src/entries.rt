@@ -1,7 +1,8 @@
 //! Entries of units.
 
 use crate::attributes::{Raw, parse_code};
-use crate::headers::{offset_at, offset_of, unit_of};
+use crate::shown::tell_unless;
+use crate::units::unit_of;
 use crate::values::{write_parts, write_value};
 use gimli_base::{Abbreviations, DebugAbbrev, DwAt, Reader, ReaderOffset};
 use gimli_units::{DebuggingInformationEntry, UnitHeader, UnitOffset};
@@ -21,28 +22,20 @@ pub(crate) fn table_of<R: Reader>(
 }
 
 /// Writes the offset and the depth of what is read next.
-pub(crate) fn write_place<R: Reader>(raw: &Raw<'_, R>, out: &mut Vec<u8>) -> Outcome {
+pub(crate) fn write_next<R: Reader>(raw: &Raw<'_, R>, out: &mut Vec<u8>) -> Outcome {
     let next = raw.next_offset().0.into_u64();
-    let depth = raw.next_depth();
-    Ok(writeln!(out, " next {next} {depth}")?)
+    Ok(writeln!(out, " next {next} {}", raw.next_depth())?)
 }
 
-/// Writes a tag, with `+` where children follow.
-pub(crate) fn write_tag(tag: u16, has_children: bool, out: &mut Vec<u8>) -> Outcome {
-    let children = if has_children { "+" } else { "" };
-    Ok(write!(out, "{tag:x}{children}")?)
-}
-
-// Writes an entry: offset, depth, tag and attributes, or `null`.
+// Writes an entry: offset, depth, tag, with `+` where children follow, and attributes; or `null`.
 fn write_shown<R: Reader>(entry: &Entry<R>, out: &mut Vec<u8>) -> Outcome {
-    let offset = entry.offset().0.into_u64();
-    let depth = entry.depth();
-    write!(out, "{offset} {depth} ")?;
+    write!(out, "{} {} ", entry.offset().0.into_u64(), entry.depth())?;
     if entry.is_null() {
         write!(out, "null")?;
     }
     if !entry.is_null() || entry.has_children() {
-        write_tag(entry.tag().0, entry.has_children(), out)?;
+        let children = if entry.has_children() { "+" } else { "" };
+        write!(out, "{:x}{children}", entry.tag().0)?;
     }
     for attribute in entry.attrs() {
         write!(out, " ")?;
@@ -55,7 +48,7 @@ fn write_shown<R: Reader>(entry: &Entry<R>, out: &mut Vec<u8>) -> Outcome {
 /// that is refused, and that twice.
 pub(crate) fn write_entries<R: Reader>(call: &Call<'_, R>, out: &mut Vec<u8>) -> Outcome {
     let unit = unit_of(call)?;
-    let offset = offset_of(call, 3)?;
+    let offset = call.offset(3)?;
     let table = table_of(call, &unit)?;
     let mut raw = unit.entries_raw(&table, offset.map(UnitOffset))?;
     let mut entry = DebuggingInformationEntry::null(call.alloc);
@@ -77,21 +70,20 @@ fn write_next_entry<R: Reader>(
     let answer = raw.read_entry(entry);
     write_shown(entry, out)?;
     match answer {
-        Ok(found) if found == entry.is_null() => write!(out, " but {found}")?,
-        Ok(_) => {}
+        Ok(found) => tell_unless(found != entry.is_null(), "another kind", out)?,
         Err(error) => {
             write!(out, " ")?;
             write_refusal(out, error)?;
         }
     }
-    write_place(raw, out)?;
+    write_next(raw, out)?;
     Ok(answer.is_ok())
 }
 
 /// Writes the entry at an offset of a unit.
 pub(crate) fn write_entry<R: Reader>(call: &Call<'_, R>, out: &mut Vec<u8>) -> Outcome {
     let unit = unit_of(call)?;
-    let offset = UnitOffset(offset_at(call, 3)?);
+    let offset = UnitOffset(call.offset_or_zero(3)?);
     let table = table_of(call, &unit)?;
     let entry = unit.entry(call.alloc, &table, offset)?;
     write_shown(&entry, out)

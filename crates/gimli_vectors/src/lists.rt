@@ -1,100 +1,98 @@
-//! Attributes that are read or passed together.
+//! Range lists and location lists: their entries as they are written, and the ranges or locations.
 
-use crate::attributes::{Input, Raw, parse_code, read_by, specification, write_next, write_passed};
-use crate::values::{write_parts, write_value};
-use gimli_base::{AttributeSpecification, Reader, ReaderOffset};
-use std::alloc::Global;
+use crate::items::write_items;
+use crate::sections::{location_lists, range_lists};
+use gimli_base::{DebugAddr, DebugAddrBase, LocationListsOffset, RangeListsOffset, Reader};
+use gimli_lists::{LocListIter, LocationLists, RangeLists, RngListIter};
 use std::io::Write;
-use test_tables::{Call, Outcome, Stop, write_refusal};
+use test_tables::{Call, Outcome};
 
-// The declaration of a word `NAME:FORM`.
-fn parse_pair(word: &str) -> Option<AttributeSpecification> {
-    let (name, form) = word.split_once(":")?;
-    specification(parse_code(name)?, parse_code(form)?, "-")
-}
-
-// The declarations of words.
-fn parse_pairs(alloc: Global, words: &[String]) -> Option<Vec<AttributeSpecification>> {
-    let mut pairs = Vec::new(alloc);
-    for word in words {
-        pairs.push(parse_pair(word)?).ok()?;
+// The sections of lists before version 5 and from it on: the first section of the case is that of the
+// version, and the other is empty.
+fn old_and_new<R: Reader>(call: &Call<'_, R>) -> Outcome<(R, R)> {
+    let section = call.section(0)?;
+    let mut none = section.copy();
+    none.empty();
+    if call.encoding(1)?.version <= 4 {
+        Ok((section, none))
+    } else {
+        Ok((none, section))
     }
-    Some(pairs)
 }
 
-// Declarations up to a word `then`, and those after it.
-type Pairs = (Vec<AttributeSpecification>, Vec<AttributeSpecification>);
+// The offset of a list, which is the last word.
+fn offset_of<R: Reader>(call: &Call<'_, R>) -> Outcome<R::Offset> {
+    call.offset_or_zero(call.case.words.len().saturating_sub(1))
+}
 
-// The declarations of the words after the encoding.
-fn pairs_of(alloc: Global, words: &[String]) -> Option<Pairs> {
-    let words = words.get(4..)?;
-    match words.iter().position(|word| word.as_str() == "then") {
-        Some(index) => {
-            let first = parse_pairs(alloc, words.get(..index)?)?;
-            let then = parse_pairs(alloc, words.get(index.checked_add(1)?..)?)?;
-            Some((first, then))
+// The addresses, and the offset at which their table begins.
+fn addresses_of<R: Reader>(
+    call: &Call<'_, R>,
+) -> Outcome<(DebugAddr<R>, DebugAddrBase<R::Offset>)> {
+    let base = DebugAddrBase(call.offset_or_zero(5)?);
+    Ok((DebugAddr::from(call.section(1)?), base))
+}
+
+/// Writes the entries of a range list as they are written, and its ranges, each with the refusals where they
+/// come; or the entries alone, where the words do not say how addresses are read.
+pub(crate) fn write_ranges<R: Reader>(call: &Call<'_, R>, out: &mut Vec<u8>) -> Outcome {
+    let (old, new) = old_and_new(call)?;
+    let lists = range_lists(old, new);
+    let raw = lists.raw_ranges(RangeListsOffset(offset_of(call)?), call.encoding(1)?)?;
+    write_items("raw", raw, out)?;
+    if call.case.words.len() > 5 {
+        write_items("\nranges", ranges_of(call, &lists)?, out)?;
+    }
+    Ok(())
+}
+
+// The ranges of a list.
+fn ranges_of<R: Reader>(call: &Call<'_, R>, lists: &RangeLists<R>) -> Outcome<RngListIter<R>> {
+    let (encoding, base) = (call.sized_encoding(1)?, call.number(4)?);
+    let (addr, addr_base) = addresses_of(call)?;
+    let offset = RangeListsOffset(offset_of(call)?);
+    Ok(lists.ranges(offset, encoding, base, &addr, addr_base)?)
+}
+
+/// Writes how many ranges and how many refusals a range list answers.
+pub(crate) fn write_range_count<R: Reader>(call: &Call<'_, R>, out: &mut Vec<u8>) -> Outcome {
+    let (old, new) = old_and_new(call)?;
+    let (mut count, mut refused) = (0u64, 0u64);
+    for answer in ranges_of(call, &range_lists(old, new))? {
+        match answer {
+            Ok(_) => count = count.saturating_add(1),
+            Err(_) => refused = refused.saturating_add(1),
         }
-        None => Some((parse_pairs(alloc, words)?, Vec::new(alloc))),
     }
+    Ok(write!(out, "{count} ranges, {refused} refusals")?)
 }
 
-/// Writes what passing attributes together answers, and after `then` what reading others does, one after
-/// the other.
-pub(crate) fn write_passed_list<R: Reader>(call: &Call<'_, R>, out: &mut Vec<u8>) -> Outcome {
-    let input = Input::new(call, 1)?;
-    let Some((passed, then)) = pairs_of(call.alloc, &call.case.words) else {
-        return Err(Stop::Lacks("no case"));
+/// Writes the same of a location list as of a range list; `_dwo` is for that of a split file.
+pub(crate) fn write_locations<R: Reader>(call: &Call<'_, R>, out: &mut Vec<u8>) -> Outcome {
+    let (old, new) = old_and_new(call)?;
+    let lists = location_lists(old, new);
+    let (offset, encoding) = (LocationListsOffset(offset_of(call)?), call.encoding(1)?);
+    let raw = match call.name() {
+        "locations" => lists.raw_locations(offset, encoding)?,
+        _ => lists.raw_locations_dwo(offset, encoding)?,
     };
-    let mut raw = input.raw();
-    write_passed(&mut raw, &input.reader, &passed, out)?;
-    if then.is_empty() {
-        return Ok(());
+    write_items("raw", raw, out)?;
+    if call.case.words.len() > 5 {
+        write_items("\nlocations", locations_of(call, &lists)?, out)?;
     }
-    for specification in &then {
-        write_step(&mut raw, *specification, out)?;
-    }
-    let rest = if raw.is_empty() { "end" } else { "more" };
-    let depth = raw.next_depth();
-    Ok(write!(out, "{rest} depth {depth}")?)
+    Ok(())
 }
 
-// Writes what reading an attribute answers, by one call of a copy and by the other.
-fn write_step<R: Reader>(
-    raw: &mut Raw<'_, R>,
-    specification: AttributeSpecification,
-    out: &mut Vec<u8>,
-) -> Outcome {
-    let other = read_by(&mut raw.copy(), specification, false);
-    let answer = read_by(raw, specification, true);
-    match (answer, other) {
-        (Ok(attribute), Ok(_)) => write_value(&attribute.raw_value(), out)?,
-        (Err(error), Err(_)) => write_refusal(out, error)?,
-        _ => write!(out, "not the same")?,
-    }
-    write_next(raw, out)
-}
-
-/// Writes what reading attributes together answers, in place of one that was there, and then all that are
-/// there.
-pub(crate) fn write_list<R: Reader>(call: &Call<'_, R>, out: &mut Vec<u8>) -> Outcome {
-    let input = Input::new(call, 1)?;
-    let (Some((pairs, _)), Some(before)) = (
-        pairs_of(call.alloc, &call.case.words),
-        specification(1, 0x19, "-"),
-    ) else {
-        return Err(Stop::Lacks("no case"));
-    };
-    let mut raw = input.raw();
-    let mut attributes = Vec::new(call.alloc);
-    raw.read_attributes(&[before], &mut attributes)?;
-    if let Err(error) = raw.read_attributes(&pairs, &mut attributes) {
-        write_refusal(out, error)?;
-        write!(out, " ")?;
-    }
-    for attribute in &attributes {
-        write_parts(attribute, out)?;
-        writeln!(out)?;
-    }
-    let next = raw.next_offset().0.into_u64();
-    Ok(writeln!(out, "next {next}")?)
+// The locations of a list.
+fn locations_of<R: Reader>(
+    call: &Call<'_, R>,
+    lists: &LocationLists<R>,
+) -> Outcome<LocListIter<R>> {
+    let (encoding, base) = (call.sized_encoding(1)?, call.number(4)?);
+    let (addr, addr_base) = addresses_of(call)?;
+    let offset = LocationListsOffset(offset_of(call)?);
+    Ok(match call.name() {
+        "locations" => lists.locations(offset, encoding, base, &addr, addr_base)?,
+        _ => lists.locations_dwo(offset, encoding, base, &addr, addr_base)?,
+    })
 }

@@ -1,83 +1,77 @@
-//! Conversions of offsets.
+//! Offsets of units: the bytes between them, and what they are in sections.
 
-use crate::headers::{offset_at, unit_of, write_offset};
+use crate::units::unit_of;
 use gimli_base::{Reader, ReaderOffset};
-use gimli_units::{DebugInfoOffset, DebugTypesOffset, UnitHeader, UnitOffset, UnitSectionOffset};
+use gimli_units::{DebugInfoOffset, DebugTypesOffset, UnitOffset, UnitSectionOffset};
 use std::io::Write;
-use test_tables::{Call, Outcome};
+use test_tables::{Call, Outcome, Stop, hex_of};
 
-/// Writes what an offset of a section is in a unit and in its section.
+/// Writes the bytes of a unit between two offsets, from one on, or up to one.
+pub(crate) fn write_range<R: Reader>(call: &Call<'_, R>, out: &mut Vec<u8>) -> Outcome {
+    let unit = unit_of(call)?;
+    let range = match (call.offset(3)?, call.offset(4)?) {
+        (Some(start), Some(end)) if start.into_u64() <= end.into_u64() => {
+            unit.range(UnitOffset(start)..UnitOffset(end))?
+        }
+        (Some(start), None) => unit.range_from(UnitOffset(start)..)?,
+        (None, Some(end)) => unit.range_to(..UnitOffset(end))?,
+        _ => return Err(Stop::Lacks("no range")),
+    };
+    hex_of(out, &range, ":")
+}
+
+// Writes offsets after a name, with `-` for none.
+fn write_offsets(name: &str, offsets: &[Option<u64>], out: &mut Vec<u8>) -> Outcome {
+    write!(out, "{name}")?;
+    for offset in offsets {
+        match offset {
+            Some(offset) => write!(out, " {offset}")?,
+            None => write!(out, " -")?,
+        }
+    }
+    Ok(())
+}
+
+/// Writes what an offset of `.debug_info`, of `.debug_types` and of the unit's section is in the unit; and what
+/// one of either section is in the unit's section, and the other way round.
 pub(crate) fn write_section_offset<R: Reader>(call: &Call<'_, R>, out: &mut Vec<u8>) -> Outcome {
     let unit = unit_of(call)?;
-    let offset = offset_at(call, 3)?;
-    write_in_unit(&unit, offset, out)?;
-    write_in_section(&unit, offset, out)
+    let offset = call.offset_or_zero(3)?;
+    let (info, types) = (DebugInfoOffset(offset), DebugTypesOffset(offset));
+    let own = UnitSectionOffset(offset);
+    let in_unit = own.to_unit_offset(&unit).map(|at| at.0.into_u64());
+    let info_in_unit = info.to_unit_offset(&unit).map(|at| at.0.into_u64());
+    let types_in_unit = types.to_unit_offset(&unit).map(|at| at.0.into_u64());
+    write_offsets("unit", &[info_in_unit, types_in_unit, in_unit], out)?;
+    let here = info.to_unit_section_offset(&unit).map(|at| at.0.into_u64());
+    let back = own.to_debug_info_offset(&unit).map(|at| at.0.into_u64());
+    write_offsets("\ninfo", &[here, back], out)?;
+    let here = types
+        .to_unit_section_offset(&unit)
+        .map(|at| at.0.into_u64());
+    let back = own.to_debug_types_offset(&unit).map(|at| at.0.into_u64());
+    write_offsets(" types", &[here, back], out)
 }
 
-// Writes the offset in the unit of an offset of `.debug_info`, of one of `.debug_types`, and of one of the
-// unit's section.
-fn write_in_unit<R: Reader>(unit: &UnitHeader<R>, offset: R::Offset, out: &mut Vec<u8>) -> Outcome {
-    let info = DebugInfoOffset(offset).to_unit_offset(unit);
-    let types = DebugTypesOffset(offset).to_unit_offset(unit);
-    let own = UnitSectionOffset(offset).to_unit_offset(unit);
-    write!(out, "unit")?;
-    write_offset(info.map(|found| found.0.into_u64()), out)?;
-    write_offset(types.map(|found| found.0.into_u64()), out)?;
-    write_offset(own.map(|found| found.0.into_u64()), out)?;
-    Ok(writeln!(out)?)
-}
-
-// Writes an offset of `.debug_info` as one of the unit's section and the other way round, and the same of
-// `.debug_types`.
-fn write_in_section<R: Reader>(
-    unit: &UnitHeader<R>,
-    offset: R::Offset,
-    out: &mut Vec<u8>,
-) -> Outcome {
-    let info = DebugInfoOffset(offset).to_unit_section_offset(unit);
-    let to_info = UnitSectionOffset(offset).to_debug_info_offset(unit);
-    write!(out, "info")?;
-    write_offset(info.map(|found| found.0.into_u64()), out)?;
-    write_offset(to_info.map(|found| found.0.into_u64()), out)?;
-    let types = DebugTypesOffset(offset).to_unit_section_offset(unit);
-    let to_types = UnitSectionOffset(offset).to_debug_types_offset(unit);
-    write!(out, " types")?;
-    write_offset(types.map(|found| found.0.into_u64()), out)?;
-    write_offset(to_types.map(|found| found.0.into_u64()), out)
-}
-
-/// Writes what an offset of a unit is in its section, and the way back: each with what it leads back to, if
-/// the sum fits.
+/// Writes what an offset of a unit is in its section, in `.debug_info` and in `.debug_types`: each with what it
+/// leads back to, if the sum fits.
 pub(crate) fn write_unit_offset<R: Reader>(call: &Call<'_, R>, out: &mut Vec<u8>) -> Outcome {
     let unit = unit_of(call)?;
-    let offset = UnitOffset(offset_at(call, 3)?);
-    let bounds = if offset.is_in_bounds(&unit) {
-        "in"
-    } else {
-        "out"
-    };
-    write!(out, "{bounds}")?;
+    let offset = UnitOffset(call.offset_or_zero(3)?);
+    let is_in = offset.is_in_bounds(&unit);
+    write!(out, "{}", if is_in { "in" } else { "out" })?;
     if unit.offset().0.checked_add(offset.0).is_none() {
         return Ok(write!(out, " no sum")?);
     }
     let own = offset.to_unit_section_offset(&unit);
-    write_both("section", Some(own.0), own.to_unit_offset(&unit), out)?;
+    let back = own.to_unit_offset(&unit).map(|at| at.0.into_u64());
+    write_offsets(" section", &[Some(own.0.into_u64()), back], out)?;
     let info = offset.to_debug_info_offset(&unit);
     let back = info.and_then(|found| found.to_unit_offset(&unit));
-    write_both("info", info.map(|found| found.0), back, out)?;
+    let back = back.map(|at| at.0.into_u64());
+    write_offsets(" info", &[info.map(|at| at.0.into_u64()), back], out)?;
     let types = offset.to_debug_types_offset(&unit);
     let back = types.and_then(|found| found.to_unit_offset(&unit));
-    write_both("types", types.map(|found| found.0), back, out)
-}
-
-// Writes an offset, and the offset of the unit that it leads back to.
-fn write_both<Offset: ReaderOffset>(
-    name: &str,
-    offset: Option<Offset>,
-    back: Option<UnitOffset<Offset>>,
-    out: &mut Vec<u8>,
-) -> Outcome {
-    write!(out, " {name}")?;
-    write_offset(offset.map(|offset| offset.into_u64()), out)?;
-    write_offset(back.map(|back| back.0.into_u64()), out)
+    let back = back.map(|at| at.0.into_u64());
+    write_offsets(" types", &[types.map(|at| at.0.into_u64()), back], out)
 }

@@ -16,7 +16,8 @@ use Rattle.gimli_units.specs.CursorStart.{before_first, raw_start, cursor_start}
 use Rattle.gimli_units.specs.CursorPlace.{Place, Moved, some_of, next_offset}
 use Rattle.gimli_units.specs.CursorMoves.{CursorView, rows_of, place_of, Goes}
 use Rattle.gimli_units.proofs.CursorLaw.{StandsIn, start_stands}
-use Rattle.gimli_units.proofs.PlaceLaw.{IsHonestCursor, honest_start, offset_is, depth_is}
+use Rattle.gimli_units.specs.CursorMoves.{IsHonestCursor}
+use Rattle.gimli_units.proofs.PlaceLaw.{honest_start, offset_is, depth_is}
 use Rattle.gimli_units.proofs.PlaceLaw.{honest_for, honest_next, honest_dfs, honest_sibling}
 use Rattle.gimli_walk.specs.declared.cursor.CursorStep.{CursorStep}
 use Rattle.gimli_walk.specs.declared.cursor.CursorStep.TheVariants.{NextEntry, NextDfs, NextSibling}

@@ -10,6 +10,7 @@ pub mod Found
 pub mod Roots
 pub mod RowLines
 mod RowText
+mod RunSteps
 pub mod StoppedLines
 pub mod Telling
 pub mod TreeLines

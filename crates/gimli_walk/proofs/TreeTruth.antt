@@ -6,7 +6,7 @@ use Rattle.gimli_units.specs.RawPlace.{RawPlace}
 use Rattle.gimli_units.specs.Rows.{Ahead}
 use Rattle.gimli_units.specs.Honest.{AreHonest}
 use Rattle.gimli_units.specs.CursorMoves.{rows_of, IsHonestFor}
-use Rattle.gimli_units.proofs.PlaceLaw.{IsHonestCursor}
+use Rattle.gimli_units.specs.CursorMoves.{IsHonestCursor}
 use Rattle.gimli_units.proofs.TreeLaw.{honest_at, honest_sought, honest_first}
 use Rattle.gimli_units.specs.TreePlace.{Lists, TreePlace, Told, list_end, has_entered, has_left}
 use Rattle.gimli_units.specs.TreePlace.{no_node, children_of, TreeMoved, to_next, to_enter}

@@ -1,5 +1,5 @@
 -- The text of a walk over the first unit of `.debug_info`, as a function of the bytes of two
--- sections.
+-- sections (DWARF 5, 7.5).
 use Rattle.std.specs.Prelude.{◌≡◌, ℕ, ◌<◌, ◌^◌, ◌==◌, if◌then◌else◌, Bool, true, false, pos, List}
 use Rattle.std.specs.Prelude.{[], ◌∷◌, ◌++◌, map, take, length, Option, Some, None, Result, Ok, Err}
 use Rattle.std.specs.List.{concat}

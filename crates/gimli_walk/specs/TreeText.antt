@@ -1,4 +1,4 @@
--- What the text of a tree's walk is, whatever the references.
+-- What the text of a tree's walk says, whatever the references (DWARF 5, 2.3).
 use Rattle.std.specs.Prelude.{◌≡◌, ℕ, Bool, List, length, Option, None, Err}
 use Rattle.std.specs.Io.KnownBytes.{Appends}
 use Rattle.gimli_base.specs.declared.error.Error.{Error}

@@ -52,9 +52,9 @@ pub struct CursorAnswer<R, A: Allocator, Offset = <R as Reader>::Offset> {
     pub outcome: Result<bool>,
     /// The current entry.
     pub current: Option<DebuggingInformationEntry<R, A, Offset>>,
-    /// The offset of the entry or null that was read last.
+    /// What `EntriesCursor::offset` gives.
     pub offset: UnitOffset<Offset>,
-    /// The depth of the entry or null that was read last.
+    /// What `EntriesCursor::depth` gives.
     pub depth: isize,
     /// The offset of what is read next.
     pub next_offset: UnitOffset<Offset>,

@@ -137,7 +137,7 @@ fn turn_next<R: Reader, A: Allocator, S: TreeSink<R, A>>(
     ensures kept { result ≡ Err Memory → S.has_told sink.old [] sink.new }
     ensures fault { result ≡ Err WriteStop → S.writes ≡ true }
 {
-    if walker.entered() == 0 {
+    if walker.list_count() == 0 {
         return sink.tell(Word::NoNode);
     }
     match walker.next() {

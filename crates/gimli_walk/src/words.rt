@@ -174,7 +174,7 @@ fn walk_files<A: Allocator + Copy, F: FnMut(&str) -> Option<Vec<u8>>, W: Write, 
         return cannot_read(err, abbrev);
     };
     let status = walk_text(alloc, mode, &info_bytes, &abbrev_bytes, out).unwrap_or(3);
-    flushed(status, out)
+    flush_status(status, out)
 }
 
 // Writes all units of two files.
@@ -199,7 +199,7 @@ fn dump_files<A: Allocator + Copy, F: FnMut(&str) -> Option<Vec<u8>>, W: Write, 
         return cannot_read(err, abbrev);
     };
     let status = dump_text(alloc, &info_bytes, &abbrev_bytes, out).unwrap_or(3);
-    flushed(status, out)
+    flush_status(status, out)
 }
 
 // Seeks the unit of an address in a file.
@@ -224,11 +224,11 @@ fn find_file<F: FnMut(&str) -> Option<Vec<u8>>, W: Write, E: Write>(
         return cannot_read(err, aranges);
     };
     let status = find_text(address, &bytes, out).unwrap_or(3);
-    flushed(status, out)
+    flush_status(status, out)
 }
 
 // The status of what was written, once all of it is out.
-fn flushed<W: Write>(status: u8, out: &mut W) -> u8
+fn flush_status<W: Write>(status: u8, out: &mut W) -> u8
     ensures { (result ≡ 3) ⊎ ((result ≡ status) × Keeps (W.contents out.old) (W.contents out.new)) }
 {
     if out.flush().is_err() { 3 } else { status }

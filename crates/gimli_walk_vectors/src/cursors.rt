@@ -1,13 +1,13 @@
 //! The answers of cursors.
 
-use crate::runs::{write_another, write_stop};
-use crate::units::{first_unit, parse_steps, write_status};
-use gimli_base::{Reader, ReaderOffset, Result};
-use gimli_units::{DebuggingInformationEntry, EntriesCursor, UnitOffset};
+use crate::runs::{run_of, write_both};
+use crate::texts::write_status;
+use gimli_base::Reader;
+use gimli_units::{EntriesCursor, UnitOffset};
 use gimli_walk::{CursorAnswer, Run, run_cursor, run_cursor_plain};
 use std::alloc::Global;
 use std::io::Write;
-use test_tables::{Call, Outcome, Place, Stop, take_step, write_counted, write_outcome};
+use test_tables::{Call, Outcome, Place, first_unit, steps_at, take_step, write_stop};
 
 type Cursor<'table, R> = EntriesCursor<'table, R, Global>;
 
@@ -20,7 +20,7 @@ pub(crate) fn write_cursor<R: Reader>(call: &Call<'_, R>, out: &mut Vec<u8>) -> 
 
 // Writes a line for each step, and answers whether one was refused.
 fn walk<R: Reader>(call: &Call<'_, R>, out: &mut Vec<u8>) -> Outcome<bool> {
-    let (unit, table) = first_unit(call)?;
+    let (unit, table) = first_unit(call, call.alloc)?;
     let mut cursor = match call.name() {
         "cursor" => unit.entries(call.alloc, &table),
         _ => unit.entries_plain(call.alloc, &table),
@@ -56,11 +56,9 @@ fn write_text_line<R: Reader>(cursor: &Cursor<'_, R>, out: &mut Vec<u8>) -> Outc
 /// Writes where a cursor stands at a start, and what it shows after each step; and what the run over the
 /// same steps holds, where that is another.
 pub(crate) fn write_cursor_at<R: Reader>(call: &Call<'_, R>, out: &mut Vec<u8>) -> Outcome {
-    let (unit, table) = first_unit(call)?;
-    let (alloc, letters) = (call.alloc, call.case.word(2).unwrap_or(""));
-    let steps = parse_steps(alloc, letters)?;
+    let (unit, table) = first_unit(call, call.alloc)?;
+    let (alloc, follows) = (call.alloc, call.name() == "cursor_at");
     let start = call.offset(1)?.map(UnitOffset);
-    let follows = call.name() == "cursor_at";
     let cursor = match (start, follows) {
         (None, true) => Ok(unit.entries(alloc, &table)),
         (None, false) => Ok(unit.entries_plain(alloc, &table)),
@@ -68,25 +66,22 @@ pub(crate) fn write_cursor_at<R: Reader>(call: &Call<'_, R>, out: &mut Vec<u8>) 
         (Some(offset), false) => unit.entries_plain_at_offset(alloc, &table, offset),
     };
     let start = call.offset(1)?.map(UnitOffset);
+    let steps = steps_at(call, 2)?;
     let run = if follows {
-        run_cursor(alloc, &unit, &table, start, &steps)
+        run_cursor(alloc, &unit, &table, start, &steps.of_cursor)
     } else {
-        run_cursor_plain(alloc, &unit, &table, start, &steps)
+        run_cursor_plain(alloc, &unit, &table, start, &steps.of_cursor)
     };
-    match cursor {
-        Ok(mut cursor) => match run {
-            Ok(run) => write_both(call, &mut cursor, &run, out),
-            Err(_) => Err(Stop::Lacks("another run")),
-        },
-        Err(error) => match run {
-            Err(other) if error == other => Err(Stop::Refused(error)),
-            _ => Err(Stop::Lacks("another run")),
-        },
-    }
+    let refused = match &cursor {
+        Ok(_) => None,
+        Err(error) => Some(*error),
+    };
+    let run = run_of(run, refused)?;
+    write_steps(call, &mut cursor?, &run, out)
 }
 
-// Writes where a cursor stands and a line for each step, and the lines of a run where they are others.
-fn write_both<R: Reader>(
+// Writes where a cursor stands and a line for each step, and what a run holds where that is another.
+fn write_steps<R: Reader>(
     call: &Call<'_, R>,
     cursor: &mut Cursor<'_, R>,
     run: &Run<CursorAnswer<R, Global>, Global>,
@@ -96,42 +91,32 @@ fn write_both<R: Reader>(
     write!(out, "{word}")?;
     Place::of(cursor).write(out)?;
     writeln!(out, " reads {}", cursor.reads())?;
-    let mut answers = run.answers.iter();
+    let mut held = run.answers.iter();
     for letter in call.case.word(2).unwrap_or("").as_bytes() {
-        let mut line = Vec::new(call.alloc);
-        let outcome = take_step(cursor, *letter);
-        write_line(outcome, cursor.current(), Place::of(cursor), &mut line)?;
-        out.write_all(&line)?;
-        let mut held = Vec::new(call.alloc);
-        if let Some(answer) = answers.next() {
-            let place = place_of(answer);
-            write_line(answer.outcome, answer.current.as_ref(), place, &mut held)?;
-        }
-        write_another(&line, &held, out)?;
+        let answer = take(call.alloc, cursor, *letter)?;
+        write_both(call.alloc, &answer, held.next(), out)?;
         writeln!(out, " reads {}", cursor.reads())?;
     }
-    write_stop(run.stopped || answers.next().is_some(), out)
+    write_stop(run.stopped || held.next().is_some(), out)
 }
 
-// Writes an outcome with all that a refusal carries, the current entry with the number of its attributes,
-// and the place.
-fn write_line<R: Reader>(
-    outcome: Result<bool>,
-    current: Option<&DebuggingInformationEntry<R, Global>>,
-    place: Place,
-    out: &mut Vec<u8>,
-) -> Outcome {
-    write_outcome(outcome, out)?;
-    write_counted(current, out)?;
-    place.write(out)
-}
-
-// Where a cursor stood in a run.
-fn place_of<R: Reader>(answer: &CursorAnswer<R, Global>) -> Place {
-    Place {
-        offset: answer.offset.0.into_u64(),
-        depth: answer.depth,
-        next_offset: answer.next_offset.0.into_u64(),
-        next_depth: answer.next_depth,
-    }
+// Takes a step, and tells what a run holds of it.
+fn take<R: Reader>(
+    alloc: Global,
+    cursor: &mut Cursor<'_, R>,
+    letter: u8,
+) -> Outcome<CursorAnswer<R, Global>> {
+    let outcome = take_step(cursor, letter);
+    let current = match cursor.current() {
+        Some(entry) => Some(entry.try_clone(alloc)?),
+        None => None,
+    };
+    Ok(CursorAnswer {
+        outcome,
+        current,
+        offset: cursor.offset(),
+        depth: cursor.depth(),
+        next_offset: cursor.next_offset(),
+        next_depth: cursor.next_depth(),
+    })
 }

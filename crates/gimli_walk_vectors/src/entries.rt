@@ -1,15 +1,14 @@
 //! The entries of a unit, in a row and by their offsets.
 
-use crate::units::first_unit;
 use gimli_base::{Reader, ReaderOffset};
 use gimli_units::{AttributeValue, DebuggingInformationEntry, UnitOffset};
 use std::alloc::Global;
 use std::io::Write;
-use test_tables::{Call, Outcome, write_entry, write_refusal};
+use test_tables::{Call, Outcome, first_unit, write_entry, write_refusal};
 
 /// Writes each row of the unit, up to its end or to a refusal, and then what is read next.
 pub(crate) fn write_raw<R: Reader>(call: &Call<'_, R>, out: &mut Vec<u8>) -> Outcome {
-    let (unit, table) = first_unit(call)?;
+    let (unit, table) = first_unit(call, call.alloc)?;
     let mut raw = unit.entries_raw(&table, None)?;
     let mut entry = DebuggingInformationEntry::null(call.alloc);
     for _ in 0..u64::MAX {
@@ -57,7 +56,7 @@ fn write_whole<R: Reader>(
 
 /// Writes each entry of a cursor in depth-first order.
 pub(crate) fn write_entries<R: Reader>(call: &Call<'_, R>, out: &mut Vec<u8>) -> Outcome {
-    let (unit, table) = first_unit(call)?;
+    let (unit, table) = first_unit(call, call.alloc)?;
     let mut cursor = unit.entries(call.alloc, &table);
     for _ in 0..u64::MAX {
         match cursor.next_dfs()? {
@@ -70,7 +69,7 @@ pub(crate) fn write_entries<R: Reader>(call: &Call<'_, R>, out: &mut Vec<u8>) ->
 
 /// Writes the entry at an offset of the unit, or at 0.
 pub(crate) fn write_entry_at<R: Reader>(call: &Call<'_, R>, out: &mut Vec<u8>) -> Outcome {
-    let (unit, table) = first_unit(call)?;
+    let (unit, table) = first_unit(call, call.alloc)?;
     let offset = UnitOffset(call.offset_or_zero(1)?);
     let entry = unit.entry(call.alloc, &table, offset)?;
     write_whole(&entry, out)

@@ -4,24 +4,18 @@
 mod cursors;
 mod entries;
 mod files;
-mod lists;
 mod runs;
 mod texts;
 mod trees;
-mod units;
 
 use crate::cursors::{write_cursor, write_cursor_at};
 use crate::entries::{write_entries, write_entry_at, write_raw};
 use crate::files::write_file;
-use crate::lists::{write_locations, write_ranges};
-use crate::runs::write_run;
-use crate::texts::{check_text, write_text};
+use crate::texts::check_text;
 use crate::trees::{write_tree, write_tree_at};
 use gimli_base::Reader;
-use gimli_headers::{DebugInfo, DebugTypes};
-use gimli_walk::{run_type_units, run_units};
 use std::{env, io};
-use test_tables::{Call, Outcome, Program, Stop, try_tables};
+use test_tables::{Call, Outcome, Program, try_tables, write_section_run, write_with_status};
 
 fn main(rt: HostRuntime) -> io::Result<()> {
     let mut is_above = false;
@@ -48,33 +42,21 @@ impl<'a> Program for Walks<'a> {
     fn answer<R: Reader + PartialEq>(&self, call: &Call<'_, R>, out: &mut Vec<u8>) -> Outcome {
         match call.name() {
             "file" => write_file(self.rt, self.folder, call.case, out),
-            "rows" | "words" => write_text(call.alloc, call.case, out),
+            "rows" | "words" => write_with_status(call, call.alloc, 0, out),
             "cursor" | "plain" => {
                 write_cursor(call, out)?;
-                check_text(call.alloc, call.case, out)
+                check_text(call, out)
             }
             "tree" => {
                 write_tree(call, out)?;
-                check_text(call.alloc, call.case, out)
+                check_text(call, out)
             }
             "cursor_at" | "plain_at" => write_cursor_at(call, out),
             "tree_at" => write_tree_at(call, out),
-            _ => write_of_sections(call, out),
+            "raw" => write_raw(call, out),
+            "entries" => write_entries(call, out),
+            "entry" => write_entry_at(call, out),
+            _ => write_section_run(call, call.alloc, out),
         }
-    }
-}
-
-// Writes what a call that takes no steps answers.
-fn write_of_sections<R: Reader>(call: &Call<'_, R>, out: &mut Vec<u8>) -> Outcome {
-    let first = call.section(0)?;
-    match call.name() {
-        "raw" => write_raw(call, out),
-        "entries" => write_entries(call, out),
-        "entry" => write_entry_at(call, out),
-        "units" => write_run(&run_units(call.alloc, &DebugInfo::from(first)), out),
-        "type_units" => write_run(&run_type_units(call.alloc, &DebugTypes::from(first)), out),
-        "ranges" => write_ranges(call, out),
-        "locations" | "locations_dwo" => write_locations(call, out),
-        _ => Err(Stop::Lacks("no such call")),
     }
 }

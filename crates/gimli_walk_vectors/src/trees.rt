@@ -1,25 +1,17 @@
-//! The answers of trees.
+//! The answers of trees, by a walker that keeps their open lists.
 
-use crate::runs::{write_another, write_stop};
-use crate::units::{first_unit, parse_tree_steps, write_status};
-use gimli_base::{Error, Reader};
-use gimli_units::{EntriesTree, UnitOffset};
+use crate::runs::{run_of, write_both};
+use crate::texts::write_status;
+use gimli_base::{Reader, Result};
+use gimli_units::{EntriesTree, EntriesTreeWalker, UnitOffset};
 use gimli_walk::{Run, TreeAnswer, TreeStep, run_tree};
 use std::alloc::Global;
 use std::io::Write;
-use test_tables::{Call, Outcome, Stop, write_entry, write_refusal};
+use test_tables::{Call, Item, Outcome, first_unit, steps_at, write_entry, write_stop};
 
-type Tree<'table, R> = EntriesTree<'table, R, Global>;
+type Walker<'table, R> = EntriesTreeWalker<'table, R, Global>;
 
-// A climb in a tree: the lists that were entered, the depth of each and whether it is open; whether there
-// is a node; how refusals are written, and whether there was one.
-#[derive(Drop)]
-struct Climb {
-    lists: Vec<(isize, bool)>,
-    is_node: bool,
-    is_text: bool,
-    is_refused: bool,
-}
+type Answer<R> = TreeAnswer<R, Global>;
 
 /// Writes what a walk's text says of each step, and after ` > ` the number of reads since the last root;
 /// then the status.
@@ -30,165 +22,102 @@ pub(crate) fn write_tree<R: Reader>(call: &Call<'_, R>, out: &mut Vec<u8>) -> Ou
 
 // Writes a line for each step, and answers whether one was refused.
 fn walk<R: Reader>(call: &Call<'_, R>, out: &mut Vec<u8>) -> Outcome<bool> {
-    let (unit, table) = first_unit(call)?;
-    let mut tree = unit.entries_tree(call.alloc, &table, None)?;
-    let mut climb = Climb::new(call.alloc, true);
-    let letters = call.case.word(1).unwrap_or("");
-    let steps = parse_tree_steps(call.alloc, letters)?;
-    for step in &steps {
-        climb.take(&mut tree, *step, out)?;
-        writeln!(out, " > reads {}", tree.reads())?;
+    let (unit, table) = first_unit(call, call.alloc)?;
+    let tree = unit.entries_tree(call.alloc, &table, None)?;
+    let mut walker = tree.walk(call.alloc);
+    let steps = steps_at(call, 1)?;
+    let mut is_refused = false;
+    for step in &steps.of_tree {
+        let answer = take(call.alloc, &mut walker, *step)?;
+        match &answer {
+            TreeAnswer::Node(entry) => {
+                write!(out, "node ")?;
+                write_entry(entry, out)?;
+            }
+            TreeAnswer::Fault(error) => {
+                is_refused = true;
+                write!(out, "error {}", error.number())?;
+            }
+            word => word.write(out)?,
+        }
+        writeln!(out, " > reads {}", walker.reads())?;
     }
-    Ok(climb.is_refused)
+    Ok(is_refused)
 }
 
 /// Writes the number of reads of a tree at a start, and what it answers to each step, with all that a
 /// refusal carries; and what the run over the same steps holds, where that is another.
 pub(crate) fn write_tree_at<R: Reader>(call: &Call<'_, R>, out: &mut Vec<u8>) -> Outcome {
-    let (unit, table) = first_unit(call)?;
-    let letters = call.case.word(2).unwrap_or("");
-    let steps = parse_tree_steps(call.alloc, letters)?;
+    let (unit, table) = first_unit(call, call.alloc)?;
+    let steps = steps_at(call, 2)?;
     let start = call.offset(1)?.map(UnitOffset);
-    let run = run_tree(call.alloc, &unit, &table, start, &steps);
+    let run = run_tree(call.alloc, &unit, &table, start, &steps.of_tree);
     let start = call.offset(1)?.map(UnitOffset);
-    match unit.entries_tree(call.alloc, &table, start) {
-        Ok(mut tree) => match run {
-            Ok(run) => write_both(call.alloc, &mut tree, &run, &steps, out),
-            Err(_) => Err(Stop::Lacks("another run")),
-        },
-        Err(error) => match run {
-            Err(other) if error == other => Err(Stop::Refused(error)),
-            _ => Err(Stop::Lacks("another run")),
-        },
-    }
+    let tree = unit.entries_tree(call.alloc, &table, start);
+    let refused = match &tree {
+        Ok(_) => None,
+        Err(error) => Some(*error),
+    };
+    let run = run_of(run, refused)?;
+    write_steps(call.alloc, tree?, &run, &steps.of_tree, out)
 }
 
-// Writes a line for each step, and that of a run where it is another.
-fn write_both<R: Reader>(
+// Writes a line for each step, and what a run holds where that is another.
+fn write_steps<R: Reader>(
     alloc: Global,
-    tree: &mut Tree<'_, R>,
-    run: &Run<TreeAnswer<R, Global>, Global>,
+    tree: EntriesTree<'_, R, Global>,
+    run: &Run<Answer<R>, Global>,
     steps: &[TreeStep],
     out: &mut Vec<u8>,
 ) -> Outcome {
-    writeln!(out, "begins > reads {}", tree.reads())?;
-    let mut climb = Climb::new(alloc, false);
-    let mut answers = run.answers.iter();
+    let mut walker = tree.walk(alloc);
+    writeln!(out, "begins > reads {}", walker.reads())?;
+    let mut held = run.answers.iter();
     for step in steps {
-        let mut line = Vec::new(alloc);
-        climb.take(tree, *step, &mut line)?;
-        out.write_all(&line)?;
-        let mut held = Vec::new(alloc);
-        if let Some(answer) = answers.next() {
-            write_answer(answer, &mut held)?;
-        }
-        write_another(&line, &held, out)?;
-        writeln!(out, " > reads {}", tree.reads())?;
+        let answer = take(alloc, &mut walker, *step)?;
+        write_both(alloc, &answer, held.next(), out)?;
+        writeln!(out, " > reads {}", walker.reads())?;
     }
-    write_stop(run.stopped || answers.next().is_some(), out)
+    write_stop(run.stopped || held.next().is_some(), out)
 }
 
-// Writes what a run answered to a step.
-fn write_answer<R: Reader>(answer: &TreeAnswer<R, Global>, out: &mut Vec<u8>) -> Outcome {
-    match answer {
-        TreeAnswer::Node(entry) => {
-            write!(out, "node ")?;
-            return write_entry(entry, out);
+// Takes a step, and tells what a run holds of it.
+fn take<R: Reader>(
+    alloc: Global,
+    walker: &mut Walker<'_, R>,
+    step: TreeStep,
+) -> Outcome<Answer<R>> {
+    match step {
+        TreeStep::Root => {
+            let outcome = walker.root();
+            found(alloc, outcome, walker)
         }
-        TreeAnswer::End => write!(out, "end")?,
-        TreeAnswer::Entered => write!(out, "entered")?,
-        TreeAnswer::Left => write!(out, "left")?,
-        TreeAnswer::NoNode => write!(out, "nonode")?,
-        TreeAnswer::Fault(error) => write_refusal(out, *error)?,
+        TreeStep::Next if walker.list_count() > 0 => {
+            let outcome = walker.next();
+            found(alloc, outcome, walker)
+        }
+        TreeStep::Enter => Ok(word_if(walker.enter()?, TreeAnswer::Entered)),
+        TreeStep::Leave => Ok(word_if(walker.leave(), TreeAnswer::Left)),
+        _ => Ok(TreeAnswer::NoNode),
     }
-    Ok(())
 }
 
-impl Climb {
-    fn new(alloc: Global, is_text: bool) -> Climb {
-        Climb {
-            lists: Vec::new(alloc),
-            is_node: false,
-            is_text,
-            is_refused: false,
-        }
+// The node that a walker stands on after a step, the end of a list where it stands on none, or the refusal.
+fn found<R: Reader, T: Drop>(
+    alloc: Global,
+    outcome: Result<T>,
+    walker: &Walker<'_, R>,
+) -> Outcome<Answer<R>> {
+    if let Err(error) = outcome {
+        return Ok(TreeAnswer::Fault(error));
     }
+    match walker.entry() {
+        Some(entry) => Ok(TreeAnswer::Node(entry.try_clone(alloc)?)),
+        None => Ok(TreeAnswer::End),
+    }
+}
 
-    // Takes a step, and writes what it answers.
-    fn take<R: Reader>(
-        &mut self,
-        tree: &mut Tree<'_, R>,
-        step: TreeStep,
-        out: &mut Vec<u8>,
-    ) -> Outcome {
-        let was_node = self.is_node;
-        self.is_node = false;
-        match step {
-            TreeStep::Root => {
-                self.lists.clear();
-                self.is_node = true;
-                let answer = tree.go_to_root().map(|_| true);
-                self.write_node(tree, answer, out)
-            }
-            TreeStep::Next => self.go_on(tree, was_node, out),
-            TreeStep::Enter if was_node => {
-                let is_open = tree.entry().has_children();
-                self.lists.push((tree.next_depth(), is_open))?;
-                Ok(write!(out, "entered")?)
-            }
-            TreeStep::Leave if self.lists.pop().is_some() => Ok(write!(out, "left")?),
-            _ => {
-                self.is_node = was_node;
-                Ok(write!(out, "nonode")?)
-            }
-        }
-    }
-
-    // Asks the innermost list for its next node.
-    fn go_on<R: Reader>(
-        &mut self,
-        tree: &mut Tree<'_, R>,
-        was_node: bool,
-        out: &mut Vec<u8>,
-    ) -> Outcome {
-        let Some((depth, is_open)) = self.lists.pop() else {
-            self.is_node = was_node;
-            return Ok(write!(out, "nonode")?);
-        };
-        let answer = if is_open && 0 < depth {
-            tree.go_to_next(depth)
-        } else {
-            Ok(false)
-        };
-        self.is_node = answer == Ok(true);
-        self.lists.push((depth, self.is_node))?;
-        self.write_node(tree, answer, out)
-    }
-
-    // Writes the node where there is one, that the list has ended, or a refusal, after which there is no
-    // node.
-    fn write_node<R: Reader>(
-        &mut self,
-        tree: &Tree<'_, R>,
-        answer: Result<bool, Error>,
-        out: &mut Vec<u8>,
-    ) -> Outcome {
-        match answer {
-            Ok(true) => {
-                write!(out, "node ")?;
-                return write_entry(tree.entry(), out);
-            }
-            Ok(false) => write!(out, "end")?,
-            Err(error) => {
-                self.is_node = false;
-                self.is_refused = true;
-                if self.is_text {
-                    write!(out, "error {}", error.number())?;
-                } else {
-                    write_refusal(out, error)?;
-                }
-            }
-        }
-        Ok(())
-    }
+// The word of a step, or that of one that finds nothing to do.
+fn word_if<R: Reader>(has_done: bool, word: Answer<R>) -> Answer<R> {
+    if has_done { word } else { TreeAnswer::NoNode }
 }

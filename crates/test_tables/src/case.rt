@@ -35,6 +35,8 @@ pub struct Case {
     pub words: Vec<String>,
     /// The sections, each the bytes after a `:`.
     pub sections: Vec<Vec<u8>>,
+    /// The numbers of the words `@PLACE`, which are none of `words`.
+    pub places: Vec<u64>,
     /// What the call answers over a reader whose offsets have 64 bits.
     pub wide: String,
     /// What it answers over a reader whose offsets have 32 bits.
@@ -49,11 +51,13 @@ impl Case {
 
     /// The decimal number, or the hexadecimal after `0x`, at an index.
     pub fn number(&self, index: usize) -> Option<u64> {
-        let word = self.word(index)?;
-        match word.strip_prefix("0x") {
-            Some(digits) => u64::from_str_radix(digits, 16).ok(),
-            None => word.parse::<u64>().ok(),
-        }
+        parse_number(self.word(index)?)
+    }
+
+    /// The place of the first byte of a section: that of its index, or else the last one, or 0 where there is
+    /// none.
+    pub fn place(&self, index: usize) -> u64 {
+        *self.places.get(index).or(self.places.last()).unwrap_or(&0)
     }
 
     /// The encoding that three words give: bytes of an offset (4 or 8), version, and bytes of an address.
@@ -84,6 +88,7 @@ impl Case {
             order: self.order,
             words,
             sections,
+            places: Vec::from_slice(alloc, &self.places)?,
             wide: String::new(alloc),
             narrow: String::new(alloc),
         })
@@ -95,20 +100,32 @@ impl Case {
     }
 }
 
-/// The case of a line `ORDER CALL WORDS : BYTES : BYTES = ANSWER | ANSWER`: the order is `big` or `each`,
-/// and left out where the lowest byte comes first; the second answer is that of 32 bits, and left out where
-/// it is the first.
+/// The decimal number of a word, or the hexadecimal after `0x`.
+pub fn parse_number(word: &str) -> Option<u64> {
+    match word.strip_prefix("0x") {
+        Some(digits) => u64::from_str_radix(digits, 16).ok(),
+        None => word.parse::<u64>().ok(),
+    }
+}
+
+/// The case of a line `ORDER CALL WORDS @PLACE : BYTES : BYTES = ANSWER | ANSWER`: the order is `big` or
+/// `each`, and left out where the lowest byte comes first; the second answer is that of 32 bits, and left out
+/// where it is the first.
 pub fn parse_case(alloc: Global, names: &Names, line: &str) -> Option<Case> {
     let (call, answer) = line.split_once(" =")?;
     let (wide, narrow) = answer.split_once(" | ").unwrap_or((answer, answer));
     let mut parts = call.split(" :");
     let mut words = Vec::new(alloc);
+    let mut places = Vec::new(alloc);
     let mut order = Order::Little;
     for word in parts.next()?.split_ascii_whitespace() {
         match word {
             "big" if words.is_empty() => order = Order::Big,
             "each" if words.is_empty() => order = Order::Each,
-            _ => words.push(String::from_str(alloc, word).ok()?).ok()?,
+            _ => match word.strip_prefix("@") {
+                Some(place) => places.push(place.parse::<u64>().ok()?).ok()?,
+                None => words.push(String::from_str(alloc, word).ok()?).ok()?,
+            },
         }
     }
     let mut sections = Vec::new(alloc);
@@ -119,6 +136,7 @@ pub fn parse_case(alloc: Global, names: &Names, line: &str) -> Option<Case> {
         order,
         words,
         sections,
+        places,
         wide: String::from_str(alloc, wide.trim()).ok()?,
         narrow: String::from_str(alloc, narrow.trim()).ok()?,
     })

@@ -14,11 +14,6 @@ pub trait Program {
     /// Writes what the call of a case answers over readers of one kind.
     fn answer<R: Reader + PartialEq>(&self, call: &Call<'_, R>, out: &mut Vec<u8>) -> Outcome;
 
-    /// The place of the first byte of the section at an index.
-    fn place(&self, _case: &Case, _index: usize) -> u64 {
-        0
-    }
-
     /// What is to be written where a row has an answer. A program that writes what differs wants nothing.
     fn wanted<'a>(&self, answer: &'a str) -> &'a str {
         answer
@@ -79,7 +74,7 @@ impl<'a, P: Program> Given<'a, P> {
         let mut sections = Vec::new(self.alloc);
         for index in 0..self.case.sections.len().max(2) {
             let bytes = self.case.section(index).unwrap_or(&[]);
-            let place = self.program.place(self.case, index);
+            let place = self.case.place(index);
             if bytes.len() > 0xffff_ffff || place.checked_add(bytes.len() as u64).is_none() {
                 return None;
             }
@@ -95,7 +90,7 @@ impl<'a, P: Program> Given<'a, P> {
         let mut sections = Vec::new(self.alloc);
         for index in 0..self.case.sections.len().max(2) {
             let bytes = self.case.section(index).unwrap_or(&[]);
-            let place = self.program.place(self.case, index);
+            let place = self.case.place(index);
             if bytes.len() > 0xffff_ffff || place.checked_add(bytes.len() as u64).is_none() {
                 return None;
             }

@@ -38,7 +38,7 @@ pub enum RawLocListEntry<R, Offset = <R as Reader>::Offset> {
         expr: Expression<R>,
     },
     /// A base address, from which later offsets count; `DW_LLE_base_address`, or in a list of
-    /// addresses alone the pair that begins with all ones.
+    /// `.debug_loc` a pair whose first address is all ones.
     BaseAddress {
         /// The address.
         addr: u64,

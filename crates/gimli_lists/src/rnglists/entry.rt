@@ -33,7 +33,8 @@ pub enum RawRngListEntry<T> {
         /// Where it ends.
         end: u64,
     },
-    /// A base address, from which later offsets count; `DW_RLE_base_address`.
+    /// A base address, from which later offsets count; `DW_RLE_base_address`, or in a list of
+    /// `.debug_ranges` a pair whose first address is all ones.
     BaseAddress {
         /// The address.
         addr: u64,

@@ -239,21 +239,21 @@ pub(crate) fn resolve_entry<R: Reader>(
         RawRngListEntry::StartxEndx { begin, end } => {
             let begin = debug_addr.get_address(size, debug_addr_base, begin)?;
             let end = debug_addr.get_address(size, debug_addr_base, end)?;
-            Ok(Range { begin, end }.kept(size))
+            Ok(Range { begin, end }.if_kept(size))
         }
         RawRngListEntry::StartxLength { begin, length } => {
             let begin = debug_addr.get_address(size, debug_addr_base, begin)?;
             let end = begin.wrapping_add_sized(length, size);
-            Ok(Range { begin, end }.kept(size))
+            Ok(Range { begin, end }.if_kept(size))
         }
         RawRngListEntry::AddressOrOffsetPair { begin, end }
         | RawRngListEntry::OffsetPair { begin, end } => {
             Ok(Range { begin, end }.kept_from(*base, size))
         }
-        RawRngListEntry::StartEnd { begin, end } => Ok(Range { begin, end }.kept(size)),
+        RawRngListEntry::StartEnd { begin, end } => Ok(Range { begin, end }.if_kept(size)),
         RawRngListEntry::StartLength { begin, length } => {
             let end = begin.wrapping_add_sized(length, size);
-            Ok(Range { begin, end }.kept(size))
+            Ok(Range { begin, end }.if_kept(size))
         }
     }
 }

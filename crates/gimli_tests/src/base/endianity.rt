@@ -4,7 +4,7 @@ use std::process::Abort;
 // Tries a byte order: which byte comes first in it, and that its kept form gives it back.
 fn tries_order<E: Endianity>(rt: &impl Abort, endian: E, is_big: bool) {
     assert!(rt; endian.is_big_endian() == is_big);
-    assert!(rt; E::from_kept(endian.kept()) == endian);
+    assert!(rt; E::from_kept(endian.to_kept()) == endian);
 }
 
 #[test]

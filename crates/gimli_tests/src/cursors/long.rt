@@ -1,103 +1,122 @@
-use crate::cursors::samples::{input, whole};
-use crate::cursors::walked::{Step, Stood, Way, begin, none, tries_step, yes};
-use crate::samples::{table_of, unit_of};
-use gimli_base::{Abbreviations, LittleEndian, Reader};
-use gimli_units::{EntriesCursor, UnitHeader};
+//! Steps over long lists and deep chains, forwards by references and without them.
+
+use crate::samples::{part, table_of, unit_of, whole};
+use gimli_base::{LittleEndian, Reader};
+use gimli_units::EntriesCursor;
 use std::alloc::{AllocError, Global};
 use std::process::Abort;
 use std::test::Fail;
+use test_tables::{Place, take_step};
 
-// The number of the entries, as an offset.
+// The number of the entries.
 const COUNT: u32 = 10_000;
 
-// Code 1: the tag 0x2e, and children. Code 2: the tag 0x34 alone. Code 3: the tag 0x2e, children, and a reference of
-// four bytes.
+// Code 1: the tag 0x2e, and children. Code 2: the tag 0x34 alone. Code 3: the tag 0x2e, children, and a
+// reference of four bytes.
 const TABLE: [u8; 18] = [
     0x01, 0x2e, 0x01, 0x00, 0x00, 0x02, 0x34, 0x00, 0x00, 0x00, 0x03, 0x2e, 0x01, 0x01, 0x13, 0x00,
     0x00, 0x00,
 ];
 
-const PARENT: (u16, bool, usize) = (0x2e, true, 0);
+// A step: its letter; the number of attributes of the entry that it finds, if it finds one; where the cursor
+// then stands; and how many entries were read.
+type Step = (u8, Option<usize>, Place, usize);
 
-const LINKED: (u16, bool, usize) = (0x2e, true, 1);
-
-// Entries, each the child of the one before, and as many nulls.
-fn chain(alloc: Global) -> Result<Vec<u8>, AllocError> {
-    let mut bytes = Vec::new(alloc);
-    for _ in 0..COUNT {
-        bytes.push(0x01)?;
+// Where a cursor stands, from the offsets and depths of what was read last and of what is read next.
+fn at((offset, depth): (u64, isize), (next_offset, next_depth): (u64, isize)) -> Place {
+    Place {
+        offset,
+        depth,
+        next_offset,
+        next_depth,
     }
-    for _ in 0..COUNT {
-        bytes.push(0x00)?;
-    }
-    Ok(bytes)
 }
 
-// Tries to go down the chain, and up again.
-fn goes_down<R: Reader>(
+// Tries a step.
+fn tries_step<R: Reader>(
+    rt: &impl Abort,
+    cursor: &mut EntriesCursor<'_, R, Global>,
+    (letter, found, place, reads): Step,
+) {
+    let outcome = take_step(cursor, letter);
+    assert!(rt; outcome == Ok(found.is_some()));
+    let current = match cursor.current() {
+        Some(entry) if entry.tag().0 == 0x2e && entry.has_children() => Some(entry.attrs().len()),
+        _ => None,
+    };
+    assert!(rt; current == found);
+    assert_eq!(rt; (Place::of(cursor), cursor.reads()), (place, reads));
+}
+
+// Tries the steps of a cursor that follows references or reads every entry, by their numbers from 0 on.
+fn tries_steps<R: Reader, F: Fn(u32) -> Step>(
     rt: &impl Abort,
     alloc: Global,
-    unit: &UnitHeader<R>,
-    table: &Abbreviations<Global>,
-    way: Way,
-) {
-    let mut cursor = begin(alloc, unit, table, way);
-    for number in 0..COUNT {
-        let place = (11 + u64::from(number), number as isize);
-        let next = (place.0 + 1, place.1 + 1);
-        let wanted = yes(place, PARENT, next, number as usize + 1);
-        tries_step(rt, &mut cursor, Step::Dfs, wanted);
-    }
-    let end = 11 + 2 * u64::from(COUNT);
-    let wanted = none(None, (end - 1, 1), (end, 0), 2 * COUNT as usize);
-    tries_step(rt, &mut cursor, Step::Dfs, wanted);
-}
-
-// Tries the first entry of a unit, and its sibling.
-fn tries_two<R: Reader>(
-    rt: &impl Abort,
-    mut cursor: EntriesCursor<'_, R, Global>,
-    first: Stood,
-    wanted: Stood,
-) {
-    tries_step(rt, &mut cursor, Step::Entry, first);
-    tries_step(rt, &mut cursor, Step::Sibling, wanted);
-}
-
-// Tries to pass a whole list from its first entry on; where the cursor then stands is given.
-fn passes_all<R: Reader>(
-    rt: &impl Abort,
-    alloc: Global,
-    unit: &UnitHeader<R>,
-    table: &Abbreviations<Global>,
-    (way, end, reads): (Way, u64, usize),
-) {
-    let first = yes((11, 0), PARENT, (12, 1), 1);
-    let wanted = none(None, (11, 0), (end, 0), reads);
-    tries_two(rt, begin(alloc, unit, table, way), first, wanted);
-}
-
-fn tries_chain<R: Reader>(rt: &impl Abort, alloc: Global, entries: R) -> Result<(), Fail> {
+    entries: R,
+    follows: bool,
+    step: F,
+) -> Result<(), Fail>
+    requires { F.IsAlwaysCallable step }
+{
     let table = table_of(alloc, &TABLE)?;
     let unit = unit_of(rt, entries);
-    let end = 11 + 2 * u64::from(COUNT);
-    for way in [Way::Follows, Way::Plain] {
-        goes_down(rt, alloc, &unit, &table, way);
-        let reads = 2 * COUNT as usize;
-        passes_all(rt, alloc, &unit, &table, (way, end, reads));
+    let mut cursor = if follows {
+        unit.entries(alloc, &table)
+    } else {
+        unit.entries_plain(alloc, &table)
+    };
+    for number in 0..COUNT + 2 {
+        tries_step(rt, &mut cursor, step(number));
     }
     Ok(())
 }
 
-#[test]
-fn walks_a_deep_chain(rt: HostRuntime) -> Result<(), Fail> {
-    let entries = chain(rt.alloc())?;
-    assert!(rt; entries.len() == 20_000);
-    tries_chain(&rt, rt.alloc(), input(&entries, LittleEndian))?;
-    tries_chain(&rt, rt.alloc(), whole(&rt, &entries, LittleEndian))
+// Tries the steps over entries by both readers.
+fn tries_walk<F: Fn(u32) -> Step>(
+    rt: &impl Abort,
+    alloc: Global,
+    entries: &[u8],
+    follows: bool,
+    step: F,
+) -> Result<(), Fail>
+    requires { F.IsAlwaysCallable step }
+{
+    tries_steps(rt, alloc, part(entries, LittleEndian), follows, &step)?;
+    tries_steps(rt, alloc, whole(rt, entries, LittleEndian), follows, &step)
 }
 
-// An entry whose children have a reference to the next of them each, a child without a code, and a null that closes it.
+// The step of a number, of which the first is another than the ones after it.
+fn first_or(number: u32, first: Step, others: Step) -> Step {
+    if number == 0 { first } else { others }
+}
+
+// Steps down a chain, and past the nulls that close its lists.
+fn down(number: u32) -> Step {
+    let (offset, depth) = (11 + u64::from(number), number as isize);
+    if number < COUNT {
+        let place = at((offset, depth), (offset + 1, depth + 1));
+        (b'd', Some(0), place, number as usize + 1)
+    } else {
+        (b'd', None, at((20_010, 1), (20_011, 0)), 20_000)
+    }
+}
+
+#[test]
+fn walks_a_deep_chain(rt: HostRuntime) -> Result<(), Fail> {
+    // entries, each the child of the one before, and as many nulls
+    let mut entries = vec![in rt.alloc(); 0x01; 10_000]?;
+    entries.extend_from_slice(&vec![in rt.alloc(); 0x00; 10_000]?)?;
+    let past = (b's', None, at((11, 0), (20_011, 0)), 20_000);
+    let at_once = |number: u32| first_or(number, (b'e', Some(0), at((11, 0), (12, 1)), 1), past);
+    for follows in [true, false] {
+        tries_walk(&rt, rt.alloc(), &entries, follows, down)?;
+        tries_walk(&rt, rt.alloc(), &entries, follows, at_once)?;
+    }
+    Ok(())
+}
+
+// An entry whose children have a reference to the next of them each, a child without a code, and a null
+// that closes it.
 fn siblings(alloc: Global) -> Result<Vec<u8>, AllocError> {
     let mut bytes = Vec::from_slice(alloc, &[0x01])?;
     for number in 0..COUNT {
@@ -109,56 +128,43 @@ fn siblings(alloc: Global) -> Result<Vec<u8>, AllocError> {
     Ok(bytes)
 }
 
-// How many entries are read up to the sibling of a number: one for each that is followed, and three where all are read.
-fn reads_up_to(way: Way, number: u32) -> usize {
-    match way {
-        Way::Follows => 2 + number as usize,
-        Way::Plain => 2 + 3 * number as usize,
+// How many entries are read up to the child of a number: one for each that is followed, and three where all
+// are read.
+fn reads_up_to(follows: bool, number: u32) -> usize {
+    if follows {
+        2 + number as usize
+    } else {
+        2 + 3 * number as usize
     }
 }
 
-// Tries to go from sibling to sibling.
-fn goes_along<R: Reader>(
-    rt: &impl Abort,
-    alloc: Global,
-    unit: &UnitHeader<R>,
-    table: &Abbreviations<Global>,
-    way: Way,
-) {
-    let mut cursor = begin(alloc, unit, table, way);
-    let first = yes((11, 0), PARENT, (12, 1), 1);
-    tries_step(rt, &mut cursor, Step::Entry, first);
-    let mut step = Step::Entry;
-    for number in 0..COUNT {
-        let place = (12 + 7 * u64::from(number), 1);
-        let reads = reads_up_to(way, number);
-        let wanted = yes(place, LINKED, (place.0 + 5, 2), reads);
-        tries_step(rt, &mut cursor, step, wanted);
-        step = Step::Sibling;
+// Steps to the first entry, and from sibling to sibling of its children.
+fn along(number: u32, follows: bool) -> Step {
+    let Some(child) = number.checked_sub(1) else {
+        return (b'e', Some(0), at((11, 0), (12, 1)), 1);
+    };
+    let letter = if child == 0 { b'e' } else { b's' };
+    let offset = 12 + 7 * u64::from(child);
+    let reads = reads_up_to(follows, child);
+    if child < COUNT {
+        (letter, Some(1), at((offset, 1), (offset + 5, 2)), reads)
+    } else {
+        (letter, None, at((offset, 1), (offset + 1, 0)), reads)
     }
-    let end = 13 + 7 * u64::from(COUNT);
-    let wanted = none(None, (end - 1, 1), (end, 0), reads_up_to(way, COUNT));
-    tries_step(rt, &mut cursor, Step::Sibling, wanted);
-}
-
-fn tries_siblings<R: Reader>(rt: &impl Abort, alloc: Global, entries: R) -> Result<(), Fail> {
-    let table = table_of(alloc, &TABLE)?;
-    let unit = unit_of(rt, entries);
-    let end = 13 + 7 * u64::from(COUNT);
-    for way in [Way::Follows, Way::Plain] {
-        goes_along(rt, alloc, &unit, &table, way);
-        let reads = reads_up_to(way, COUNT);
-        passes_all(rt, alloc, &unit, &table, (way, end, reads));
-    }
-    Ok(())
 }
 
 #[test]
 fn walks_a_long_list_of_siblings(rt: HostRuntime) -> Result<(), Fail> {
     let entries = siblings(rt.alloc())?;
-    assert!(rt; entries.len() == 70_002);
-    tries_siblings(&rt, rt.alloc(), input(&entries, LittleEndian))?;
-    tries_siblings(&rt, rt.alloc(), whole(&rt, &entries, LittleEndian))
+    for follows in [true, false] {
+        let steps = |number: u32| along(number, follows);
+        tries_walk(&rt, rt.alloc(), &entries, follows, steps)?;
+        let reads = reads_up_to(follows, COUNT);
+        let past = (b's', None, at((11, 0), (70_013, 0)), reads);
+        let at_once = |number: u32| first_or(number, along(0, follows), past);
+        tries_walk(&rt, rt.alloc(), &entries, follows, at_once)?;
+    }
+    Ok(())
 }
 
 // Entries, each the child of the one before, which has a reference to it.
@@ -171,31 +177,24 @@ fn false_siblings(alloc: Global) -> Result<Vec<u8>, AllocError> {
     Ok(bytes)
 }
 
-// Tries to follow each of the false references, and that the first has no sibling by plain walking.
-fn tries_false_siblings<R: Reader>(rt: &impl Abort, alloc: Global, entries: R) -> Result<(), Fail> {
-    let table = table_of(alloc, &TABLE)?;
-    let unit = unit_of(rt, entries);
-    let mut cursor = begin(alloc, &unit, &table, Way::Follows);
-    let mut step = Step::Entry;
-    for number in 0..COUNT {
-        let place = (11 + 5 * u64::from(number), 0);
-        let wanted = yes(place, LINKED, (place.0 + 5, 1), number as usize + 1);
-        tries_step(rt, &mut cursor, step, wanted);
-        step = Step::Sibling;
+// Steps that follow each of the false references.
+fn astray(number: u32) -> Step {
+    let letter = if number == 0 { b'e' } else { b's' };
+    let offset = 11 + 5 * u64::from(number);
+    if number < COUNT {
+        let place = at((offset, 0), (offset + 5, 1));
+        (letter, Some(1), place, number as usize + 1)
+    } else {
+        (letter, None, at((50_006, 0), (50_011, 0)), 10_000)
     }
-    let end = 11 + 5 * u64::from(COUNT);
-    let wanted = none(None, (end - 5, 0), (end, 0), COUNT as usize);
-    tries_step(rt, &mut cursor, Step::Sibling, wanted);
-    let first = yes((11, 0), LINKED, (16, 1), 1);
-    let wanted = none(None, (11, 0), (end, COUNT as isize), COUNT as usize);
-    tries_two(rt, begin(alloc, &unit, &table, Way::Plain), first, wanted);
-    Ok(())
 }
 
 #[test]
 fn walks_a_long_list_of_false_references(rt: HostRuntime) -> Result<(), Fail> {
     let entries = false_siblings(rt.alloc())?;
-    assert!(rt; entries.len() == 50_000);
-    tries_false_siblings(&rt, rt.alloc(), input(&entries, LittleEndian))?;
-    tries_false_siblings(&rt, rt.alloc(), whole(&rt, &entries, LittleEndian))
+    tries_walk(&rt, rt.alloc(), &entries, true, astray)?;
+    // the first has no sibling by plain walking
+    let past = (b's', None, at((11, 0), (50_011, 10_000)), 10_000);
+    let at_once = |number: u32| first_or(number, astray(0), past);
+    tries_walk(&rt, rt.alloc(), &entries, false, at_once)
 }

@@ -1,8 +1,8 @@
 //! Sets of ranges of addresses.
 
-use crate::lists::samples::{FIRST_PLACE, Part, part, whole};
-use crate::samples::{has_bytes, next_of};
-use gimli_base::{Error, LittleEndian, Reader, Result, RunTimeEndian, Section, SectionId};
+use crate::samples::{next_of, part, whole};
+use crate::sections::holds;
+use gimli_base::{EndianSlice, Error, LittleEndian, Reader, Result, Section, SectionId};
 use gimli_lists::{
     ArangeEntry, ArangeEntryIter, ArangeHeader, ArangeHeaderIter, DebugAranges, Range,
 };
@@ -57,7 +57,8 @@ fn convert<R: Reader>(
 }
 
 // Tries raw entries and ranges in turn: each call goes on where the other stopped.
-fn tries_turns<R: Reader>(rt: &impl Abort, mut entries: ArangeEntryIter<R>) {
+fn tries_turns<R: Reader>(rt: &impl Abort, reader: R) {
+    let mut entries = first_set(rt, reader).entries();
     let raw = raw_entry_of(rt, &mut entries);
     tries_range(rt, &raw, 1, 0);
     let found = entry_of(rt, &mut entries);
@@ -86,17 +87,18 @@ fn tries_no_entry<R: Reader>(rt: &impl Abort, entries: &mut ArangeEntryIter<R>) 
 
 #[test]
 fn gives_raw_entries_and_ranges_in_turn(rt: HostRuntime) {
-    tries_turns(&rt, first_set(&rt, part(&TURNS)).entries());
-    tries_turns(&rt, first_set(&rt, whole(&rt, &TURNS)).entries());
+    tries_turns(&rt, part(&TURNS, LittleEndian));
+    tries_turns(&rt, whole(&rt, &TURNS, LittleEndian));
 }
 
-// Entries are ordered by where they begin, then by where they end, and then by their lengths. A raw one has the end 0.
+// Entries are ordered by where they begin, then by where they end, and then by their lengths. A raw one has
+// the end 0.
 #[test]
 fn are_ordered_by_their_fields(rt: HostRuntime) -> std::result::Result<(), Fail> {
     let bytes = [
         0x10, 0, 0, 0, 2, 0, 1, 2, 3, 4, 1, 0, 1, 2, 1, 3, 2, 1, 2, 1,
     ];
-    let header = first_set(&rt, part(&bytes));
+    let header = first_set(&rt, part(&bytes, LittleEndian));
     let mut entries = header.entries();
     let first = entry_of(&rt, &mut entries);
     let second = entry_of(&rt, &mut entries);
@@ -138,12 +140,12 @@ fn tries_copied_entries<R: Reader>(rt: &impl Abort, mut entries: ArangeEntryIter
     tries_no_entry(rt, &mut entries);
 }
 
-// Tries copies of a section of two equal sets, and that no set is left after them.
+// Tries what a section of two equal sets lends, copies of them, and that no set is left after them.
 fn tries_copies<R: Reader + PartialEq>(rt: &impl Abort, reader: R) {
-    let source = DebugAranges::from(reader);
-    let section = source.copy();
-    assert!(rt; has_bytes(section.reader(), &TWO_SETS));
-    let mut headers = section.headers();
+    let section = DebugAranges::from(reader);
+    let lent = section.borrow(|reader| reader.copy());
+    holds(rt, &lent, SectionId::DebugAranges, (&TWO_SETS, 100));
+    let mut headers = section.copy().headers();
     tries_next_set(rt, &mut headers);
     tries_next_set(rt, &mut headers);
     assert!(rt; headers.next() == Ok(None));
@@ -152,8 +154,8 @@ fn tries_copies<R: Reader + PartialEq>(rt: &impl Abort, reader: R) {
 
 #[test]
 fn copies_answer_what_the_sources_answer(rt: HostRuntime) {
-    tries_copies(&rt, part(&TWO_SETS));
-    tries_copies(&rt, whole(&rt, &TWO_SETS));
+    tries_copies(&rt, part(&TWO_SETS, LittleEndian));
+    tries_copies(&rt, whole(&rt, &TWO_SETS, LittleEndian));
 }
 
 // Headers are equal where all their parts are, of the reader the bytes and the order.
@@ -161,31 +163,7 @@ fn copies_answer_what_the_sources_answer(rt: HostRuntime) {
 fn headers_are_compared_by_their_parts(rt: HostRuntime) {
     let mut other = TWO_SETS;
     other[13] = 3;
-    let header = first_set(&rt, part(&TWO_SETS));
-    let same = DebugAranges::new(&TWO_SETS, LittleEndian);
-    let different = DebugAranges::new(&other, LittleEndian);
-    assert!(rt; header_of(&rt, &mut same.headers()) == header);
-    assert!(rt; header_of(&rt, &mut different.headers()) != header);
-}
-
-// Tries which section it is, and what it holds.
-fn tries_section<R: Reader>(rt: &impl Abort, section: &DebugAranges<R>, first: u64) {
-    let id = <DebugAranges<R> as Section<R>>::id();
-    assert!(rt; id == SectionId::DebugAranges);
-    assert!(rt; has_bytes(section.reader(), &TWO_SETS));
-    assert!(rt; section.reader().offset_id().0 == first);
-}
-
-#[test]
-fn is_a_section(rt: HostRuntime) {
-    tries_section(&rt, &DebugAranges::new(&TWO_SETS, RunTimeEndian::Big), 0);
-    let section = DebugAranges::from(part(&TWO_SETS));
-    tries_section(&rt, &section, FIRST_PLACE);
-    tries_section(&rt, &section.borrow(|reader| reader.copy()), FIRST_PLACE);
-}
-
-#[test]
-fn is_empty_by_default(rt: HostRuntime) {
-    let section = DebugAranges::<Part<'_>>::default();
-    assert!(rt; section.headers().next() == Ok(None));
+    let header = first_set(&rt, part(&TWO_SETS, LittleEndian));
+    assert!(rt; first_set(&rt, EndianSlice::new(&TWO_SETS, LittleEndian)) == header);
+    assert!(rt; first_set(&rt, EndianSlice::new(&other, LittleEndian)) != header);
 }

@@ -1,14 +1,12 @@
 //! Range lists, and the header of their section.
 
-use crate::lists::samples::{Part, encoding, end_at_first, part, whole};
-use crate::samples::next_of;
+use crate::samples::{Part, encoding, end_at, next_of, part, whole};
 use gimli_base::{
-    DebugAddr, DebugAddrBase, DebugAddrIndex, Encoding, EndianSlice, Error, Format, LittleEndian,
-    RangeListsOffset, Reader, ReaderOffset, ReaderOffsetId, Result, Section, SectionId,
+    DebugAddr, DebugAddrBase, DebugAddrIndex, EndianSlice, LittleEndian, RangeListsOffset, Reader,
+    ReaderOffset, Result, Section,
 };
 use gimli_lists::{
-    DebugRanges, DebugRngLists, ListsHeader, Range, RangeLists, RawRngListEntry, RawRngListIter,
-    RngListIter,
+    DebugRanges, DebugRngLists, ListsHeader, Range, RangeLists, RawRngListEntry, RngListIter,
 };
 use std::process::Abort;
 use std::test::Fail;
@@ -20,24 +18,15 @@ const PAIRS: [u8; 24] = [
     0x00, 0x04, 0x01, 0x00, 0x00, 0x05, 0x01, 0x00, // from 0x10400 to 0x10500
 ];
 
-// The lists of `.debug_ranges`; the other section is empty.
-fn lists_of<R: Reader>(section: R) -> RangeLists<R> {
-    let mut none = section.copy();
-    none.empty();
-    RangeLists::new(DebugRanges::from(section), DebugRngLists::from(none))
-}
-
-// The ranges of the list at 0, from the base 0x1000000 on, with an empty table of addresses.
-fn ranges_of<R: Reader>(lists: &RangeLists<R>, none: R) -> Result<RngListIter<R>> {
+// The ranges of the list of `.debug_ranges`, from the base 0x1000000 on; the other section and the table of
+// addresses are empty.
+fn ranges_of<R: Reader>(section: R, none: R) -> Result<RngListIter<R>> {
     let zero = R::Offset::from_u8(0);
     let (begin, base) = (RangeListsOffset(zero), DebugAddrBase(zero));
+    let ranges = DebugRanges::from(section);
+    let lists = RangeLists::new(ranges, DebugRngLists::from(none.copy())).copy();
     let table = DebugAddr::from(none);
-    let encoding = Encoding {
-        format: Format::Dwarf32,
-        version: 4,
-        address_size: 4,
-    };
-    lists.ranges(begin, encoding, 0x0100_0000, &table, base)
+    lists.ranges(begin, encoding(4, 4), 0x0100_0000, &table, base)
 }
 
 // The next entry as it is written.
@@ -61,19 +50,20 @@ fn converted<R: Reader>(
 }
 
 // Tries the two calls by turns, before a new base address and after it.
-fn tries_conversions<R: Reader>(rt: &impl Abort, ranges: &mut RngListIter<R>) {
-    let first = raw_of(rt, ranges);
+fn tries_conversions<R: Reader>(rt: &impl Abort, section: R, none: R) {
+    let mut ranges = ranges_of(section, none).expect(rt, "no list");
+    let first = raw_of(rt, &mut ranges);
     let again = first.copy();
-    assert!(rt; converted(ranges, first) == Ok(Some(from(0x0101_0200))));
-    let base = raw_of(rt, ranges);
-    assert!(rt; converted(ranges, base) == Ok(None));
+    assert!(rt; converted(&mut ranges, first) == Ok(Some(from(0x0101_0200))));
+    let base = raw_of(rt, &mut ranges);
+    assert!(rt; converted(&mut ranges, base) == Ok(None));
     // the entry counts from the new base
-    assert!(rt; converted(ranges, again) == Ok(Some(from(0x0201_0200))));
+    assert!(rt; converted(&mut ranges, again) == Ok(Some(from(0x0201_0200))));
     let missing = RawRngListEntry::BaseAddressx {
         addr: DebugAddrIndex(R::Offset::from_u8(0)),
     };
-    assert!(rt; converted(ranges, missing) == Err(end_at_first()));
-    tries_last(rt, ranges);
+    assert!(rt; converted(&mut ranges, missing) == Err(end_at(100)));
+    tries_last(rt, &mut ranges);
 }
 
 // Tries the last range of the two pairs, and that none is left.
@@ -85,22 +75,19 @@ fn tries_last<R: Reader>(rt: &impl Abort, ranges: &mut RngListIter<R>) {
 
 #[test]
 fn converts_entries_one_by_one(rt: HostRuntime) {
-    let of_parts = lists_of(part(&PAIRS));
-    let mut ranges = ranges_of(&of_parts, part(b"")).expect(&rt, "no list");
-    tries_conversions(&rt, &mut ranges);
-    let of_wholes = lists_of(whole(&rt, &PAIRS)).copy();
-    let mut ranges = ranges_of(&of_wholes, whole(&rt, b"")).expect(&rt, "no list");
-    tries_conversions(&rt, &mut ranges);
+    tries_conversions(&rt, part(&PAIRS, LittleEndian), part(b"", LittleEndian));
+    let none = whole(&rt, b"", LittleEndian);
+    tries_conversions(&rt, whole(&rt, &PAIRS, LittleEndian), none);
 }
 
 // Nothing is left after a refusal, by the call and by the iterator.
 #[test]
 fn entries_end_behind_a_refusal(rt: HostRuntime) {
-    let lists = lists_of(part(&PAIRS[..20]));
+    let ranges = DebugRanges::from(part(&PAIRS[..20], LittleEndian));
+    let lists = RangeLists::new(ranges, DebugRngLists::default());
     let entries = lists.raw_ranges(RangeListsOffset(16), encoding(4, 4));
     let mut entries = entries.expect(&rt, "no list");
-    let wanted = Error::UnexpectedEof(ReaderOffsetId(120));
-    assert!(rt; entries.next().err() == Some(wanted));
+    assert!(rt; entries.next().err() == Some(end_at(120)));
     assert!(rt; matches!(entries.next(), Ok(None)));
     assert!(rt; next_of(&mut entries).is_none());
 }
@@ -139,8 +126,6 @@ fn sections_are_kept_and_replaced(rt: HostRuntime) -> std::result::Result<(), Fa
     tries_slices(&rt, &of_both.copy(), &[4], &[3]);
     tries_slices(&rt, &same, &[1, 2], &[3]);
     tries_slices(&rt, &RangeLists::default(), &[], &[]);
-    assert!(rt; (<DebugRanges<Part<'_>>>::id()) == SectionId::DebugRanges);
-    assert!(rt; (<DebugRngLists<Part<'_>>>::id()) == SectionId::DebugRngLists);
     let text = format!(in rt.alloc(); "{:?}", RangeListsOffset(7_usize))?;
     assert!(rt; text.as_str() == "RangeListsOffset(7)");
     Ok(())
@@ -148,10 +133,7 @@ fn sections_are_kept_and_replaced(rt: HostRuntime) -> std::result::Result<(), Fa
 
 #[test]
 fn is_of_version_5_by_default(rt: HostRuntime) {
-    let mut header = ListsHeader::default();
+    let header = ListsHeader::default();
     assert!(rt; header.encoding == encoding(5, 0));
     assert!(rt; header.offset_entry_count == 0);
-    assert!(rt; header.size() == 12);
-    header.encoding.format = Format::Dwarf64;
-    assert!(rt; header.size() == 20);
 }

@@ -1,16 +1,25 @@
-use crate::units::samples::{Input, input, reads};
-use gimli_base::{DebugAddrIndex, DwAt, DwForm, EndianSlice, LittleEndian};
+use crate::samples::{Part, part, table_of};
+use crate::units::samples::{raw_over, read, specification};
+use gimli_base::{DebugAddrIndex, LittleEndian};
 use gimli_units::{Attribute, AttributeValue, UnitOffset};
 use std::alloc::Global;
+use std::fmt::Debug;
 use std::process::Abort;
 use std::test::Fail;
 
+// Tries that a value is equal to what was copied from it.
+fn tries_equality<T: Copy + Debug + PartialEq>(rt: &impl Abort, value: T, copies: [T; 3]) {
+    for copied in copies {
+        assert_eq!(rt; copied, value);
+    }
+}
+
 // One value of each kind, in pairs that differ in what the kind holds.
-fn pairs<'a>() -> [(AttributeValue<Input<'a>>, AttributeValue<Input<'a>>); 4] {
+fn pairs<'a>() -> [(AttributeValue<Part<'a>>, AttributeValue<Part<'a>>); 4] {
     [
         (
-            AttributeValue::String(input(b"foo")),
-            AttributeValue::String(input(b"fop")),
+            AttributeValue::String(part(b"foo", LittleEndian)),
+            AttributeValue::String(part(b"fop", LittleEndian)),
         ),
         (AttributeValue::Data1(5), AttributeValue::Data1(6)),
         (
@@ -24,24 +33,11 @@ fn pairs<'a>() -> [(AttributeValue<Input<'a>>, AttributeValue<Input<'a>>); 4] {
     ]
 }
 
-// Tries that a value is equal to what is copied from it, and not to another.
-fn tries_equality(
-    rt: &impl Abort,
-    first: AttributeValue<Input<'_>>,
-    other: AttributeValue<Input<'_>>,
-) -> Result<(), Fail> {
-    let copied = first;
-    assert!(rt; copied == first);
-    assert!(rt; first.clone()? == first);
-    assert!(rt; first.copy() == first);
-    assert_ne!(rt; first, other);
-    Ok(())
-}
-
 #[test]
 fn values_are_equal_where_all_parts_are(rt: HostRuntime) -> Result<(), Fail> {
     for (i, (first, other)) in pairs().into_iter().enumerate() {
-        tries_equality(&rt, first, other)?;
+        tries_equality(&rt, first, [first, first.clone()?, first.copy()]);
+        assert_ne!(rt; first, other);
         for (j, (second, _)) in pairs().into_iter().enumerate() {
             assert!(rt; (first == second) == (i == j));
         }
@@ -53,19 +49,18 @@ fn values_are_equal_where_all_parts_are(rt: HostRuntime) -> Result<(), Fail> {
 fn attribute<'a>(
     rt: &impl Abort,
     alloc: Global,
-    declared: (u16, u16),
+    (name, form): (u16, u16),
     bytes: &'a [u8],
-) -> Result<Attribute<Input<'a>>, Fail> {
-    Ok(reads(rt, alloc, declared, EndianSlice::new(bytes, LittleEndian))?)
+) -> Result<Attribute<Part<'a>>, Fail> {
+    let table = table_of(alloc, &[0])?;
+    let mut raw = raw_over(part(bytes, LittleEndian), &table);
+    Ok(read(&mut raw, specification(rt, name, form))?)
 }
 
 #[test]
 fn attributes_are_equal_where_all_parts_are(rt: HostRuntime) -> Result<(), Fail> {
     let first = attribute(&rt, rt.alloc(), (0x03, 0x0b), &[5])?;
-    let copied = first;
-    assert!(rt; copied == first);
-    assert!(rt; first.clone()? == first);
-    assert!(rt; first.copy() == first);
+    tries_equality(&rt, first, [first, first.clone()?, first.copy()]);
     let others = [
         // another name
         attribute(&rt, rt.alloc(), (0x04, 0x0b), &[5])?,
@@ -77,14 +72,5 @@ fn attributes_are_equal_where_all_parts_are(rt: HostRuntime) -> Result<(), Fail>
     for other in others {
         assert_ne!(rt; other, first);
     }
-    Ok(())
-}
-
-#[test]
-fn shows_its_parts(rt: HostRuntime) -> Result<(), Fail> {
-    let shown = attribute(&rt, rt.alloc(), (0x3b, 0x0b), &[5])?;
-    assert!(rt; (shown.name(), shown.form()) == (DwAt(0x3b), DwForm(0x0b)));
-    assert!(rt; shown.raw_value() == AttributeValue::Data1(5));
-    assert!(rt; shown.value() == AttributeValue::Udata(5));
     Ok(())
 }

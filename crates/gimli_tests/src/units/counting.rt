@@ -75,8 +75,8 @@ impl<'a> Reader for Counting<'a> {
     ghost end_fits = { Prim.search rules };
 }
 
-// How often a reader skips where it passes forms with the bytes that stand before an empty block. The block is a part
-// of the reader after them, so it has the count.
+// How often a reader skips where it passes forms with the bytes that stand before an empty block. The block
+// is a part of the reader after them, so it has the count.
 fn skips_of(
     rt: &impl Abort,
     alloc: Global,
@@ -105,20 +105,13 @@ fn skips_of(
 
 #[test]
 fn passes_forms_of_known_sizes_by_one_skip(rt: HostRuntime) -> std::result::Result<(), Fail> {
-    let skips = skips_of(
-        &rt,
-        rt.alloc(),
-        &[0x06, 0x05, 0x0c],
-        b"\x01\x02\x03\x04\x05\x06\x01\0",
-    )?;
-    assert!(rt; skips == 1);
-    // of no bytes too
-    let skips = skips_of(
-        &rt,
-        rt.alloc(),
-        &[0x19, 0x0b, 0x19, 0x14],
-        b"\0\0\0\0\0\0\0\0\0\0",
-    )?;
-    assert!(rt; skips == 1);
+    let cases: [(&[u16], &[u8]); 2] = [
+        (&[0x06, 0x05, 0x0c], b"\x01\x02\x03\x04\x05\x06\x01\0"),
+        // of no bytes too
+        (&[0x19, 0x0b, 0x19, 0x14], b"\0\0\0\0\0\0\0\0\0\0"),
+    ];
+    for (forms, bytes) in cases {
+        assert!(rt; skips_of(&rt, rt.alloc(), forms, bytes)? == 1);
+    }
     Ok(())
 }

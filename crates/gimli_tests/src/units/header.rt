@@ -1,177 +1,144 @@
-use crate::samples::version_4;
-use crate::units::samples::{Input, input};
+use crate::samples::{Part, encoding, part};
 use gimli_base::{
     DW_UT_hi_user, DW_UT_lo_user, DebugAbbrevOffset, DebugTypeSignature, DwoId, Encoding, Format,
-    Reader, SectionId,
+    LittleEndian, Reader, SectionId,
 };
 use gimli_units::{UnitHeader, UnitOffset, UnitSectionOffset, UnitType};
 use std::process::Abort;
 use std::test::Fail;
 
-// The bytes of a unit's entries.
-const ENTRIES: [u8; 5] = [0x01, 0x0f, 0x02, 0x00, 0x02];
+// The parts of a unit.
+#[derive(Clone, Copy)]
+struct Parts {
+    encoding: Encoding,
+    length: u32,
+    unit_type: UnitType<usize>,
+    section: SectionId,
+    offset: usize,
+    abbreviations: usize,
+    entries: &'static [u8],
+}
 
-// The encoding of these parts.
-fn encoding_of(format: Format, version: u16, address_size: u8) -> Encoding {
-    Encoding {
-        format,
-        version,
-        address_size,
+// Those of the first unit of `.debug_info`.
+fn usual() -> Parts {
+    Parts {
+        encoding: encoding(4, 4),
+        length: 100,
+        unit_type: UnitType::Compilation,
+        section: SectionId::DebugInfo,
+        offset: 0,
+        abbreviations: 0,
+        entries: &[0x01, 0x0f, 0x02, 0x00, 0x02],
     }
 }
 
-// Where a unit is: its section, its offset there, and that of its abbreviations.
-type Place = (SectionId, usize, usize);
-
-// The beginning of `.debug_info`.
-const FIRST: Place = (SectionId::DebugInfo, 0, 0);
-
-// The header of these parts.
-fn header_of<'a>(
-    rt: &impl Abort,
-    encoding: Encoding,
-    (unit_length, unit_type): (u32, UnitType<usize>),
-    (section, offset, abbreviations): Place,
-    entries: Input<'a>,
-) -> UnitHeader<Input<'a>> {
-    assert!(rt; entries.len() <= unit_length as usize);
+// The unit of these parts.
+fn unit_of(rt: &impl Abort, parts: Parts) -> UnitHeader<Part<'static>> {
+    let entries = part(parts.entries, LittleEndian);
+    assert!(rt; entries.len() <= parts.length as usize);
     UnitHeader::new(
-        encoding,
-        unit_length as usize,
-        unit_type,
-        DebugAbbrevOffset(abbreviations),
-        section,
-        UnitSectionOffset(offset),
+        parts.encoding,
+        parts.length as usize,
+        parts.unit_type,
+        DebugAbbrevOffset(parts.abbreviations),
+        parts.section,
+        UnitSectionOffset(parts.offset),
         entries,
     )
 }
 
-// A type unit with a signature, and with the offset of the type's entry.
-fn type_unit(signature: u64, offset: usize) -> UnitType<usize> {
+// The type unit of a signature and of the offset of the type's entry, or that of a split file.
+fn type_unit(is_split: bool, signature: u64, offset: usize) -> UnitType<usize> {
+    let (type_signature, type_offset) = (DebugTypeSignature(signature), UnitOffset(offset));
+    if is_split {
+        return UnitType::SplitType {
+            type_signature,
+            type_offset,
+        };
+    }
     UnitType::TypeUnit {
-        type_signature: DebugTypeSignature(signature),
-        type_offset: UnitOffset(offset),
+        type_signature,
+        type_offset,
     }
 }
 
-// The same of a split file.
-fn split_type(signature: u64, offset: usize) -> UnitType<usize> {
-    UnitType::SplitType {
-        type_signature: DebugTypeSignature(signature),
-        type_offset: UnitOffset(offset),
-    }
-}
-
-// Each type of unit.
-fn unit_types() -> [UnitType<usize>; 7] {
+// Each type of unit, with the size of its header in the 32-bit format and in the 64-bit format, in a
+// version other than 5; and then the same types with other parts.
+fn unit_types() -> [(UnitType<usize>, usize, usize); 14] {
     [
-        UnitType::Compilation,
-        type_unit(5, 6),
-        UnitType::Partial,
-        UnitType::Skeleton(DwoId(5)),
-        UnitType::SplitCompilation(DwoId(5)),
-        split_type(5, 6),
-        UnitType::Vendor(DW_UT_lo_user),
+        (UnitType::Compilation, 11, 23),
+        (type_unit(false, 5, 6), 23, 39),
+        (UnitType::Partial, 11, 23),
+        (UnitType::Skeleton(DwoId(5)), 19, 31),
+        (UnitType::SplitCompilation(DwoId(5)), 19, 31),
+        (type_unit(true, 5, 6), 23, 39),
+        (UnitType::Vendor(DW_UT_lo_user), 11, 23),
+        (type_unit(false, 7, 6), 23, 39),
+        (type_unit(false, 5, 7), 23, 39),
+        (UnitType::Skeleton(DwoId(7)), 19, 31),
+        (UnitType::SplitCompilation(DwoId(7)), 19, 31),
+        (type_unit(true, 7, 6), 23, 39),
+        (type_unit(true, 5, 7), 23, 39),
+        (UnitType::Vendor(DW_UT_hi_user), 11, 23),
     ]
 }
 
-#[test]
-fn shows_versions_and_sizes_that_no_bytes_give(rt: HostRuntime) {
-    let encoding = encoding_of(Format::Dwarf32, 0xffff, 0xff);
-    let usual = (12, UnitType::Compilation);
-    let unit = header_of(&rt, encoding, usual, FIRST, input(&ENTRIES));
-    assert!(rt; unit.encoding() == encoding);
-    assert!(rt; (unit.version(), unit.address_size()) == (0xffff, 0xff));
-}
-
-// The sizes of the headers of each type in a format, in a version other than 5.
-fn sizes_of(format: Format) -> [usize; 7] {
-    match format {
-        Format::Dwarf32 => [11, 23, 11, 19, 19, 23, 11],
-        Format::Dwarf64 => [23, 39, 23, 31, 31, 39, 23],
-    }
-}
-
-// Tries the headers of a format and a version.
-fn tries_sizes(rt: &impl Abort, format: Format, version: u16) {
-    let encoding = encoding_of(format, version, 4);
-    for (unit_type, size) in unit_types().into_iter().zip(sizes_of(format)) {
-        let unit = header_of(rt, encoding, (100, unit_type), FIRST, input(&ENTRIES));
-        assert_eq!(rt; unit.size_of_header(), size, "{unit_type:?}");
-        assert!(rt; unit.type_() == unit_type);
+// The 64-bit format, a version, and addresses of 4 bytes.
+fn of_64_bits_in(version: u16) -> Encoding {
+    Encoding {
+        format: Format::Dwarf64,
+        version,
+        address_size: 4,
     }
 }
 
 #[test]
 fn types_that_no_bytes_give_have_sizes(rt: HostRuntime) {
-    for format in [Format::Dwarf32, Format::Dwarf64] {
+    for (unit_type, of_32_bits, of_64_bits) in unit_types() {
         for version in [2, 3, 4, 6] {
-            tries_sizes(&rt, format, version);
+            let mut parts = usual();
+            parts.unit_type = unit_type;
+            parts.encoding = encoding(version, 4);
+            let unit = unit_of(&rt, parts);
+            assert_eq!(rt; unit.size_of_header(), of_32_bits, "{unit_type:?}");
+            assert!(rt; unit.type_() == unit_type);
+            parts.encoding = of_64_bits_in(version);
+            let unit = unit_of(&rt, parts);
+            assert_eq!(rt; unit.size_of_header(), of_64_bits, "{unit_type:?}");
         }
     }
 }
 
 #[test]
-fn types_of_other_variants_differ(rt: HostRuntime) {
-    for (i, first) in unit_types().into_iter().enumerate() {
-        for (j, second) in unit_types().into_iter().enumerate() {
+fn types_of_other_variants_or_parts_differ(rt: HostRuntime) {
+    for (i, (first, ..)) in unit_types().into_iter().enumerate() {
+        for (j, (second, ..)) in unit_types().into_iter().enumerate() {
             assert_eq!(rt; first == second, i == j, "{first:?} {second:?}");
         }
     }
 }
 
 #[test]
-fn types_with_other_parts_differ(rt: HostRuntime) {
-    let others = [
-        type_unit(7, 6),
-        type_unit(5, 7),
-        split_type(7, 6),
-        split_type(5, 7),
-        UnitType::Skeleton(DwoId(7)),
-        UnitType::SplitCompilation(DwoId(7)),
-        UnitType::Vendor(DW_UT_hi_user),
-    ];
-    for other in others {
-        assert!(rt;
-            unit_types().iter().all(|known| *known != other),
-            "{other:?}"
-        );
-    }
-}
-
-#[test]
 fn units_with_other_parts_differ(rt: HostRuntime) -> Result<(), Fail> {
-    let usual = (12, UnitType::Compilation);
-    let unit = header_of(&rt, version_4(), usual, FIRST, input(&ENTRIES));
+    let unit = unit_of(&rt, usual());
     assert!(rt; unit.copy() == unit);
     assert!(rt; unit.clone()? == unit);
-    let others = [
-        ((13, UnitType::Compilation), FIRST),
-        ((12, UnitType::Partial), FIRST),
-        (usual, (SectionId::DebugTypes, 0, 0)),
-        (usual, (SectionId::DebugInfo, 1, 0)),
-        (usual, (SectionId::DebugInfo, 0, 1)),
-    ];
-    for (other, place) in others {
-        let found = header_of(&rt, version_4(), other, place, input(&ENTRIES));
-        assert_ne!(rt; found, unit);
+    let mut others = [usual(); 9];
+    others[0].length = 101;
+    others[1].unit_type = UnitType::Partial;
+    others[2].section = SectionId::DebugTypes;
+    others[3].offset = 1;
+    others[4].abbreviations = 1;
+    others[5].encoding = of_64_bits_in(4);
+    // versions and sizes that no bytes give are shown too
+    others[6].encoding = encoding(0xffff, 4);
+    others[7].encoding = encoding(4, 0xff);
+    others[8].entries = &[0x01, 0x0f, 0x02, 0x00, 0x01];
+    for other in others {
+        let found = unit_of(&rt, other);
+        assert!(rt; found != unit && found.encoding() == other.encoding);
+        assert!(rt; found.version() == other.encoding.version);
+        assert!(rt; found.address_size() == other.encoding.address_size);
     }
     Ok(())
-}
-
-#[test]
-fn units_with_other_encodings_or_entries_differ(rt: HostRuntime) {
-    let usual = (12, UnitType::Compilation);
-    let unit = header_of(&rt, version_4(), usual, FIRST, input(&ENTRIES));
-    let encodings = [
-        encoding_of(Format::Dwarf64, 4, 4),
-        encoding_of(Format::Dwarf32, 5, 4),
-        encoding_of(Format::Dwarf32, 4, 8),
-    ];
-    for encoding in encodings {
-        let found = header_of(&rt, encoding, usual, FIRST, input(&ENTRIES));
-        assert_ne!(rt; found, unit);
-    }
-    let entries = input(&[0x01, 0x0f, 0x02, 0x00, 0x01]);
-    assert_ne!(rt; header_of(&rt, version_4(), usual, FIRST, entries), unit);
 }

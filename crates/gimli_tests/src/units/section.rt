@@ -1,5 +1,4 @@
-use crate::samples::version_4;
-use crate::units::samples::Input;
+use crate::samples::{Part, encoding};
 use gimli_base::{DebugAbbrevOffset, EndianSlice, LittleEndian, SectionId};
 use gimli_units::{
     DebugInfoOffset, DebugTypesOffset, UnitHeader, UnitOffset, UnitSectionOffset, UnitType,
@@ -19,9 +18,9 @@ const OTHERS: [SectionId; 8] = [
 ];
 
 // A unit of a section, whose length is 0x14; its entries begin at 0x0b.
-fn unit_in(section: SectionId, offset: usize) -> UnitHeader<Input<'static>> {
+fn unit_in(section: SectionId, offset: usize) -> UnitHeader<Part<'static>> {
     UnitHeader::new(
-        version_4(),
+        encoding(4, 4),
         0x10,
         UnitType::Compilation,
         DebugAbbrevOffset(0),
@@ -32,7 +31,7 @@ fn unit_in(section: SectionId, offset: usize) -> UnitHeader<Input<'static>> {
 }
 
 // Tries an offset of the section in which the unit lies, which is neither `.debug_info` nor `.debug_types`.
-fn tries_own(rt: &impl Abort, unit: &UnitHeader<Input<'_>>) {
+fn tries_own(rt: &impl Abort, unit: &UnitHeader<Part<'_>>) {
     let own = UnitSectionOffset(0x2b);
     assert!(rt; own.to_unit_offset(unit) == Some(UnitOffset(0x0b)));
     assert!(rt; own.to_debug_info_offset(unit) == None);
@@ -41,7 +40,7 @@ fn tries_own(rt: &impl Abort, unit: &UnitHeader<Input<'_>>) {
 }
 
 // Tries offsets of `.debug_info` and of `.debug_types` in a unit that lies in neither.
-fn tries_others(rt: &impl Abort, unit: &UnitHeader<Input<'_>>) {
+fn tries_others(rt: &impl Abort, unit: &UnitHeader<Part<'_>>) {
     let (info, types) = (DebugInfoOffset(0x2b), DebugTypesOffset(0x2b));
     assert!(rt; info.to_unit_offset(unit) == None);
     assert!(rt; info.to_unit_section_offset(unit) == None);
@@ -50,7 +49,7 @@ fn tries_others(rt: &impl Abort, unit: &UnitHeader<Input<'_>>) {
 }
 
 // Tries an offset of a unit at 0x20 that lies in neither section.
-fn tries_of_unit(rt: &impl Abort, unit: &UnitHeader<Input<'_>>) {
+fn tries_of_unit(rt: &impl Abort, unit: &UnitHeader<Part<'_>>) {
     let offset = UnitOffset(0x0b);
     assert!(rt; unit.offset() == UnitSectionOffset(0x20));
     assert!(rt; offset.to_unit_section_offset(unit) == UnitSectionOffset(0x2b));
@@ -72,7 +71,7 @@ fn offsets_of_other_sections_are_of_neither_kind(rt: HostRuntime) {
 }
 
 // Tries what the last offset of each kind is in a unit.
-fn tries_last(rt: &impl Abort, unit: &UnitHeader<Input<'_>>, wanted: Option<UnitOffset<usize>>) {
+fn tries_last(rt: &impl Abort, unit: &UnitHeader<Part<'_>>, wanted: Option<UnitOffset<usize>>) {
     let last = UnitSectionOffset(usize::MAX);
     assert!(rt; last.to_unit_offset(unit) == wanted);
     let types = DebugTypesOffset(usize::MAX);
@@ -82,16 +81,9 @@ fn tries_last(rt: &impl Abort, unit: &UnitHeader<Input<'_>>, wanted: Option<Unit
 #[test]
 fn reaches_the_last_offset(rt: HostRuntime) {
     // the unit ends where the offsets do
-    let start = usize::MAX - 0x13;
-    let unit = UnitHeader::new(
-        version_4(),
-        0x10,
-        UnitType::Compilation,
-        DebugAbbrevOffset(0),
-        SectionId::DebugTypes,
-        UnitSectionOffset(start),
-        EndianSlice::new(&[1, 2, 3, 4, 5, 6, 7, 8, 9], LittleEndian),
-    );
+    let begin = usize::MAX - 0x13;
+    let unit = unit_in(SectionId::DebugTypes, begin);
+    assert!(rt; unit.offset() == UnitSectionOffset(begin));
     tries_last(&rt, &unit, Some(UnitOffset(0x13)));
     let last = UnitSectionOffset(usize::MAX);
     let types = DebugTypesOffset(usize::MAX);

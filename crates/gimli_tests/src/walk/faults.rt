@@ -1,7 +1,6 @@
 ghost use Rattle.std.specs.Prelude.{None};
 
-use crate::samples::TABLE_NESTED_STRINGS;
-use crate::walk::samples::THREE_NESTED;
+use crate::samples::{TABLE_NESTED_STRINGS, THREE_NESTED};
 use gimli_walk::run_words;
 use std::alloc::Global;
 use std::io::{Error, ErrorKind, Write};
@@ -32,17 +31,16 @@ impl Write for NeverFlushed {
     }
 }
 
+// The status of words of the program over two writers.
+fn status_of<W: Write, E: Write>(alloc: Global, words: &[&str], out: &mut W, err: &mut E) -> u8 {
+    let read = |name: &str| -> Option<Vec<u8>> { file(alloc, name) };
+    run_words(alloc, words, &read, out, err)
+}
+
 // Tries words whose text can't be written: they end with status 3, and say nothing.
 fn tries_words<W: Write>(rt: &impl Abort, alloc: Global, words: &[&str], out: &mut W) {
     let mut err = Vec::new(alloc);
-    let status = run_words(
-        alloc,
-        words,
-        |name: &str| -> Option<Vec<u8>> { file(alloc, name) },
-        out,
-        &mut err,
-    );
-    assert_eq!(rt; status, 3, "at {words:?}");
+    assert_eq!(rt; status_of(alloc, words, out, &mut err), 3, "at {words:?}");
     assert!(rt; err.is_empty());
 }
 
@@ -68,13 +66,7 @@ fn ignores_a_fault_of_the_second_writer(rt: HostRuntime) {
         let mut out = Vec::new(rt.alloc());
         let mut space = [0u8; 3];
         let mut err: &mut [u8] = &mut space;
-        let status = run_words(
-            rt.alloc(),
-            words,
-            |name: &str| -> Option<Vec<u8>> { file(rt.alloc(), name) },
-            &mut out,
-            &mut err,
-        );
+        let status = status_of(rt.alloc(), words, &mut out, &mut err);
         assert_eq!(rt; status, wanted, "at {words:?}");
         assert!(rt; out.is_empty());
     }

@@ -17,13 +17,7 @@ const R: TreeStep = TreeStep::Root;
 fn requests_of(rt: &impl Abort, alloc: Global, mode: Mode<'_>) -> u64 {
     let heap = Failing::new(alloc, Refusal::Never);
     let mut out = Vec::new(alloc);
-    let status = walk_text(
-        &heap,
-        mode,
-        &EIGHT,
-        &[0x01, 0x34, 0x00, 0x00, 0x00, 0x00],
-        &mut out,
-    );
+    let status = walk_text(&heap, mode, &EIGHT, &[0x01, 0x34, 0, 0, 0, 0], &mut out);
     assert!(rt; status == Ok(0));
     heap.requests()
 }

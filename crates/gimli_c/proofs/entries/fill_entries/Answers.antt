@@ -36,7 +36,7 @@ returns-in-Err g c =
     let room : c.rows.count < length c.args.rows.now =
     omega (arith, c.rows-test.true, c.rows.auto.rows) in
     let depth = rw back at c.place_of-place.ensures.depth in
-    rw (c.ended.ensures, c.wrote.ensures, c.row_refused.ensures)
+    rw (c.told_entries.ensures, c.wrote.ensures, c.row_refused.ensures)
     (entries_refused g.R.Offset.ReaderOffset.limit c.args.base c.args.entries.now c.rows.entries
     c.args.rows.now c.rows.rows c.args.attrs.now c.rows.attrs c.place_of-place.result c.rows.count
     c.rows.used
@@ -59,7 +59,7 @@ returns-then-attributes-attrs g c =
     ∙ length-map e.attributes attr_of in
     let large : length c.args.attrs.now - c.rows.used < length e.attributes =
     omega (arith, many, c.if-attributes-attrs.true, c.rows.auto.attrs) in
-    rw (c.ended-then-attributes-attrs.ensures, c.wrote-then-attributes-attrs.ensures, many)
+    rw (c.told_entries-then-attributes-attrs.ensures, c.wrote-then-attributes-attrs.ensures, many)
     (entries_large g.R.Offset.ReaderOffset.limit c.args.base c.args.entries.now c.rows.entries
     c.args.rows.now c.rows.rows c.args.attrs.now c.rows.attrs c.place_of-place.result c.rows.count
     c.rows.used
@@ -108,7 +108,7 @@ returns g c =
     elim c.if-is_empty.branch [
       | then-is_empty w ↦
           let none : length p.rest.bytes ≡ 0 = c.is_empty-2.ensures.0 w.if-is_empty.true in
-          rw (c.ended-2.ensures, c.wrote-2.ensures, w.status-is)
+          rw (c.told_entries-2.ensures, c.wrote-2.ensures, w.status-is)
           (entries_ended limit c.args.base c.args.entries.now p c.args.rows.now
           c.rows.rows c.args.attrs.now c.rows.attrs c.place_of.result c.rows.count c.rows.used
           f offset depth none)
@@ -120,7 +120,7 @@ returns g c =
                 absurd (some (v.is_empty.ensures.0 (cc)))
             | else-rows-test v ↦ omega (arith, v.rows-test.false, c.rows.auto.rows)
           ] in
-          rw (c.ended-2.ensures, c.wrote-2.ensures, w.status-is)
+          rw (c.told_entries-2.ensures, c.wrote-2.ensures, w.status-is)
           (entries_full limit c.args.base c.args.entries.now p c.args.rows.now
           c.rows.rows c.args.attrs.now c.rows.attrs c.place_of.result c.rows.count c.rows.used
           f offset depth some full)

@@ -14,8 +14,8 @@ returns-clause-told g c =
     let number = g.R.Offset.ReaderOffset.number c.args.offset in
     let u = unit_view c.in-Ok.header in
     rw (
-      c.stopped-in-Err-abbreviations.ensures,
-      c.refused-in-Err-abbreviations.ensures,
+      c.no_entries-in-Err-abbreviations.ensures,
+      c.refusal_status-in-Err-abbreviations.ensures,
       back,
       ← c.in-Ok.ensures,
     )

@@ -18,7 +18,7 @@ returns-then-start-whole g c =
     let here : number ≡ whole_length (unit_view c.args.unit.now) =
     sym c.into_u64-start.ensures.value ∙ c.if-start-whole.true ∙ c.into_u64-whole.ensures.value
     ∙ c.length_including_self.ensures in
-    rw (c.stopped.ensures, back)
+    rw (c.no_entries.ensures, back)
     (told_ended g.R.Offset.ReaderOffset.limit (unit_view c.args.unit.now) c.args.table.now
     (at number c.args.depth) c.args.rows.now c.args.attrs.now c.args.unit.now.entries_fit here)
 
@@ -29,7 +29,7 @@ returns-in-Err g c =
     let apart : number ≡ whole_length (unit_view c.args.unit.now) → ⊥ =
     λ h. c.if-start-whole.false (c.into_u64-start.ensures.value ∙ h
     ∙ sym (c.into_u64-whole.ensures.value ∙ c.length_including_self.ensures)) in
-    rw (c.stopped-in-Err.ensures, c.refused.ensures, back)
+    rw (c.no_entries-in-Err.ensures, c.refusal_status.ensures, back)
     (told_outside g.R.Offset.ReaderOffset.limit (unit_view c.args.unit.now) c.args.table.now
     (at number c.args.depth) c.args.rows.now c.args.attrs.now apart c.in-Err.error
     c.in-Err.ensures)
@@ -72,7 +72,7 @@ returns-then-left g c =
         steps,
       )
     ] in
-    rw (c.stopped-then-left.ensures, back)
+    rw (c.no_entries-then-left.ensures, back)
     (told_deep g.R.Offset.ReaderOffset.limit (unit_view c.args.unit.now) c.args.table.now
     (at number c.args.depth) c.args.rows.now c.args.attrs.now apart c.in-Ok.entries
     c.in-Ok.ensures deep)

@@ -41,6 +41,6 @@ returns-in-Err-clause-told g c = λ _ _ _.
           rw w.if-follows.false
           (sym c.in-Err.is ∙ w.cursor-is ∙ w.entries_plain_at_offset-cursor.ensures)
     ] in
-    rw c.refused.ensures
+    rw c.refusal_status.ensures
     (sibling_refused g.R.Offset.ReaderOffset.limit u t c.args.follows n c.args.depth c.args.row.now
     c.in-Err.error is)

@@ -44,7 +44,7 @@ pub walk-smaller : goal.walk-smaller
 walk-smaller g c =
     let no = c.in_ok-next.was ∙ ap Ok c.if-branch.false in
     let sound = c.walk.invariant.0.tree.sound in
-    let some = rw c.entered.ensures at c.walk-test.true in
+    let some = rw c.list_count.ensures at c.walk-test.true in
     let gone = step_out g.R.Offset.ReaderOffset.limit c.walk.walker c.next.new.self sound
     c.walk.walker.lists c.walk.count c.leave.new.self (rw no at c.next.ensures.asked)
     c.walk.invariant.1 some c.leave.ensures.left.1 in
@@ -56,7 +56,7 @@ pub walk-preserved : goal.walk-preserved
 walk-preserved g c =
     let no = c.in_ok-next.was ∙ ap Ok c.if-branch.false in
     let sound = c.walk.invariant.0.tree.sound in
-    let some = rw c.entered.ensures at c.walk-test.true in
+    let some = rw c.list_count.ensures at c.walk-test.true in
     let gone = step_out g.R.Offset.ReaderOffset.limit c.walk.walker c.next.new.self sound
     c.walk.walker.lists c.walk.count c.leave.new.self (rw no at c.next.ensures.asked)
     c.walk.invariant.1 some c.leave.ensures.left.1 in
@@ -67,10 +67,10 @@ walk-preserved g c =
 pub returns : goal.returns
 returns g c =
     let least = c.walk-test.false in
-    let none : c.entered.result ≡ 0 = omega (arith, least) in
+    let none : c.list_count.result ≡ 0 = omega (arith, least) in
     record {
       counted = sym
           (c.walk.invariant.3
           ∙ none_left g.R.Offset.ReaderOffset.limit c.walk.walker c.walk.walker.lists c.walk.count
-          refl (sym c.entered.ensures ∙ none));
+          refl (sym c.list_count.ensures ∙ none));
     }

@@ -3,7 +3,7 @@ use Rattle.gimli_lists.proofs.PlaceSteps.{first_answer, list_answers-listed}
 use Rattle.gimli_lists.specs.LocationEntry.{location_grammar}
 use Rattle.gimli_lists.specs.LocationReads.{location_grammar-takes}
 use Rattle.gimli_lists.specs.Locations.{location_of}
-use Rattle.gimli_walk.specs.Runs.{run-from_yields}
+use Rattle.gimli_walk.proofs.RunSteps.{run-from_yields}
 use Rattle.gimli_walk.proofs.locations.run_locations.Goals as goal
 
 pub returns : goal.returns

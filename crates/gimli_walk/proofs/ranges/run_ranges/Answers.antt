@@ -3,7 +3,7 @@ use Rattle.gimli_lists.proofs.PlaceSteps.{first_answer, list_answers-listed}
 use Rattle.gimli_lists.specs.RangeEntry.{range_grammar}
 use Rattle.gimli_lists.specs.RangeReads.{range_grammar-takes}
 use Rattle.gimli_lists.specs.Ranges.{resolved_of}
-use Rattle.gimli_walk.specs.Runs.{run-from_yields}
+use Rattle.gimli_walk.proofs.RunSteps.{run-from_yields}
 use Rattle.gimli_walk.proofs.ranges.run_ranges.Goals as goal
 
 pub returns : goal.returns

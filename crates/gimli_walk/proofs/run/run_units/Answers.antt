@@ -1,6 +1,6 @@
 use Rattle.gimli_base.specs.declared.common.SectionId.TheVariants.{DebugInfo as InfoSection}
 use Rattle.gimli_headers.proofs.UnitSteps.{answers_ahead, first_answer}
-use Rattle.gimli_walk.specs.Runs.{run-from_yields}
+use Rattle.gimli_walk.proofs.RunSteps.{run-from_yields}
 use Rattle.gimli_walk.proofs.run.run_units.Goals as goal
 
 pub returns : goal.returns

@@ -25,15 +25,15 @@ returns-in_default-read g c =
 pub returns : goal.returns
 returns g c =
     of_both g.F.FnMut (λ v. v.items) c.args.read (g.W.Write.contents c.args.out.now)
-    (g.W.Write.contents c.dump_text.new.out) (g.W.Write.contents c.flushed.new.out)
+    (g.W.Write.contents c.dump_text.new.out) (g.W.Write.contents c.flush_status.new.out)
     c.read.new.self c.read-2.new.self c.args.info.now c.args.abbrev.now c.in-Some.info_bytes
     c.in-Some-read.abbrev_bytes
     (λ o i t s. Wrote (g.W.Write.contents c.args.out.now) o (dump_of i t) s)
     (λ b d i t s. Wrote-kept _ b d _ s)
-    c.dump_text.result c.unwrap_or-status.result c.flushed.result
+    c.dump_text.result c.unwrap_or-status.result c.flush_status.result
     (subst (λ o. CalledAt g.F.FnMut c.args.read c.args.info.now o c.read.new.self) c.in-Some.is
     (record { shown = _; shows = refl; called = c.read.ensures }))
     (subst (λ o. CalledAt g.F.FnMut c.read.new.self c.args.abbrev.now o c.read-2.new.self)
     c.in-Some-read.is (record { shown = _; shows = refl; called = c.read-2.ensures }))
     (rw (← c.deref.ensures.value, ← c.deref-2.ensures.value) c.dump_text.ensures.text)
-    c.unwrap_or-status.ensures c.flushed.ensures
+    c.unwrap_or-status.ensures c.flush_status.ensures

@@ -20,13 +20,13 @@ returns g c =
     let value = rw c.in-Some.is at c.address_in.ensures.value in
     at_address value.0 (rw (← value.1)
     (of_one g.F.FnMut (λ v. v.items) c.args.read (g.W.Write.contents c.args.out.now)
-    (g.W.Write.contents c.find_text.new.out) (g.W.Write.contents c.flushed.new.out)
+    (g.W.Write.contents c.find_text.new.out) (g.W.Write.contents c.flush_status.new.out)
     c.read.new.self c.args.aranges.now c.in-Some-read.bytes
     (λ o bytes s. WroteAll (g.W.Write.contents c.args.out.now) o (find_of c.in-Some.address bytes)
     s)
     (λ b d bytes s. WroteAll-kept _ b d _ s)
-    c.find_text.result c.unwrap_or-status.result c.flushed.result
+    c.find_text.result c.unwrap_or-status.result c.flush_status.result
     (subst (λ o. CalledAt g.F.FnMut c.args.read c.args.aranges.now o c.read.new.self)
     c.in-Some-read.is (record { shown = _; shows = refl; called = c.read.ensures }))
     (rw (← c.deref.ensures.value) c.find_text.ensures)
-    c.unwrap_or-status.ensures c.flushed.ensures))
+    c.unwrap_or-status.ensures c.flush_status.ensures))

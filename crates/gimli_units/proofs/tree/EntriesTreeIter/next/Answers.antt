@@ -1,4 +1,4 @@
-use Rattle.std.proofs.Common.{rules, ◌≡◌, sym, ◌∙◌, Ok, Err, true, false}
+use Rattle.std.proofs.Common.{rules, ◌≡◌, refl, sym, ap, ◌∙◌, [], Ok, Err, true, false}
 use Rattle.gimli_units.proofs.TreeSteps.{end_told}
 use Rattle.gimli_units.proofs.tree.EntriesTreeIter.next.Goals as goal
 
@@ -39,3 +39,23 @@ pub returns-clause-as_advance : goal.returns-clause-as_advance
 returns-clause-as_advance g c opened near =
     let yes : c.advance.result ≡ Ok true = search rules in
     (c.advance.new.self.tree.now, rw yes at c.advance.ensures.gone_on opened near)
+
+pub returns-clause-child : goal.returns-clause-child
+returns-clause-child g c =
+    let yes : c.advance.result ≡ Ok true = search rules in
+    let asked = c.advance.ensures.moved (λ k. let x = sym yes ∙ k in absurd (cc)) in
+    let gone = rw yes at asked.1 in
+    let found = gone.sought.yes refl in
+    rw c.node.ensures.tree (
+    record {
+      true_entry = found.0;
+      no_null = found.1;
+      deep = found.2;
+      past = gone.past refl;
+      inside = λ near. record { low = gone.inside refl; shallow = near };
+      place = λ honest. rw asked.0 (ap (λ moved. moved.place) (gone.goes honest []));
+      gone_on = gone;
+      few = gone.sought.few;
+      one_read = λ deep t leads. gone.sought.once t leads deep;
+    }
+    )

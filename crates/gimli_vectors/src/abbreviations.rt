@@ -1,0 +1,95 @@
+//! Tables of abbreviations, and declarations of codes.
+
+use crate::attributes::Raw;
+use crate::entries::{table_of, write_next};
+use crate::units::unit_of;
+use gimli_base::{
+    Abbreviation, DebugAbbrev, DebugAbbrevOffset, Encoding, Format, Reader, ReaderOffset,
+};
+use gimli_units::{EntriesRaw, UnitOffset};
+use std::alloc::Global;
+use std::io::Write;
+use test_tables::{Call, Outcome, Stop, write_refusal};
+
+/// Writes the refusal of the table at an offset, or the declaration of each code that is asked for.
+pub(crate) fn write_abbreviations<R: Reader>(call: &Call<'_, R>, out: &mut Vec<u8>) -> Outcome {
+    let section = DebugAbbrev::from(call.section(0)?);
+    let offset = DebugAbbrevOffset(call.offset_or_zero(1)?);
+    let table = section.abbreviations(call.alloc, offset)?;
+    for index in 2..call.case.words.len() {
+        let code = call.number(index)?;
+        match table.get(code) {
+            Some(declared) => write_declared(declared, out)?,
+            None => write!(out, "{code} none")?,
+        }
+        writeln!(out)?;
+    }
+    Ok(())
+}
+
+/// Writes the declarations of a unit's codes up to 9.
+pub(crate) fn write_unit_table<R: Reader>(call: &Call<'_, R>, out: &mut Vec<u8>) -> Outcome {
+    let table = table_of(call, &unit_of(call)?)?;
+    for code in 1..10 {
+        if let Some(declared) = table.get(code) {
+            write_declared(declared, out)?;
+            writeln!(out)?;
+        }
+    }
+    Ok(())
+}
+
+// Writes a declaration: its code and tag, whether there are children, and the attributes.
+fn write_declared(declared: &Abbreviation<Global>, out: &mut Vec<u8>) -> Outcome {
+    write!(out, "{} tag 0x{:x}", declared.code(), declared.tag().0)?;
+    if declared.has_children() {
+        write!(out, " children")?;
+    }
+    for attribute in declared.attributes() {
+        let (name, form) = (attribute.name().0, attribute.form().0);
+        write!(out, " 0x{name:x}:0x{form:x}")?;
+        if let Some(constant) = attribute.implicit_const_value() {
+            write!(out, ":{constant}")?;
+        }
+    }
+    Ok(())
+}
+
+/// Writes the declarations of codes that stand one after the other, up to the one that is refused.
+pub(crate) fn write_codes<R: Reader>(call: &Call<'_, R>, out: &mut Vec<u8>) -> Outcome {
+    let input = call.section(0)?;
+    let start = call.offset_or_zero(1)?;
+    let begin = DebugAbbrevOffset(R::Offset::from_u8(0));
+    let table = DebugAbbrev::from(call.section(1)?).abbreviations(call.alloc, begin)?;
+    if start.checked_add(input.len()).is_none() {
+        return Err(Stop::Lacks("no offset"));
+    }
+    let encoding = Encoding {
+        format: Format::Dwarf32,
+        version: 4,
+        address_size: 4,
+    };
+    let mut raw = EntriesRaw::new(input, encoding, &table, UnitOffset(start));
+    for _ in 0..1_000_000 {
+        if !write_code(&mut raw, out)? {
+            return Ok(());
+        }
+    }
+    Ok(())
+}
+
+// Writes the declaration of the next code, and `end` where no byte was left. Whether it was read.
+fn write_code<R: Reader>(raw: &mut Raw<'_, R>, out: &mut Vec<u8>) -> Outcome<bool> {
+    if raw.is_empty() {
+        write!(out, "end ")?;
+    }
+    let answer = raw.read_abbreviation();
+    let found = answer.is_ok();
+    match answer {
+        Ok(Some(declared)) => write_declared(declared, out)?,
+        Ok(None) => write!(out, "null")?,
+        Err(error) => write_refusal(out, error)?,
+    }
+    write_next(raw, out)?;
+    Ok(found)
+}
