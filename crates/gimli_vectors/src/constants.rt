@@ -4,7 +4,7 @@ use gimli_base::*;
 use std::io::Write;
 use test_tables::{Case, Outcome, Stop};
 
-// The number of a code's name among codes.
+// The number of a code's name among codes; the time of its proof is as the square of their number.
 macro_rules! number_of {
     ($name:expr; $($code:ident)*) => {{
         for (own, number) in [$((stringify!($code), u64::from($code.0))),*] {
@@ -24,6 +24,10 @@ pub(crate) fn write_code(case: &Case, out: &mut Vec<u8>) -> Outcome {
         Some("AT") => number_of_attribute(name),
         Some("FORM") => number_of_form(name),
         Some("LANG") => number_of_language(name),
+        Some("UT") => number_of_unit_type(name),
+        Some("RLE" | "LLE") => number_of_list_entry(name),
+        Some("ATE" | "DS" | "END") => number_of_base_type(name),
+        Some("CC") => number_of_convention(name),
         Some("CHILDREN") if name == "DW_CHILDREN_no" => Some(u64::from(DW_CHILDREN_no)),
         Some("CHILDREN") if name == "DW_CHILDREN_yes" => Some(u64::from(DW_CHILDREN_yes)),
         _ => number_of_other(name),
@@ -78,23 +82,49 @@ fn number_of_language(name: &str) -> Option<u64> {
     )
 }
 
+// The numbers of types of units.
+fn number_of_unit_type(name: &str) -> Option<u64> {
+    number_of!(name;
+        DW_UT_compile DW_UT_type DW_UT_partial DW_UT_skeleton DW_UT_split_compile DW_UT_split_type DW_UT_lo_user
+        DW_UT_hi_user
+    )
+}
+
+// The numbers of entries of lists.
+fn number_of_list_entry(name: &str) -> Option<u64> {
+    number_of!(name;
+        DW_RLE_end_of_list DW_RLE_base_addressx DW_RLE_startx_endx DW_RLE_startx_length DW_RLE_offset_pair
+        DW_RLE_base_address DW_RLE_start_end DW_RLE_start_length DW_LLE_end_of_list DW_LLE_base_addressx
+        DW_LLE_startx_endx DW_LLE_startx_length DW_LLE_offset_pair DW_LLE_default_location DW_LLE_base_address
+        DW_LLE_start_end DW_LLE_start_length DW_LLE_GNU_view_pair
+    )
+}
+
+// The numbers of what base types tell: encodings, signs and byte orders.
+fn number_of_base_type(name: &str) -> Option<u64> {
+    number_of!(name;
+        DW_ATE_address DW_ATE_boolean DW_ATE_signed DW_ATE_unsigned_char DW_ATE_decimal_float DW_ATE_UTF
+        DW_ATE_ASCII DW_ATE_lo_user DW_ATE_hi_user DW_DS_unsigned DW_DS_leading_overpunch
+        DW_DS_trailing_overpunch DW_DS_leading_separate DW_DS_trailing_separate DW_END_default DW_END_big
+        DW_END_little DW_END_lo_user DW_END_hi_user
+    )
+}
+
+// The numbers of calling conventions.
+fn number_of_convention(name: &str) -> Option<u64> {
+    number_of!(name;
+        DW_CC_normal DW_CC_program DW_CC_nocall DW_CC_pass_by_reference DW_CC_pass_by_value DW_CC_lo_user
+        DW_CC_GNU_renesas_sh DW_CC_GNU_borland_fastcall_i386 DW_CC_BORLAND_safecall DW_CC_BORLAND_fastcall
+        DW_CC_LLVM_vectorcall DW_CC_LLVM_Swift DW_CC_LLVM_X86RegCall DW_CC_hi_user
+    )
+}
+
 // The numbers of the other codes.
 fn number_of_other(name: &str) -> Option<u64> {
     number_of!(name;
-        DW_UT_compile DW_UT_type DW_UT_partial DW_UT_skeleton DW_UT_split_compile DW_UT_split_type DW_UT_lo_user
-        DW_UT_hi_user DW_RLE_end_of_list DW_RLE_base_addressx DW_RLE_startx_endx DW_RLE_startx_length
-        DW_RLE_offset_pair DW_RLE_base_address DW_RLE_start_end DW_RLE_start_length DW_LLE_end_of_list
-        DW_LLE_base_addressx DW_LLE_startx_endx DW_LLE_startx_length DW_LLE_offset_pair DW_LLE_default_location
-        DW_LLE_base_address DW_LLE_start_end DW_LLE_start_length DW_LLE_GNU_view_pair DW_ATE_address DW_ATE_boolean
-        DW_ATE_signed DW_ATE_unsigned_char DW_ATE_decimal_float DW_ATE_UTF DW_ATE_ASCII DW_ATE_lo_user
-        DW_ATE_hi_user DW_DS_unsigned DW_DS_leading_overpunch DW_DS_trailing_overpunch DW_DS_leading_separate
-        DW_DS_trailing_separate DW_END_default DW_END_big DW_END_little DW_END_lo_user DW_END_hi_user
         DW_ACCESS_public DW_ACCESS_protected DW_ACCESS_private DW_VIS_local DW_VIS_exported DW_VIS_qualified
         DW_VIRTUALITY_none DW_VIRTUALITY_virtual DW_VIRTUALITY_pure_virtual DW_ID_case_sensitive DW_ID_up_case
         DW_ID_down_case DW_ID_case_insensitive DW_ORD_row_major DW_ORD_col_major DW_INL_not_inlined DW_INL_inlined
-        DW_INL_declared_not_inlined DW_INL_declared_inlined DW_CC_normal DW_CC_program DW_CC_nocall
-        DW_CC_pass_by_reference DW_CC_pass_by_value DW_CC_lo_user DW_CC_GNU_renesas_sh
-        DW_CC_GNU_borland_fastcall_i386 DW_CC_BORLAND_safecall DW_CC_BORLAND_fastcall DW_CC_LLVM_vectorcall
-        DW_CC_LLVM_Swift DW_CC_LLVM_X86RegCall DW_CC_hi_user DW_ADDR_none
+        DW_INL_declared_not_inlined DW_INL_declared_inlined DW_ADDR_none
     )
 }
