@@ -63,6 +63,22 @@ fn clones_and_copies_go_their_own_way(rt: HostRuntime) -> Result<(), Fail> {
 }
 
 #[test]
+fn a_list_lends_what_it_stands_on(rt: HostRuntime) -> Result<(), Fail> {
+    let table = table_of(rt.alloc(), &TABLE_NESTED_STRINGS)?;
+    let unit = unit_of(&rt, part(&THREE_NESTED[11..], LittleEndian));
+    let mut tree = unit.entries_tree(rt.alloc(), &table, None)?;
+    let root = tree.root()?;
+    assert!(rt; root.reads() == 1);
+    let mut children = root.children();
+    assert!(rt; children.advance()?);
+    assert!(rt; children.reads() == 2);
+    assert!(rt; parts(children.entry()) == (false, 0x2e, true, 1, 0x10, 1));
+    let node = children.node();
+    assert!(rt; (node.reads(), node.entry().offset().0) == (2, 0x10));
+    Ok(())
+}
+
+#[test]
 fn the_tag_alone_tells_a_null(rt: HostRuntime) -> Result<(), Fail> {
     let read = second(&rt, rt.alloc())?;
     let mut entry = Entry::new(DwTag(0), true, read.attrs, UnitOffset(300));
