@@ -46,6 +46,10 @@ is_section_name name version =
 abbrev pub uleb_offset_at : ℕ → View → Reads ℕ
 uleb_offset_at limit v = as_offset limit (uleb_at v)
 
+-- the bytes after their number
+abbrev pub block_after : Reads ℕ → Reads View
+block_after count = count >>= λ p. split_at p.0 p.1
+
 -- the value in a layout, under a name and with the number of its declaration
 abbrev pub value_in : ℕ → Encoding → ℕ → Option ℤ → Layout → View → Reads Value
 value_in limit e name c (byte f) v = map_read f (byte_at v)
@@ -65,10 +69,8 @@ value_in limit e name c (reference f) v =
 value_in limit e name c (offset_leb f) v = map_read f (uleb_offset_at limit v)
 value_in limit e name c (offset_leb_and n f) v =
     uleb_offset_at limit v >>= λ p. map_read (f p.0) (uint_at n p.1)
-value_in limit e name c (block n f) v =
-    map_read f (uint_offset_at limit n v >>= λ p. split_at p.0 p.1)
-value_in limit e name c (block_leb f) v =
-    map_read f (uleb_offset_at limit v >>= λ p. split_at p.0 p.1)
+value_in limit e name c (block n f) v = map_read f (block_after (uint_offset_at limit n v))
+value_in limit e name c (block_leb f) v = map_read f (block_after (uleb_offset_at limit v))
 value_in limit e name c (text f) v = map_read f (text_at v)
 value_in limit e name c (nothing x) v = Ok (x, v)
 value_in limit e name c (constant f) v =

@@ -3,9 +3,10 @@
 ghost use Rattle.std.specs.Prelude.{◌≡◌, ◌≤◌};
 ghost use Rattle.gimli_base.specs.Offset.{answer_of};
 ghost use Rattle.gimli_base.specs.Reading.{read_of, address_at, uint_offset_at};
+ghost use Rattle.gimli_base.specs.Reading.{sized_offset_at};
 ghost use Rattle.gimli_units.specs.Value.{map_value};
 ghost use Rattle.gimli_units.specs.Form.{is_section_name, uleb_offset_at, direct_at, form_at};
-ghost use Rattle.gimli_units.specs.Form.{value_at};
+ghost use Rattle.gimli_units.specs.Form.{value_at, block_after};
 
 use crate::{AttributeValue, DebugInfoOffset, UnitOffset};
 use gimli_base::{
@@ -85,6 +86,28 @@ pub(crate) fn uleb128_offset<R: Reader>(input: &mut R) -> Result<R::Offset>
     R::Offset::from_u64(input.read_uleb128()?)
 }
 
+// The bytes after their number, which has `size` bytes; where they are refused, the input is left
+// anywhere.
+#[inline(always)]
+fn sized_block<R: Reader>(input: &mut R, size: u8) -> Result<R>
+    ensures { read_of (answer_of R.view result) (R.view input.new)
+        ≡ block_after (sized_offset_at R.Offset.limit size (R.view input.old)) }
+{
+    let length = input.read_sized_offset(size)?;
+    input.split(length)
+}
+
+// The bytes after their number, which is a LEB128 number; where they are refused, the input is left
+// anywhere.
+#[inline(always)]
+fn uleb128_block<R: Reader>(input: &mut R) -> Result<R>
+    ensures { read_of (answer_of R.view result) (R.view input.new)
+        ≡ block_after (uleb_offset_at R.Offset.limit (R.view input.old)) }
+{
+    let length = uleb128_offset(input)?;
+    input.split(length)
+}
+
 // The value of a form that is not indirect; where it is refused, the input is left anywhere.
 #[inline(always)]
 #[tactic(auto, unfolding(crate::specs::Form::direct_at, gimli_base::specs::Reading::sized_offset_at))]
@@ -100,22 +123,10 @@ fn parse_direct<R: Reader>(
 {
     match form {
         DW_FORM_addr => Ok(AttributeValue::Addr(address(input, encoding.address_size)?)),
-        DW_FORM_block1 => {
-            let length = input.read_sized_offset(1)?;
-            Ok(AttributeValue::Block(input.split(length)?))
-        }
-        DW_FORM_block2 => {
-            let length = input.read_sized_offset(2)?;
-            Ok(AttributeValue::Block(input.split(length)?))
-        }
-        DW_FORM_block4 => {
-            let length = input.read_sized_offset(4)?;
-            Ok(AttributeValue::Block(input.split(length)?))
-        }
-        DW_FORM_block => {
-            let length = uleb128_offset(input)?;
-            Ok(AttributeValue::Block(input.split(length)?))
-        }
+        DW_FORM_block1 => Ok(AttributeValue::Block(sized_block(input, 1)?)),
+        DW_FORM_block2 => Ok(AttributeValue::Block(sized_block(input, 2)?)),
+        DW_FORM_block4 => Ok(AttributeValue::Block(sized_block(input, 4)?)),
+        DW_FORM_block => Ok(AttributeValue::Block(uleb128_block(input)?)),
         DW_FORM_data1 => Ok(AttributeValue::Data1(input.read_u8()?)),
         DW_FORM_data2 => Ok(AttributeValue::Data2(input.read_u16()?)),
         DW_FORM_data4 => {
@@ -135,10 +146,7 @@ fn parse_direct<R: Reader>(
         DW_FORM_data16 => Ok(AttributeValue::Data16(input.read_u128()?)),
         DW_FORM_udata => Ok(AttributeValue::Udata(input.read_uleb128()?)),
         DW_FORM_sdata => Ok(AttributeValue::Sdata(input.read_sleb128()?)),
-        DW_FORM_exprloc => {
-            let length = uleb128_offset(input)?;
-            Ok(AttributeValue::Exprloc(Expression(input.split(length)?)))
-        }
+        DW_FORM_exprloc => Ok(AttributeValue::Exprloc(Expression(uleb128_block(input)?))),
         DW_FORM_flag => Ok(AttributeValue::Flag(input.read_u8()? != 0)),
         DW_FORM_flag_present => Ok(AttributeValue::Flag(true)),
         DW_FORM_sec_offset => Ok(AttributeValue::SecOffset(input.read_offset(encoding.format)?)),
