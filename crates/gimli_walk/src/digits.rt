@@ -1,26 +1,22 @@
 //! Lines that are written from their end, so that a number begins with its last digit.
 
-ghost use Rattle.std.specs.Prelude.{◌≡◌, ◌∷◌, ◌++◌, ◌+◌, ◌<◌, ◌≤◌, drop, false};
+ghost use Rattle.std.specs.Prelude.{◌≡◌, ◌∷◌, ◌++◌, ◌+◌, ◌/◌, ◌%◌, ◌<◌, ◌≤◌, drop, false};
 ghost use Rattle.std.specs.Fmt.{digits, digit_glyph, signed_decimal};
 
 // The digit of a number below 16.
 #[inline(always)]
 fn glyph(digit: u64) -> u8
-    ensures { digit < 16 → result ≡ digit_glyph false digit }
+    requires small { digit < 16 }
+    ensures { result ≡ digit_glyph false digit }
 {
-    let low = (digit % 16) as u8;
-    if low < 10 {
-        b'0' + low
-    } else {
-        b'a' + (low - 10)
-    }
+    b"0123456789abcdef"[digit as usize]
 }
 
 /// Writes a byte just before `end`, and answers where it stands.
 #[inline(always)]
-pub(crate) fn put_byte(byte: u8, end: usize, line: &mut [u8; 200]) -> usize
+pub(crate) fn put_byte(byte: u8, end: usize, line: &mut [u8; 48]) -> usize
     requires room { 1 ≤ end }
-    requires within { end ≤ 200 }
+    requires within { end ≤ 48 }
     ensures room { end ≡ result + 1 }
     ensures value { drop result line.new ≡ byte ∷ drop end line.old }
 {
@@ -28,45 +24,117 @@ pub(crate) fn put_byte(byte: u8, end: usize, line: &mut [u8; 200]) -> usize
     end - 1
 }
 
-/// Writes a number so that its last digit stands just before `end`, and answers where its first
-/// one stands.
+// Writes the last two hexadecimal digits of a number, also where they are zeros.
 #[inline(always)]
-pub(crate) fn put_digits(number: u64, base: u64, end: usize, line: &mut [u8; 200]) -> usize
-    requires base_low { 2 ≤ base }
-    requires base_high { base ≤ 16 }
-    requires room { 64 ≤ end }
-    requires within { end ≤ 200 }
-    ensures room { end ≤ result + 64 }
+fn put_two(number: u64, end: usize, line: &mut [u8; 48]) -> usize
+    requires room { 2 ≤ end }
+    requires within { end ≤ 48 }
+    ensures room { end ≡ result + 2 }
+    ensures value { drop result line.new ≡ digit_glyph false (number / 16 % 16)
+        ∷ digit_glyph false (number % 16) ∷ drop end line.old }
+{
+    let low = put_byte(glyph(number % 16), end, line);
+    put_byte(glyph(number / 16 % 16), low, line)
+}
+
+// Writes a number below 256 in hexadecimal. Both digits are written, and the number begins behind
+// the first one where that is a zero.
+#[inline(always)]
+fn put_pair(number: u64, end: usize, line: &mut [u8; 48]) -> usize
+    requires small { number < 256 }
+    requires room { 2 ≤ end }
+    requires within { end ≤ 48 }
+    ensures room { end ≤ result + 2 }
     ensures before { result ≤ end }
-    ensures value { drop result line.new ≡ digits base false number ++ drop end line.old }
+    ensures value { drop result line.new ≡ digits 16 false number ++ drop end line.old }
+{
+    let at = put_two(number, end, line);
+    if number < 16 { at + 1 } else { at }
+}
+
+/// Writes a number in hexadecimal so that its last digit stands just before `end`, and answers
+/// where its first one stands.
+#[inline(always)]
+pub(crate) fn put_hexadecimal(number: u64, end: usize, line: &mut [u8; 48]) -> usize
+    requires room { 17 ≤ end }
+    requires within { end ≤ 48 }
+    ensures before { result ≤ end }
+    ensures value { drop result line.new ≡ digits 16 false number ++ drop end line.old }
 {
     let mut at = end;
     let mut rest = number;
-    'digits: while at > end - 64 {
-        at -= 1;
-        line[at] = glyph(rest % base);
-        rest /= base;
-        if rest == 0 {
-            break;
-        }
+    'pairs: while rest >= 256 {
+        at = put_two(rest, at, line);
+        rest /= 256;
     }
-    at
+    put_pair(rest, at, line)
 }
 
-/// Writes a number with its sign in the same way, in decimal.
+/// Writes a number of 16 bits in the same way, in at most four digits.
 #[inline(always)]
-pub(crate) fn put_signed(number: isize, end: usize, line: &mut [u8; 200]) -> usize
-    requires room { 65 ≤ end }
-    requires within { end ≤ 200 }
-    ensures room { end ≤ result + 65 }
+pub(crate) fn put_short(number: u16, end: usize, line: &mut [u8; 48]) -> usize
+    requires room { 4 ≤ end }
+    requires within { end ≤ 48 }
+    ensures room { end ≤ result + 4 }
+    ensures before { result ≤ end }
+    ensures value { drop result line.new ≡ digits 16 false number ++ drop end line.old }
+{
+    let wide = u64::from(number);
+    if wide < 256 {
+        put_pair(wide, end, line)
+    } else {
+        let at = put_two(wide, end, line);
+        put_pair(wide / 256, at, line)
+    }
+}
+
+// Writes a number in decimal.
+fn put_decimal(number: u64, end: usize, line: &mut [u8; 48]) -> usize
+    requires room { 20 ≤ end }
+    requires within { end ≤ 48 }
+    ensures room { end ≤ result + 20 }
+    ensures before { result ≤ end }
+    ensures value { drop result line.new ≡ digits 10 false number ++ drop end line.old }
+{
+    let mut at = end;
+    let mut rest = number;
+    'decimals: while rest >= 10 {
+        at = put_byte(b'0' + (rest % 10) as u8, at, line);
+        rest /= 10;
+    }
+    put_byte(b'0' + rest as u8, at, line)
+}
+
+// Writes a number of any length with its sign, in decimal.
+#[inline(never)]
+fn put_long_signed(number: isize, end: usize, line: &mut [u8; 48]) -> usize
+    requires room { 21 ≤ end }
+    requires within { end ≤ 48 }
+    ensures room { end ≤ result + 21 }
     ensures before { result ≤ end }
     ensures value { drop result line.new ≡ signed_decimal number ++ drop end line.old }
 {
-    let at = put_digits(number.unsigned_abs() as u64, 10, end, line);
+    let at = put_decimal(number.unsigned_abs() as u64, end, line);
     if number < 0 {
         line[at - 1] = b'-';
         at - 1
     } else {
         at
+    }
+}
+
+/// Writes a number with its sign in the same way, in decimal. One of a single digit takes no loop.
+#[inline(always)]
+pub(crate) fn put_signed(number: isize, end: usize, line: &mut [u8; 48]) -> usize
+    requires room { 21 ≤ end }
+    requires within { end ≤ 48 }
+    ensures room { end ≤ result + 21 }
+    ensures before { result ≤ end }
+    ensures value { drop result line.new ≡ signed_decimal number ++ drop end line.old }
+{
+    if number >= 0 && number < 10 {
+        put_byte(b'0' + number as u8, end, line)
+    } else {
+        put_long_signed(number, end, line)
     }
 }

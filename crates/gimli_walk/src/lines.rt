@@ -7,7 +7,7 @@ ghost use Rattle.gimli_walk.specs.declared.lines.Stop.TheVariants.{Write as Writ
 ghost use Rattle.gimli_walk.specs.Lines.{row_line, end_line, no_unit_line, error_line};
 ghost use Rattle.gimli_walk.specs.Lines.{error_line_at, unit_line, honest_line, false_line};
 
-use crate::digits::{put_byte, put_digits, put_signed};
+use crate::digits::{put_byte, put_hexadecimal, put_short, put_signed};
 use gimli_base::Error;
 use std::io::Write;
 
@@ -32,21 +32,22 @@ impl From<WriteFault> for Stop {
     }
 }
 
-// Puts the line of a row at the end of a buffer, and answers where it begins.
+// Puts the line of a row at the end of a buffer, and answers where it begins. It has at most 45
+// bytes: 16 digits, a sign and 19 digits, 4 digits, the flag, three spaces and the end.
 #[inline(always)]
-fn put_row(offset: u64, depth: isize, tag: u16, has_children: bool, line: &mut [u8; 200]) -> usize
-    ensures within { result ≤ 200 }
+fn put_row(offset: u64, depth: isize, tag: u16, has_children: bool, line: &mut [u8; 48]) -> usize
+    ensures within { result ≤ 48 }
     ensures value { drop result line.new ≡ row_line offset depth tag has_children }
 {
     let flag = u8::from(has_children);
-    let end = put_byte(b'\n', 200, line);
+    let end = put_byte(b'\n', 48, line);
     let flag_at = put_byte(b'0' + flag, end, line);
     let gap = put_byte(b' ', flag_at, line);
-    let tag_at = put_digits(u64::from(tag), 16, gap, line);
+    let tag_at = put_short(tag, gap, line);
     let gap = put_byte(b' ', tag_at, line);
     let depth_at = put_signed(depth, gap, line);
     let gap = put_byte(b' ', depth_at, line);
-    put_digits(offset, 16, gap, line)
+    put_hexadecimal(offset, gap, line)
 }
 
 /// Writes the line of a row: its offset and tag in hexadecimal, its depth, and whether children
@@ -62,7 +63,7 @@ pub(crate) fn write_row<W: Write>(
         (Appends (W.contents out.old) (W.contents out.new)
         (row_line offset depth tag has_children)) }
 {
-    let mut line = [b' '; 200];
+    let mut line = [b' '; 48];
     let begin = put_row(offset, depth, tag, has_children, &mut line);
     let text: &[u8] = &line;
     out.write_all(&text[begin..]).map_err(|_| WriteFault)
