@@ -21,6 +21,8 @@ mod Memory
 pub mod TreeSteps
 mod PassPlaces
 mod SkipTurns
+mod SizedReads
+mod ReadTurns
 pub mod WalkerSteps
 pub mod RowSteps
 pub mod RowChain

@@ -64,7 +64,7 @@ direct_passes : (limit n form : ℕ) (e : Encoding) (v : View) → Some n ≡ kn
 unfolding pass_direct known_size
 direct_passes limit n form e v h = option_passes limit n form e (layout_of form) v h
 
-not_indirect : (n form : ℕ) (e : Encoding) → Some n ≡ known_size e form → form ≡ 0x16 → ⊥
+pub not_indirect : (n form : ℕ) (e : Encoding) → Some n ≡ known_size e form → form ≡ 0x16 → ⊥
 unfolding known_size layout_of
 not_indirect n form e h is =
     let k : ◌≡◌ {A = Option ℕ} (Some n) (known_size e 0x16) = h ∙ ap (λ f. known_size e f) is in cc

@@ -3,6 +3,8 @@ pub mod Layout
 pub mod Form
 pub mod Passing
 pub mod Entry
+pub mod Head
+pub mod Sized
 pub mod Rows
 pub mod RawPlace
 pub mod Kind

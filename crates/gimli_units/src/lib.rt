@@ -12,6 +12,7 @@ mod form;
 mod header;
 mod lent;
 mod offset;
+mod pass;
 mod raw;
 mod skip;
 mod tree;

@@ -2,16 +2,18 @@
 
 ghost use Rattle.std.specs.Prelude.{◌≡◌, ◌+◌, ◌-◌, ◌<◌, ◌≤◌, ◌^◌, ◌==◌, ◌↔◌, pos, ◌-ℤ◌, not};
 ghost use Rattle.std.specs.Prelude.{length, map, IsTrue, IsOk, IfOk, IfErr, OnOk, OnErr, Option};
+ghost use Rattle.std.specs.Prelude.{IfSome, ◌≢◌};
 ghost use Rattle.std.specs.Prelude.{[], true, false, unsigned_abs, Some};
 ghost use Rattle.std.specs.Option.{option_copied};
 ghost use Rattle.gimli_base.specs.Offset.{answer_of};
 ghost use Rattle.gimli_base.specs.View.{View, end_of_view};
 ghost use Rattle.gimli_base.specs.Reading.{read_of, answer_leaving, UnlessMemory};
-ghost use Rattle.gimli_base.specs.Reading.{PassesAs};
+ghost use Rattle.gimli_base.specs.Reading.{PassesAs, map_read};
 ghost use Rattle.gimli_base.specs.Table.{Table, codes_of};
 ghost use Rattle.gimli_units.specs.Value.{map_attribute};
 ghost use Rattle.gimli_units.specs.Entry.{attribute_at, attributes_at, abbreviation_at, entry_at};
 ghost use Rattle.gimli_units.specs.Entry.{entry_of, null_entry, is_null, takes_memory};
+ghost use Rattle.gimli_units.specs.Head.{head, head_of};
 ghost use Rattle.gimli_units.specs.Passing.{pass_all, without_place, NamesPlaceOf};
 ghost use Rattle.gimli_units.specs.RawPlace.{RawPlace, next_offset_of, below_flag, depth_read};
 ghost use Rattle.gimli_units.specs.RawPlace.{depth_after};
@@ -19,6 +21,7 @@ ghost use Rattle.gimli_units.specs.Honest.{within};
 ghost use Rattle.gimli_units.specs.CursorRead.{stands_at, stands_if};
 
 use crate::attribute::parse_attribute;
+use crate::pass::pass_as_read;
 use crate::skip::skip_all;
 use crate::{Attribute, DebuggingInformationEntry, UnitOffset};
 use gimli_base::{
@@ -276,6 +279,33 @@ impl<'abbrev, R: Reader, A: Allocator> EntriesRaw<'abbrev, R, A> {
         parse_attributes(&mut rest, self.encoding, specifications, attrs)?;
         self.go_behind_entry(rest, has_children);
         Ok(())
+    }
+
+    /// Reads what `read_entry` reads, but keeps no attribute. Answers the declaration of the entry,
+    /// or none for a null.
+    ///
+    /// Refusals: those of `read_entry`, at the same bytes the same; no memory is taken.
+    #[inline(always)]
+    #[tactic(auto, unfolding(crate::specs::Entry::entry_at))]
+    pub fn read_head(&mut self) -> Result<Option<&'abbrev Abbreviation<A>>>
+        ensures value { let declared = codes_of self.old.abbreviations in
+            read_of (answer_of (λ r. head_of (option_copied r)) result) self.new.rest
+            ≡ map_read head (entry_at R.Offset.limit self.old.encoding declared self.old.rest) }
+        ensures some { IfOk result (λ r. IfSome (option_copied r) (λ d. d.tag.0 ≢ 0)) }
+        ensures depth { IfOk result
+            (λ r. self.new.depth ≡ depth_read (option_copied r) self.old.depth) }
+        ensures same { self.new ≡ record self.old { rest = self.new.rest; depth = self.new.depth } }
+        ensures kept { OnErr result (self.new ≡ self.old) }
+    {
+        let mut rest = self.input.copy();
+        let Some(abbreviation) = parse_abbreviation(&mut rest, self.abbreviations)? else {
+            self.go_behind_null(rest);
+            return Ok(None);
+        };
+        let _ = abbreviation.tag();
+        pass_as_read(&mut rest, self.encoding, abbreviation.attributes())?;
+        self.go_behind_entry(rest, abbreviation.has_children());
+        Ok(Some(abbreviation))
     }
 
     /// Reads the attribute of a specification.

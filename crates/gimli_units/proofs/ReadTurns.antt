@@ -1,0 +1,59 @@
+-- A turn of the loop that passes attributes as they are read.
+use Rattle.std.proofs.Common.{◌≡◌, ℕ, ◌+◌, ◌<◌, ◌≤◌, List, [], ◌∷◌, Ok, Err, refl, sym, ap, ◌∙◌}
+use Rattle.std.proofs.Common.{drop, length, get_or}
+use Rattle.std.proofs.lemmas.List.{drop_more, drop_all}
+use Rattle.gimli_base.specs.declared.common.Encoding.{Encoding}
+use Rattle.gimli_base.specs.declared.error.Error.{Error}
+use Rattle.gimli_base.specs.View.{View}
+use Rattle.gimli_base.specs.Reading.{Reads, ◌>>=◌, map_read}
+use Rattle.gimli_base.specs.Abbreviations.{Specification}
+use Rattle.gimli_units.specs.Entry.{Attr, attribute_at, attributes_at}
+use Rattle.gimli_units.proofs.SizedReads.{Passed, left_by}
+
+-- a value, and then the others
+left_by_both : (r : Reads Attr) (f : View → Reads (List Attr))
+    → left_by (r >>= λ p. map_read (λ xs. p.0 ∷ xs) (f p.1))
+    ≡ (left_by r >>= λ p. left_by (f p.1))
+left_by_both (Err e) f = refl
+left_by_both (Ok p) f = cases (f p.1)
+  where
+    cases : (r : Reads (List Attr)) → left_by (map_read (λ xs. p.0 ∷ xs) r) ≡ left_by r
+    cases (Ok q) = refl
+    cases (Err e) = refl
+
+-- the attributes of these specifications, which are passed
+pub left_by_all : (limit : ℕ) (e : Encoding) (s : Specification) (ss : List Specification) (v : View)
+    → left_by (attributes_at limit e (s ∷ ss) v)
+    ≡ (left_by (attribute_at limit e s v) >>= λ p. left_by (attributes_at limit e ss p.1))
+unfolding attributes_at
+left_by_all limit e s ss v = left_by_both (attribute_at limit e s v) (attributes_at limit e ss)
+
+-- the first i attributes are passed
+module _ (limit : ℕ) (e : Encoding) (ss : List Specification) (i : ℕ) (all v : View)
+    (so_far : left_by (attributes_at limit e ss all)
+    ≡ left_by (attributes_at limit e (drop i ss) v)) where
+  next : (s : Specification) → i < length ss → s ≡ get_or ss i s
+      → left_by (attributes_at limit e ss all)
+      ≡ (left_by (attribute_at limit e s v)
+      >>= λ p. left_by (attributes_at limit e (drop (i + 1) ss) p.1))
+  next s lt is =
+      so_far
+      ∙ ap (λ fs. left_by (attributes_at limit e fs v))
+      (drop_more ss i s lt ∙ ap (λ x. x ∷ drop (i + 1) ss) (sym is))
+      ∙ left_by_all limit e s (drop (i + 1) ss) v
+
+  pub turn_refused : (s : Specification) (r : Error) → i < length ss → s ≡ get_or ss i s
+      → Err r ≡ left_by (attribute_at limit e s v)
+      → Err r ≡ left_by (attributes_at limit e ss all)
+  turn_refused s r lt is h = sym (next s lt is ∙ rw (← h) refl)
+
+  pub turn_passed : (s : Specification) (x : Unit {0}) (w : View) → i < length ss
+      → s ≡ get_or ss i s → Ok (x, w) ≡ left_by (attribute_at limit e s v)
+      → left_by (attributes_at limit e ss all)
+      ≡ left_by (attributes_at limit e (drop (i + 1) ss) w)
+  turn_passed s x w lt is h = next s lt is ∙ rw (← h) refl
+
+  pub turn_end : length ss ≤ i → Ok (tt, v) ≡ left_by (attributes_at limit e ss all)
+  unfolding attributes_at
+  turn_end le =
+      sym (so_far ∙ ap (λ fs. left_by (attributes_at limit e fs v)) (drop_all i ss le))

@@ -1,0 +1,19 @@
+-- What an entry says without its attributes.
+use Rattle.std.specs.Prelude.{Bool, false, Option, Some, None}
+use Rattle.gimli_base.specs.declared.constants.DwTag.{DwTag}
+use Rattle.gimli_base.specs.Abbreviations.{Declaration}
+use Rattle.gimli_units.specs.Entry.{Entry}
+
+-- a tag, and whether children follow
+pub record Head : Type 0 where
+  pub tag : DwTag
+  pub has_children : Bool
+
+-- that of an entry
+abbrev pub head : Entry → Head
+head e = record { tag = e.tag; has_children = e.has_children }
+
+-- that of the entries of a declaration, or of a null
+abbrev pub head_of : Option Declaration → Head
+head_of None = record { tag = record { 0 = 0 }; has_children = false }
+head_of (Some d) = record { tag = d.tag; has_children = d.has_children }
