@@ -23,6 +23,8 @@ mod PassPlaces
 mod SkipTurns
 mod SizedReads
 mod ReadTurns
+mod SumReads
+mod SiblingReads
 pub mod WalkerSteps
 pub mod RowSteps
 pub mod RowChain

@@ -1,5 +1,5 @@
 -- A turn of the loop that passes attributes as they are read.
-use Rattle.std.proofs.Common.{◌≡◌, ℕ, ◌+◌, ◌<◌, ◌≤◌, List, [], ◌∷◌, Ok, Err, refl, sym, ap, ◌∙◌}
+use Rattle.std.proofs.Common.{◌≡◌, ℕ, ◌+◌, ◌<◌, ◌≤◌, List, ◌∷◌, Ok, Err, refl, sym, ap, ◌∙◌}
 use Rattle.std.proofs.Common.{drop, length, get_or}
 use Rattle.std.proofs.lemmas.List.{drop_more, drop_all}
 use Rattle.gimli_base.specs.declared.common.Encoding.{Encoding}
@@ -8,7 +8,7 @@ use Rattle.gimli_base.specs.View.{View}
 use Rattle.gimli_base.specs.Reading.{Reads, ◌>>=◌, map_read}
 use Rattle.gimli_base.specs.Abbreviations.{Specification}
 use Rattle.gimli_units.specs.Entry.{Attr, attribute_at, attributes_at}
-use Rattle.gimli_units.proofs.SizedReads.{Passed, left_by}
+use Rattle.gimli_units.proofs.SizedReads.{left_by}
 
 -- a value, and then the others
 left_by_both : (r : Reads Attr) (f : View → Reads (List Attr))

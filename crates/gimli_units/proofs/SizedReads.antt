@@ -1,5 +1,5 @@
 -- Where the size of a value is known, reading it is passing its bytes, with the same refusals.
-use Rattle.std.specs.Prelude.{◌≡◌, ℕ, ℤ, zero, suc, ◌+◌, ◌*◌, ◌-◌, ◌<◌, ◌≤◌, ◌^◌, ◌==◌, ◌&&◌, ◌||◌}
+use Rattle.std.specs.Prelude.{◌≡◌, ℕ, ℤ, suc, ◌+◌, ◌*◌, ◌<◌, ◌≤◌, ◌^◌, ◌==◌, ◌&&◌, ◌||◌}
 use Rattle.std.specs.Prelude.{Bool, true, false, if◌then◌else◌, nat_lt, nat_le, length, take, reverse}
 use Rattle.std.specs.Prelude.{List, [], ◌∷◌, All, is_some, Option, Some, None, Result, Ok, Err}
 use Rattle.std.specs.List.{AllByRecursion}
@@ -27,9 +27,9 @@ use Rattle.gimli_units.specs.declared.value.AttributeValue.TheVariants.{SecOffse
 use Rattle.gimli_units.specs.Layout.{Layout, byte, number, section_or, address, uleb, sleb, offset}
 use Rattle.gimli_units.specs.Layout.{word_offset, reference, offset_leb, offset_leb_and, block}
 use Rattle.gimli_units.specs.Layout.{block_leb, text, nothing, constant, forms, layout_in, layout_of}
-use Rattle.gimli_units.specs.Form.{is_section_name, value_in, direct_at, form_at, declared_number}
+use Rattle.gimli_units.specs.Form.{is_section_name, value_in, direct_at, form_at}
 use Rattle.gimli_units.specs.Form.{value_at}
-use Rattle.gimli_units.specs.Entry.{Attr, attribute_at, attributes_at}
+use Rattle.gimli_units.specs.Entry.{attribute_at}
 use Rattle.gimli_units.specs.Sized.{ReadsAny}
 use Rattle.gimli_units.proofs.Chains.{chain_begin, chain_end, number_stands}
 use Rattle.gimli_units.proofs.WidthLaw.{size_of, known_size, form_size-known}

@@ -82,7 +82,7 @@ known_passes limit n form e v h =
     rw (chain_stays (length v.bytes) form v t) (direct_passes limit n form e v h)
 
 -- two skips are one, but for the place of a refusal
-skip_ok : (n : ℕ) (v : View) → n ≤ length v.bytes → skip_at n v ≡ Ok (tt, cut n v)
+pub skip_ok : (n : ℕ) (v : View) → n ≤ length v.bytes → skip_at n v ≡ Ok (tt, cut n v)
 unfolding skip_at
 skip_ok n v h = rw (le-leb n (length v.bytes) h) refl
 

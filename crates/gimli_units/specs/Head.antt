@@ -1,8 +1,10 @@
 -- What an entry says without its attributes.
-use Rattle.std.specs.Prelude.{Bool, false, Option, Some, None}
+use Rattle.std.specs.Prelude.{ℕ, Bool, false, Option, Some, None}
 use Rattle.gimli_base.specs.declared.constants.DwTag.{DwTag}
 use Rattle.gimli_base.specs.Abbreviations.{Declaration}
 use Rattle.gimli_units.specs.Entry.{Entry}
+use Rattle.gimli_units.specs.Kind.{kind_of}
+use Rattle.gimli_units.specs.Honest.{target}
 
 -- a tag, and whether children follow
 pub record Head : Type 0 where
@@ -17,3 +19,11 @@ head e = record { tag = e.tag; has_children = e.has_children }
 abbrev pub head_of : Option Declaration → Head
 head_of None = record { tag = record { 0 = 0 }; has_children = false }
 head_of (Some d) = record { tag = d.tag; has_children = d.has_children }
+
+-- that of an entry, and where its sibling is, if it has children and says so
+abbrev pub head_and_sibling : Entry → Head × Option ℕ
+head_and_sibling e = (head e, target (kind_of e))
+
+-- that of a declaration, or of a null, with where a sibling is
+abbrev pub led_head : Option Declaration → Option ℕ → Head × Option ℕ
+led_head o sibling = (head_of o, sibling)

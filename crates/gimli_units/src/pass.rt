@@ -1,12 +1,18 @@
-//! Passing attributes with the refusals of reading them.
+//! Passing attributes with the refusals of reading them: those of known sizes by their bytes, where
+//! no value whose bytes are there is refused, and the others by reading them.
 
-ghost use Rattle.std.specs.Prelude.{◌≡◌, ◌≤◌, ◌<◌, ℕ, take, length, All};
+ghost use Rattle.std.specs.Prelude.{◌≡◌, ◌≤◌, ◌<◌, ◌==◌, ℕ, take, length, All, IfSome};
+ghost use Rattle.std.specs.List.{position};
+ghost use Rattle.std.specs.Option.{option_map};
+ghost use Rattle.gimli_base.specs.Offset.{answer_of};
 ghost use Rattle.gimli_base.specs.Reading.{read_of, map_read, skip_at, is_size};
+ghost use Rattle.gimli_units.specs.Kind.{unit_reference, sibling_of};
 ghost use Rattle.gimli_units.specs.Entry.{attribute_at, attributes_at};
 ghost use Rattle.gimli_units.specs.Sized.{ReadsAny};
 
+use crate::UnitOffset;
 use crate::attribute::parse_attribute;
-use gimli_base::{AttributeSpecification, Encoding, Reader, ReaderOffset, Result};
+use gimli_base::{AttributeSpecification, DW_AT_sibling, Encoding, Reader, ReaderOffset, Result};
 
 // The largest size of a value that is passed as bytes.
 const LARGEST: u8 = 16;
@@ -110,6 +116,7 @@ pub(crate) fn pass_as_read<R: Reader>(
         if let Some(size) = specification.size(encoding)
             && size < above
         {
+            // (it says that the form implicit_const has a number)
             let _ = specification.implicit_const_value();
             pass_bytes(input, size)?;
             continue;
@@ -117,4 +124,77 @@ pub(crate) fn pass_as_read<R: Reader>(
         pass_value(input, encoding, specification)?;
     }
     Ok(())
+}
+
+// Which specification is the first reference to a sibling, if one is.
+#[inline(always)]
+fn place_of_sibling(specifications: &[AttributeSpecification]) -> Option<usize>
+    ensures exact { result ≡ position (λ s. s.name.0 == 1) specifications.now }
+    ensures within { IfSome result (λ n. n < length specifications.now) }
+{
+    specifications
+        .iter()
+        .position(|specification| specification.name() == DW_AT_sibling)
+}
+
+// Where the reference of this specification leads in its unit, if it is one, on a reader of its
+// own; where it is refused, the input is left anywhere.
+#[inline(always)]
+fn reference_of<R: Reader>(
+    input: &mut R,
+    encoding: Encoding,
+    specification: &AttributeSpecification,
+) -> Result<Option<UnitOffset<R::Offset>>>
+    ensures { read_of (answer_of (option_map (λ o. R.Offset.number o.0)) result)
+        (R.view input.new)
+        ≡ map_read (λ a. unit_reference a.value)
+        (attribute_at R.Offset.limit encoding specification.now (R.view input.old)) }
+{
+    let mut rest = input.copy();
+    let reference = read_reference(&mut rest, encoding, specification)?;
+    *input = rest;
+    Ok(reference)
+}
+
+// The same, on the reader; where it is refused, the input is left anywhere.
+#[inline(never)]
+fn read_reference<R: Reader>(
+    input: &mut R,
+    encoding: Encoding,
+    specification: &AttributeSpecification,
+) -> Result<Option<UnitOffset<R::Offset>>>
+    ensures { read_of (answer_of (option_map (λ o. R.Offset.number o.0)) result)
+        (R.view input.new)
+        ≡ map_read (λ a. unit_reference a.value)
+        (attribute_at R.Offset.limit encoding specification.now (R.view input.old)) }
+{
+    let attribute = parse_attribute(input, encoding, *specification)?;
+    Ok(attribute.reference())
+}
+
+/// Passes what `parse_attributes` reads, with the same refusals, and answers where the first
+/// reference to a sibling leads; where one is refused, the input is left anywhere.
+#[inline(always)]
+pub(crate) fn pass_but_sibling<R: Reader>(
+    input: &mut R,
+    encoding: Encoding,
+    specifications: &[AttributeSpecification],
+) -> Result<Option<UnitOffset<R::Offset>>>
+    ensures { read_of (answer_of (option_map (λ o. R.Offset.number o.0)) result)
+        (R.view input.new)
+        ≡ map_read sibling_of
+        (attributes_at R.Offset.limit encoding specifications.now (R.view input.old)) }
+{
+    match place_of_sibling(specifications) {
+        Some(place) => {
+            pass_as_read(input, encoding, &specifications[..place])?;
+            let reference = reference_of(input, encoding, &specifications[place])?;
+            pass_as_read(input, encoding, &specifications[place + 1..])?;
+            Ok(reference)
+        }
+        None => {
+            pass_as_read(input, encoding, specifications)?;
+            Ok(None)
+        }
+    }
 }

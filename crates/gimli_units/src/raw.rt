@@ -4,7 +4,7 @@ ghost use Rattle.std.specs.Prelude.{◌≡◌, ◌+◌, ◌-◌, ◌<◌, ◌≤
 ghost use Rattle.std.specs.Prelude.{length, map, IsTrue, IsOk, IfOk, IfErr, OnOk, OnErr, Option};
 ghost use Rattle.std.specs.Prelude.{IfSome, ◌≢◌};
 ghost use Rattle.std.specs.Prelude.{[], true, false, unsigned_abs, Some};
-ghost use Rattle.std.specs.Option.{option_copied};
+ghost use Rattle.std.specs.Option.{option_copied, option_map};
 ghost use Rattle.gimli_base.specs.Offset.{answer_of};
 ghost use Rattle.gimli_base.specs.View.{View, end_of_view};
 ghost use Rattle.gimli_base.specs.Reading.{read_of, answer_leaving, UnlessMemory};
@@ -13,7 +13,7 @@ ghost use Rattle.gimli_base.specs.Table.{Table, codes_of};
 ghost use Rattle.gimli_units.specs.Value.{map_attribute};
 ghost use Rattle.gimli_units.specs.Entry.{attribute_at, attributes_at, abbreviation_at, entry_at};
 ghost use Rattle.gimli_units.specs.Entry.{entry_of, null_entry, is_null, takes_memory};
-ghost use Rattle.gimli_units.specs.Head.{head, head_of};
+ghost use Rattle.gimli_units.specs.Head.{head, head_of, led_head, head_and_sibling};
 ghost use Rattle.gimli_units.specs.Passing.{pass_all, without_place, NamesPlaceOf};
 ghost use Rattle.gimli_units.specs.RawPlace.{RawPlace, next_offset_of, below_flag, depth_read};
 ghost use Rattle.gimli_units.specs.RawPlace.{depth_after};
@@ -21,7 +21,7 @@ ghost use Rattle.gimli_units.specs.Honest.{within};
 ghost use Rattle.gimli_units.specs.CursorRead.{stands_at, stands_if};
 
 use crate::attribute::parse_attribute;
-use crate::pass::pass_as_read;
+use crate::pass::{pass_as_read, pass_but_sibling};
 use crate::skip::skip_all;
 use crate::{Attribute, DebuggingInformationEntry, UnitOffset};
 use gimli_base::{
@@ -302,10 +302,54 @@ impl<'abbrev, R: Reader, A: Allocator> EntriesRaw<'abbrev, R, A> {
             self.go_behind_null(rest);
             return Ok(None);
         };
+        // (it says that the tag is not 0)
         let _ = abbreviation.tag();
         pass_as_read(&mut rest, self.encoding, abbreviation.attributes())?;
         self.go_behind_entry(rest, abbreviation.has_children());
         Ok(Some(abbreviation))
+    }
+
+    /// The same as `read_head`, and beside it where an entry with children has its sibling: where
+    /// its first DW_AT_sibling leads, if that is a reference in the unit.
+    ///
+    /// Refusals: those of `read_entry`, at the same bytes the same; no memory is taken.
+    #[inline(always)]
+    #[tactic(auto, unfolding(crate::specs::Entry::entry_at))]
+    pub fn read_head_and_sibling(
+        &mut self,
+    ) -> Result<
+        (
+            Option<&'abbrev Abbreviation<A>>,
+            Option<UnitOffset<R::Offset>>,
+        ),
+    >
+        ensures value { let declared = codes_of self.old.abbreviations in
+            read_of (answer_of (λ r.
+            led_head (option_copied r.0) (option_map (λ o. R.Offset.number o.0) r.1)) result)
+            self.new.rest
+            ≡ map_read head_and_sibling
+            (entry_at R.Offset.limit self.old.encoding declared self.old.rest) }
+        ensures some { IfOk result (λ r. IfSome (option_copied r.0) (λ d. d.tag.0 ≢ 0)) }
+        ensures depth { IfOk result
+            (λ r. self.new.depth ≡ depth_read (option_copied r.0) self.old.depth) }
+        ensures same { self.new ≡ record self.old { rest = self.new.rest; depth = self.new.depth } }
+        ensures kept { OnErr result (self.new ≡ self.old) }
+    {
+        let mut rest = self.input.copy();
+        let Some(abbreviation) = parse_abbreviation(&mut rest, self.abbreviations)? else {
+            self.go_behind_null(rest);
+            return Ok((None, None));
+        };
+        // (it says that the tag is not 0)
+        let _ = abbreviation.tag();
+        if abbreviation.has_children() {
+            let sibling = pass_but_sibling(&mut rest, self.encoding, abbreviation.attributes())?;
+            self.go_behind_entry(rest, true);
+            return Ok((Some(abbreviation), sibling));
+        }
+        pass_as_read(&mut rest, self.encoding, abbreviation.attributes())?;
+        self.go_behind_entry(rest, false);
+        Ok((Some(abbreviation), None))
     }
 
     /// Reads the attribute of a specification.

@@ -1,0 +1,84 @@
+-- Attributes of known sizes are passed together, where all their bytes are there.
+use Rattle.std.specs.Prelude.{◌≡◌, ℕ, ◌+◌, ◌-◌, ◌<◌, ◌≤◌, length, take, List, [], ◌∷◌, All}
+use Rattle.std.specs.Prelude.{Option, Some, None, Ok}
+use Rattle.std.specs.List.{AllByRecursion}
+use Rattle.std.proofs.Common.{refl, sym, ap, subst, ◌∙◌, arith, length-drop}
+use Rattle.std.proofs.lemmas.List.{take-take, drop-take}
+use Rattle.std.proofs.lemmas.List.Elements.{All-take, All-drop, recursion_from_All}
+use Rattle.gimli_base.specs.declared.common.Encoding.{Encoding}
+use Rattle.gimli_base.specs.View.{View, cut}
+use Rattle.gimli_base.specs.Reading.{◌>>=◌, skip_at}
+use Rattle.gimli_base.specs.Width.{form_size}
+use Rattle.gimli_base.specs.Abbreviations.{Specification, IsWellFormed}
+use Rattle.gimli_base.proofs.Later.{cut-cut}
+use Rattle.gimli_base.proofs.Passed.{skip_at-none}
+use Rattle.gimli_units.specs.Entry.{attribute_at, attributes_at}
+use Rattle.gimli_units.specs.Sized.{ReadsAny}
+use Rattle.gimli_units.proofs.SkipTurns.{skip_ok}
+use Rattle.gimli_units.proofs.SizedReads.{Passed, left_by, attribute_any}
+use Rattle.gimli_units.proofs.ReadTurns.{left_by_all}
+
+-- the sum of two sizes, where both are known
+abbrev pub sum_known : Option ℕ → Option ℕ → Option ℕ
+sum_known (Some m) (Some n) = Some (m + n)
+sum_known (Some m) None = None
+sum_known None o = None
+
+-- how many bytes the values of these specifications take, where it is known of each
+abbrev pub attributes_size : Encoding → List Specification → Option ℕ
+attributes_size e [] = Some 0
+attributes_size e (s ∷ ss) = sum_known (form_size e s.form.0) (attributes_size e ss)
+
+-- a value of a bytes, and then others of b
+module _ (limit : ℕ) (e : Encoding) (any : (n : ℕ) → ReadsAny limit e n) where
+  abbrev Together : List Specification → Type 0
+  Together ss = (n : ℕ) (v : View) → Some n ≡ attributes_size e ss → n ≤ length v.bytes
+      → All (λ b. b < 256) (take n v.bytes)
+      → left_by (attributes_at limit e ss v) ≡ Ok (tt, cut n v)
+
+  both : (s : Specification) (ss : List Specification) → IsWellFormed s → Together ss
+      → (a b : ℕ) (v : View) → Some a ≡ form_size e s.form.0 → Some b ≡ attributes_size e ss
+      → a + b ≤ length v.bytes → All (λ x. x < 256) (take (a + b) v.bytes)
+      → left_by (attributes_at limit e (s ∷ ss) v) ≡ Ok (tt, cut (a + b) v)
+  both s ss well others a b v first second le bytes =
+      let here : a ≤ length v.bytes = omega (arith, le) in
+      let left : length (cut a v).bytes ≡ length v.bytes - a = length-drop a v.bytes in
+      let behind : b ≤ length (cut a v).bytes = omega (arith, le, left) in
+      let front : All (λ x. x < 256) (take a v.bytes)
+      = subst (All (λ x. x < 256)) (take-take a (a + b) v.bytes (omega arith))
+      (All-take (λ x. x < 256) a (take (a + b) v.bytes) bytes) in
+      let back : All (λ x. x < 256) (take b (cut a v).bytes)
+      = subst (All (λ x. x < 256)) (drop-take a b v.bytes)
+      (All-drop (λ x. x < 256) a (take (a + b) v.bytes) bytes) in
+      let one : left_by (attribute_at limit e s v) ≡ Ok (tt, cut a v)
+      = attribute_any limit e a (any a) v (λ _. front) s well first ∙ skip_ok a v here in
+      left_by_all limit e s ss v
+      ∙ ap (λ (r : Passed). r >>= λ p. left_by (attributes_at limit e ss p.1)) one
+      ∙ others b (cut a v) second behind back
+      ∙ ap (λ (u : View). Ok (tt, u)) (cut-cut a b v)
+
+  together : (ss : List Specification) → AllByRecursion IsWellFormed ss → Together ss
+  unfolding attributes_at
+  together [] well n v h le bytes =
+      let none : n ≡ 0 = cc in
+      sym (skip_at-none v) ∙ ap (λ m. skip_at m v) (sym none) ∙ skip_ok n v le
+  together (s ∷ ss) well n v h le bytes =
+      cases (form_size e s.form.0) (attributes_size e ss) refl refl h (together ss well.1)
+    where
+      cases : (o p : Option ℕ) → form_size e s.form.0 ≡ o → attributes_size e ss ≡ p
+          → Some n ≡ sum_known o p → Together ss
+          → left_by (attributes_at limit e (s ∷ ss) v) ≡ Ok (tt, cut n v)
+      cases (Some a) (Some b) i j k others =
+          let sum : a + b ≡ n = cc in
+          both s ss well.0 others a b v (sym i) (sym j) (omega (arith, sum, le))
+          (subst (λ m. All (λ x. x < 256) (take m v.bytes)) (sym sum) bytes)
+          ∙ ap (λ m. Ok (tt, cut m v)) sum
+      cases (Some a) None i j k others = absurd (cc)
+      cases None p i j k others = absurd (cc)
+
+  -- all of them, where the sum of their sizes is known
+  pub attributes_together : (ss : List Specification) → All IsWellFormed ss → (n : ℕ) (v : View)
+      → Some n ≡ attributes_size e ss → n ≤ length v.bytes
+      → All (λ b. b < 256) (take n v.bytes)
+      → left_by (attributes_at limit e ss v) ≡ Ok (tt, cut n v)
+  attributes_together ss well = together ss (recursion_from_All IsWellFormed ss well)
