@@ -46,9 +46,15 @@ left_by_made : {A B : Type 0} → (f : A → B) (r : Reads A) → left_by (map_r
 left_by_made f (Ok p) = refl
 left_by_made f (Err e) = refl
 
--- the next n bytes, where they are there, are bytes
+-- the next n bytes, where they are there and no more than an offset has, are bytes
 abbrev pub AreBytes : ℕ → View → Type 0
-AreBytes n v = n ≤ length v.bytes → All (λ b. b < 256) (take n v.bytes)
+AreBytes n v = n ≤ 8 → n ≤ length v.bytes → All (λ b. b < 256) (take n v.bytes)
+
+pub so_many : (n m : ℕ) (xs : List ℕ) → m ≡ n
+    → (n ≤ length xs → All (λ b. b < 256) (take n xs)) → m ≤ 8 → m ≤ length xs
+    → All (λ b. b < 256) (take m xs)
+so_many n m xs is h few le =
+    subst (λ k. All (λ b. b < 256) (take k xs)) (sym is) (h (omega (arith, is, le)))
 
 -- a number of n bytes is below 256 ^ n
 abbrev Below : List ℕ → Type 0
@@ -109,10 +115,10 @@ in_limit : (limit m : ℕ) (w : View) → m < limit
 in_limit limit m w h = rw (lt-ltb m limit h) refl
 
 -- the next n bytes as an offset
-offset_passed : (limit n : ℕ) (v : View) → 256 ^ n ≤ limit → AreBytes n v
+offset_passed : (limit n : ℕ) (v : View) → n ≤ 8 → 256 ^ n ≤ limit → AreBytes n v
     → left_by (uint_offset_at limit n v) ≡ skip_at n v
 unfolding uint_at bytes_at skip_at
-offset_passed limit n v fits bytes = cases (nat_le n (length v.bytes)) refl
+offset_passed limit n v few fits bytes = cases (nat_le n (length v.bytes)) refl
   where
     cases : (t : Bool) → nat_le n (length v.bytes) ≡ t
         → ◌≡◌ {A = Passed}
@@ -128,7 +134,7 @@ offset_passed limit n v fits bytes = cases (nat_le n (length v.bytes)) refl
         let long : length (take n v.bytes) ≡ n = omega (arith, length-take n v.bytes, le) in
         let small : number_in v.big (take n v.bytes) < 256 ^ length (take n v.bytes)
         = number_below v.big (take n v.bytes)
-        (recursion_from_All (λ b. b < 256) (take n v.bytes) (bytes le)) in
+        (recursion_from_All (λ b. b < 256) (take n v.bytes) (bytes few le)) in
         let same : 256 ^ length (take n v.bytes) ≡ 256 ^ n = ap (λ k. 256 ^ k) long in
         let below : number_in v.big (take n v.bytes) < limit = omega (arith, small, same, fits) in
         in_limit limit (number_in v.big (take n v.bytes)) (cut n v) below
@@ -190,7 +196,7 @@ module _ (limit : ℕ) (e : Encoding) (n : ℕ) (any : ReadsAny limit e n) (v : 
   offset_any m is few =
       let le : n ≤ 8 = omega (arith, is, few) in
       ap (λ k. left_by (uint_offset_at limit k v)) (sym is)
-      ∙ offset_passed limit n v (any.fits le) bytes
+      ∙ offset_passed limit n v le (any.fits le) bytes
 
   uint_any : (m : ℕ) → n ≡ m → left_by (uint_at m v) ≡ skip_at n v
   uint_any m is = ap (λ k. left_by (uint_at k v)) (sym is) ∙ uint_passed n v

@@ -51,7 +51,7 @@ module _ (limit : ℕ) (e : Encoding) (any : (n : ℕ) → ReadsAny limit e n) w
       = subst (All (λ x. x < 256)) (drop-take a b v.bytes)
       (All-drop (λ x. x < 256) a (take (a + b) v.bytes) bytes) in
       let one : left_by (attribute_at limit e s v) ≡ Ok (tt, cut a v)
-      = attribute_any limit e a (any a) v (λ _. front) s well first ∙ skip_ok a v here in
+      = attribute_any limit e a (any a) v (λ _ _. front) s well first ∙ skip_ok a v here in
       left_by_all limit e s ss v
       ∙ ap (λ (r : Passed). r >>= λ p. left_by (attributes_at limit e ss p.1)) one
       ∙ others b (cut a v) second behind back

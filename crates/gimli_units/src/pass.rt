@@ -14,30 +14,57 @@ use crate::UnitOffset;
 use crate::attribute::parse_attribute;
 use gimli_base::{AttributeSpecification, DW_AT_sibling, Encoding, Reader, ReaderOffset, Result};
 
-// The largest size of a value that is passed as bytes.
-const LARGEST: u8 = 16;
-
 // Each of these bytes is below 256.
 #[inline(always)]
 fn are_bytes(bytes: &[u8])
     ensures { All (λ b. b < 256) bytes.now }
 {}
 
-// Passes so many bytes. It reads them, since `skip` does not say that they are below 256, and no
-// offset is refused that is made of such bytes.
+// The next N bytes, if they are there, are below 256. They are read to know it, and not used; a
+// slice's reader makes nothing of it.
 #[inline(always)]
-#[tactic(auto, unfolding(gimli_base::specs::Reading::skip_at, gimli_base::specs::Reading::bytes_at))]
+#[tactic(auto, unfolding(gimli_base::specs::Reading::bytes_at))]
+fn next_are_bytes<R: Reader, const N: usize>(input: &R)
+    requires { N ≤ 8 }
+    ensures { let bytes = (R.view input.now).bytes in
+        N ≤ length bytes → All (λ b. b < 256) (take N bytes) }
+{
+    let mut bytes = [0; N];
+    match input.copy().read_slice(&mut bytes) {
+        Ok(()) => are_bytes(&bytes),
+        Err(_) => {}
+    }
+}
+
+// The same of so many bytes as an offset may have.
+#[inline(always)]
+fn so_many_are_bytes<R: Reader>(input: &R, count: u8)
+    ensures { let bytes = (R.view input.now).bytes in
+        count ≤ 8 → count ≤ length bytes → All (λ b. b < 256) (take count bytes) }
+{
+    match count {
+        0 => next_are_bytes::<R, 0>(input),
+        1 => next_are_bytes::<R, 1>(input),
+        2 => next_are_bytes::<R, 2>(input),
+        3 => next_are_bytes::<R, 3>(input),
+        4 => next_are_bytes::<R, 4>(input),
+        5 => next_are_bytes::<R, 5>(input),
+        6 => next_are_bytes::<R, 6>(input),
+        7 => next_are_bytes::<R, 7>(input),
+        8 => next_are_bytes::<R, 8>(input),
+        _ => {}
+    }
+}
+
+// Passes so many bytes; no offset that they make up is refused, since they are below 256.
+#[inline(always)]
 fn pass_bytes<R: Reader>(input: &mut R, count: u8) -> Result<()>
-    requires { count ≤ 16 }
     ensures value { read_of result (R.view input.new) ≡ skip_at count (R.view input.old) }
     ensures bytes { let bytes = (R.view input.old).bytes in
-        count ≤ length bytes → All (λ b. b < 256) (take count bytes) }
+        count ≤ 8 → count ≤ length bytes → All (λ b. b < 256) (take count bytes) }
 {
-    let mut bytes = [0; LARGEST as usize];
-    let passed = &mut bytes[..count as usize];
-    input.read_slice(passed)?;
-    are_bytes(passed);
-    Ok(())
+    so_many_are_bytes(input, count);
+    input.skip(R::Offset::from_u8(count))
 }
 
 // Whether addresses of so many bytes can be read.
@@ -50,15 +77,14 @@ fn is_read(address_size: u8) -> bool
 
 // A number above the sizes of which reading refuses no value that is there; 0 where there are none.
 #[inline(always)]
-fn above_any<R: Reader>(encoding: Encoding) -> u8
-    ensures few { result ≤ 17 }
-    ensures any { (n : ℕ) → n < result → ReadsAny R.Offset.limit encoding n }
+fn above_any<R: Reader>(encoding: Encoding) -> u16
+    ensures { (n : ℕ) → n < result → ReadsAny R.Offset.limit encoding n }
 {
     if !is_read(encoding.address_size) {
         return 0;
     }
     if R::Offset::from_u64(0xffff_ffff_ffff_ffff).is_ok() {
-        return LARGEST + 1;
+        return 256;
     }
     if R::Offset::from_u64(0xffff_ffff).is_ok() {
         return 5;
@@ -114,7 +140,7 @@ pub(crate) fn pass_as_read<R: Reader>(
     let above = above_any::<R>(encoding);
     'specifications: for specification in specifications {
         if let Some(size) = specification.size(encoding)
-            && size < above
+            && (size as u16) < above
         {
             // (it says that the form implicit_const has a number)
             let _ = specification.implicit_const_value();

@@ -5,7 +5,7 @@ use Rattle.gimli_units.proofs.pass.pass_as_read.Goals as goal
 
 pub returns-in_err-pass_bytes : goal.returns-in_err-pass_bytes
 returns-in_err-pass_bytes g c =
-    let any = c.above_any-above.ensures.any c.in-Some.size c.if-size-above.true in
+    let any = c.above_any-above.ensures c.in-Some.size c.if-size-above.true in
     let same = attribute_any _ _ _ any _ c.pass_bytes.ensures.bytes c.specification-item.result
     (rw c.implicit_const_value.ensures.value at c.implicit_const_value.ensures.stands)
     c.in-Some.ensures in
@@ -16,7 +16,7 @@ returns-in_err-pass_bytes g c =
 
 pub specifications-preserved-in-specifications : goal.specifications-preserved-in-specifications
 specifications-preserved-in-specifications g c =
-    let any = c.above_any-above.ensures.any c.in-Some.size c.if-size-above.true in
+    let any = c.above_any-above.ensures c.in-Some.size c.if-size-above.true in
     let same = attribute_any _ _ _ any _ c.pass_bytes.ensures.bytes c.specification-item.result
     (rw c.implicit_const_value.ensures.value at c.implicit_const_value.ensures.stands)
     c.in-Some.ensures in
