@@ -298,15 +298,15 @@ impl<'abbrev, R: Reader, A: Allocator> EntriesRaw<'abbrev, R, A> {
         ensures kept { OnErr result (self.new ≡ self.old) }
     {
         let mut rest = self.input.copy();
-        let Some(abbreviation) = parse_abbreviation(&mut rest, self.abbreviations)? else {
+        let Some(declared) = parse_abbreviation(&mut rest, self.abbreviations)? else {
             self.go_behind_null(rest);
             return Ok(None);
         };
         // (it says that the tag is not 0)
-        let _ = abbreviation.tag();
-        pass_as_read(&mut rest, self.encoding, abbreviation.attributes())?;
-        self.go_behind_entry(rest, abbreviation.has_children());
-        Ok(Some(abbreviation))
+        let _ = declared.tag();
+        pass_as_read(&mut rest, self.encoding, declared.attributes())?;
+        self.go_behind_entry(rest, declared.has_children());
+        Ok(Some(declared))
     }
 
     /// The same as `read_head`, and beside it where an entry with children has its sibling: where
