@@ -30,3 +30,5 @@ pub mod RowSteps
 pub mod RowChain
 pub mod EntryReads
 pub mod LeastFalse
+pub mod PassedOn
+mod SeekTurns

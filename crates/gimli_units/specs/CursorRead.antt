@@ -106,6 +106,14 @@ leave_entry sought c =
       reads = c.reads;
     }
 
+-- an entry was read and left, or what stood there was refused
+pub data HasPassed (limit : ℕ) (sought : ℤ) (old : CursorView) (outcome : Result (Unit {0}) Error)
+    (new : CursorView) : Type 0 where
+  a_pass : (mid : CursorView) → HasRead limit old (Ok true) mid → outcome ≡ Ok tt
+      → new ≡ leave_entry sought mid → HasPassed limit sought old outcome new
+  no_pass : (e : Error) → HasRead limit old (Err e) new → outcome ≡ Err e
+      → HasPassed limit sought old outcome new
+
 -- where a search ended, by which a cursor answers and stands as the definition says
 abbrev pub Stands : ℕ → Result Bool Error → CursorView → Moved → Type 0
 Stands limit outcome new m =

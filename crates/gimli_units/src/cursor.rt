@@ -2,6 +2,7 @@
 
 ghost use Rattle.std.specs.Prelude.{◌≡◌, ◌+◌, ◌-◌, ◌<◌, ◌≤◌, ◌^◌, length, unsigned_abs, Ok, Err};
 ghost use Rattle.std.specs.Prelude.{Some, false, true, not, IfOk, IfErr, IfSome, IsOk, []};
+ghost use Rattle.std.specs.Prelude.{◌&&◌, int_le};
 ghost use Rattle.std.specs.Ordering.{int_eq};
 ghost use Rattle.std.specs.Option.{option_map};
 ghost use Rattle.gimli_base.specs.declared.error.Error.TheVariants.{OutOfMemory};
@@ -12,6 +13,7 @@ ghost use Rattle.gimli_units.specs.CursorMoves.{CursorView, cursor_held, Goes, I
 ghost use Rattle.gimli_units.specs.CursorStart.{before_first};
 ghost use Rattle.gimli_units.specs.CursorLent.{HasReadOn, HasWalked, HasWalkedOver};
 ghost use Rattle.gimli_units.specs.CursorRead.{HasRead, HasSought, leave_entry, reference_for};
+ghost use Rattle.gimli_units.specs.CursorRead.{HasPassed};
 
 use crate::{DebuggingInformationEntry, EntriesRaw, UnitOffset};
 use gimli_base::{Reader, ReaderOffset, Result};
@@ -258,14 +260,6 @@ impl<'abbrev, R: Reader, A: Allocator> EntriesCursor<'abbrev, R, A> {
         self.seek(offset, depth)
     }
 
-    // Whether the entry or null that was read last has a depth.
-    #[inline(always)]
-    fn has_depth(&self, depth: isize) -> bool
-        ensures { result ≡ int_eq self.now.depth depth }
-    {
-        self.entry.depth == depth
-    }
-
     // Sets the pair of offset and depth.
     fn set_pair(&mut self, offset: UnitOffset<R::Offset>, depth: isize)
         requires shallow { unsigned_abs depth + length self.old.raw.rest.bytes < 2 ^ 63 }
@@ -276,22 +270,76 @@ impl<'abbrev, R: Reader, A: Allocator> EntriesCursor<'abbrev, R, A> {
         self.entry.depth = depth;
     }
 
+    // Whether there is something to read, and it has another depth.
+    #[inline(always)]
+    fn is_before(&self, depth: isize) -> bool
+        ensures left { result ≡ true → length self.now.raw.rest.bytes ≡ 0 → ⊥ }
+        ensures other { result ≡ true → int_eq self.now.raw.depth depth ≡ false }
+        ensures same { result ≡ false → (length self.now.raw.rest.bytes ≡ 0 → ⊥)
+            → int_eq self.now.raw.depth depth ≡ true }
+    {
+        !self.raw.is_empty() && self.raw.next_depth() != depth
+    }
+
+    // Whether the reference of an entry of this depth is followed, if it has one that can be.
+    #[inline(always)]
+    fn is_followed(&self, sought: isize, depth: isize) -> bool
+        ensures { result ≡ (self.now.follows && int_le sought depth) }
+    {
+        let follows = self.follows;
+        follows && sought <= depth
+    }
+
+    // Reads the next entry, without its attributes, and leaves it: for where its reference leads, if
+    // that is followed. There is something to read.
+    #[inline(always)]
+    fn pass_on(&mut self, sought: isize) -> Result<()>
+        requires some { length self.old.raw.rest.bytes ≡ 0 → ⊥ }
+        ensures { HasPassed R.Offset.limit sought self.old result self.new }
+    {
+        let offset = self.raw.next_offset();
+        let depth = self.raw.next_depth();
+        let is_followed = self.is_followed(sought, depth);
+        let read = self.raw.read_head_and_sibling();
+        let reads = self.reads + 1;
+        let entry = &mut self.entry;
+        entry.set_null();
+        entry.offset = offset;
+        entry.depth = depth;
+        self.reads = reads;
+        match read {
+            Ok((_, Some(target))) => {
+                if !is_followed {
+                    return Ok(());
+                }
+                self.raw.go_to(target, depth);
+                Ok(())
+            }
+            Ok((_, None)) => Ok(()),
+            Err(error) => {
+                self.raw.empty();
+                return Err(error);
+            }
+        }
+    }
+
     // Reads on to the first entry of a depth; the references of entries that are at least so deep
     // are followed. At the end of the input the pair becomes `offset` and that depth.
+    //
+    // The attributes of an entry of another depth are passed, but for the reference: only an entry
+    // that may be answered is read as a whole.
     pub(crate) fn seek(&mut self, offset: UnitOffset<R::Offset>, depth: isize) -> Result<bool>
         requires sound { IsSound self.old }
         requires shallow { unsigned_abs depth < 2 ^ 63 }
         ensures { HasSought R.Offset.limit depth (R.Offset.number offset.0) self.old result
             self.new }
     {
-        'seeking: loop {
-            self.follow(depth);
-            if !self.read_next()? {
-                break;
-            }
-            if self.has_depth(depth) {
-                return Ok(self.is_on_entry());
-            }
+        self.follow(depth);
+        'seeking: while self.is_before(depth) {
+            self.pass_on(depth)?;
+        }
+        if self.read_next()? {
+            return Ok(self.is_on_entry());
         }
         self.set_pair(offset, depth);
         Ok(false)

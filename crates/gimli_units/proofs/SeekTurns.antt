@@ -1,0 +1,115 @@
+-- Turns of the search for a depth that passes entries without their attributes: what is left of an
+-- entry that was passed is what a cursor leaves that has read it.
+use Rattle.std.proofs.Common.{◌≡◌, ℕ, ◌<◌, ℤ, Bool, true, false, length, Result, Ok, Err, refl, sym}
+use Rattle.std.proofs.Common.{ap, ◌∙◌, arith}
+use Rattle.std.specs.Prelude.{not}
+use Rattle.std.specs.Ordering.{int_eq}
+use Rattle.gimli_base.specs.declared.error.Error.{Error}
+use Rattle.gimli_base.proofs.Later.{IsLater-length}
+use Rattle.gimli_units.specs.Entry.{is_null}
+use Rattle.gimli_units.specs.CursorMoves.{CursorView, IsSound}
+use Rattle.gimli_units.specs.CursorRead.{HasRead, an_entry, the_end, a_refusal, leave_entry}
+use Rattle.gimli_units.specs.CursorRead.{HasPassed, a_pass, no_pass, HasSought}
+use Rattle.gimli_units.proofs.CursorSteps.{sound_read}
+use Rattle.gimli_units.proofs.Onward.{onward_start, onward_follow}
+use Rattle.gimli_units.proofs.Walking.{read_shorter}
+use Rattle.gimli_units.proofs.Seeking.{Seeking, seeking_on, seeking_start, sought_to, sought_end}
+use Rattle.gimli_units.proofs.Seeking.{sought_out, paired}
+
+-- an entry that was read has the depth that its place had, and there was something to read
+read_depth : (limit : ℕ) (old new : CursorView) (outcome : Result Bool Error)
+    → HasRead limit old outcome new → outcome ≡ Ok true → new.depth ≡ old.raw.depth
+read_depth limit old new outcome (an_entry e w some reads is same) took =
+    ap (λ (c : CursorView). c.depth) same
+read_depth limit old new outcome (the_end none is same) took =
+    let x : ◌≡◌ {A = Result Bool Error} (Ok false) (Ok true) = sym is ∙ took in absurd (cc)
+read_depth limit old new outcome (a_refusal e some is same why memory) took =
+    let x : ◌≡◌ {A = Result Bool Error} (Err e) (Ok true) = sym is ∙ took in absurd (cc)
+
+read_some : (limit : ℕ) (old new : CursorView) (outcome : Result Bool Error)
+    → HasRead limit old outcome new → outcome ≡ Ok true → length old.raw.rest.bytes ≡ 0 → ⊥
+read_some limit old new outcome (an_entry e w some reads is same) took = some
+read_some limit old new outcome (the_end none is same) took =
+    let x : ◌≡◌ {A = Result Bool Error} (Ok false) (Ok true) = sym is ∙ took in absurd (cc)
+read_some limit old new outcome (a_refusal e some is same why memory) took =
+    let x : ◌≡◌ {A = Result Bool Error} (Err e) (Ok true) = sym is ∙ took in absurd (cc)
+
+module _ (limit : ℕ) (depth : ℤ) (offset : ℕ) where
+  -- a search that has left an entry, and has found nothing yet
+  pub record Leaving (start here : CursorView) : Type 0 where
+    pub mid : CursorView
+    pub seeking : Seeking limit depth offset start mid
+    pub left : here ≡ leave_entry depth mid
+
+  pub leaving_start : (start here : CursorView) → IsSound start → here ≡ leave_entry depth start
+      → Leaving start here
+  leaving_start start here s left =
+      record { mid = start; seeking = seeking_start limit depth offset start s; left = left }
+
+  pub leaving_sound : (start here : CursorView) → Leaving start here → IsSound here
+  leaving_sound start here k =
+      rw k.left (onward_follow k.mid k.mid depth (onward_start k.mid k.seeking.onward.sound)).sound
+
+  -- an entry of another depth is passed
+  pub leaving_on : (start here : CursorView) (outcome : Result (Unit {0}) Error) (new : CursorView)
+      → Leaving start here → HasPassed limit depth here outcome new → outcome ≡ Ok tt
+      → int_eq here.raw.depth depth ≡ false → Leaving start new
+  leaving_on start here outcome new k (a_pass mid read is same) took other =
+      let deep = read_depth limit here mid (Ok true) read refl in
+      record {
+        mid = mid;
+        seeking =
+            seeking_on limit depth offset start k.mid (Ok true) mid k.seeking (rw k.left at read)
+            refl (rw deep other);
+        left = same;
+      }
+  leaving_on start here outcome new k (no_pass e read is) took other =
+      let x : ◌≡◌ {A = Result (Unit {0}) Error} (Err e) (Ok tt) = sym is ∙ took in absurd (cc)
+
+  -- each turn leaves fewer bytes
+  pub leaving_shorter : (start here : CursorView) (outcome : Result (Unit {0}) Error)
+      (new : CursorView) → Leaving start here → HasPassed limit depth here outcome new
+      → outcome ≡ Ok tt → length new.raw.rest.bytes < length here.raw.rest.bytes
+  leaving_shorter start here outcome new k (a_pass mid read is same) took =
+      let s = sound_read limit here (Ok true) mid (leaving_sound start here k) read in
+      let o = onward_follow mid mid depth (onward_start mid s) in
+      let fewer = IsLater-length 0 mid.raw.rest (leave_entry depth mid).raw.rest o.further in
+      let one = read_shorter limit here (Ok true) mid read refl in
+      rw same (omega (arith, fewer, one))
+  leaving_shorter start here outcome new k (no_pass e read is) took =
+      let x : ◌≡◌ {A = Result (Unit {0}) Error} (Err e) (Ok tt) = sym is ∙ took in absurd (cc)
+
+  -- an entry of another depth is refused
+  pub leaving_out : (start here : CursorView) (outcome : Result (Unit {0}) Error) (new : CursorView)
+      → Leaving start here → HasPassed limit depth here outcome new → (x : Error)
+      → outcome ≡ Err x → HasSought limit depth offset start (Err x) new
+  leaving_out start here outcome new k (a_pass mid read is same) x fails =
+      let y : ◌≡◌ {A = Result (Unit {0}) Error} (Ok tt) (Err x) = sym is ∙ fails in absurd (cc)
+  leaving_out start here outcome new k (no_pass e read is) x fails =
+      let y : ◌≡◌ {A = Result (Unit {0}) Error} (Err e) (Err x) = sym is ∙ fails in
+      let one : e ≡ x = cc in
+      sought_out limit depth offset start k.mid (Err e) new k.seeking (rw k.left at read) x
+      (ap Err one)
+
+  -- what is read then has the depth
+  pub left_to : (start here : CursorView) (outcome : Result Bool Error) (new : CursorView)
+      → Leaving start here → HasRead limit here outcome new → outcome ≡ Ok true
+      → ((length here.raw.rest.bytes ≡ 0 → ⊥) → int_eq here.raw.depth depth ≡ true)
+      → HasSought limit depth offset start (Ok (not (is_null new.entry))) new
+  left_to start here outcome new k read took there =
+      let deep = read_depth limit here new outcome read took in
+      let at = there (read_some limit here new outcome read took) in
+      sought_to limit depth offset start k.mid outcome new k.seeking (rw k.left at read) took
+      (rw deep at)
+
+  pub left_end : (start here : CursorView) (outcome : Result Bool Error) (new : CursorView)
+      → Leaving start here → HasRead limit here outcome new → outcome ≡ Ok false
+      → HasSought limit depth offset start (Ok false) (paired limit depth offset new)
+  left_end start here outcome new k read ends =
+      sought_end limit depth offset start k.mid outcome new k.seeking (rw k.left at read) ends
+
+  pub left_out : (start here : CursorView) (outcome : Result Bool Error) (new : CursorView)
+      → Leaving start here → HasRead limit here outcome new → (x : Error) → outcome ≡ Err x
+      → HasSought limit depth offset start (Err x) new
+  left_out start here outcome new k read x fails =
+      sought_out limit depth offset start k.mid outcome new k.seeking (rw k.left at read) x fails
