@@ -3,7 +3,12 @@
 use Rattle.std.proofs.Common.{◌≡◌, ℕ, ℤ, pos, ◌+ℤ◌, ◌-ℤ◌, Bool, true, false, List, [], ◌∷◌, ◌++◌}
 use Rattle.std.proofs.Common.{length, Option, Some, None, Result, Ok, Err, refl, sym, ap, ◌∙◌}
 use Rattle.std.proofs.Common.{arith}
-use Rattle.std.specs.Prelude.{◌≤ℤ◌, is_some, IfOk, OnOk}
+use Rattle.std.specs.Prelude.{◌≤ℤ◌, ◌≢◌, not, is_some, IfOk, IfSome, OnOk}
+use Rattle.std.specs.Option.{is_none, option_copied}
+use Rattle.std.proofs.Common.{Bor}
+use Rattle.std.proofs.lemmas.Bool.{ne_eqb}
+use Rattle.gimli_base.specs.Abbreviations.{Declaration}
+use Rattle.gimli_units.specs.Head.{Head, head, head_of}
 use Rattle.std.proofs.lemmas.Int.{ints}
 use Rattle.gimli_base.specs.declared.error.Error.{Error}
 use Rattle.gimli_base.specs.Table.{codes_of}
@@ -17,6 +22,21 @@ use Rattle.gimli_units.specs.Honest.{usable_target}
 use Rattle.gimli_headers.specs.OpenRows.{OpenRow, Checked, Rise, judgement}
 use Rattle.gimli_headers.proofs.OpenTurns.{rise_in, rise_up, entry_found, entry_passed}
 use Rattle.gimli_headers.proofs.OpenTurns.{entry_opened}
+
+pub not_twice : (b : Bool) → not (not b) ≡ b
+not_twice true = refl
+not_twice false = refl
+
+-- an entry is a null where its head is that of no declaration
+pub head_null : (declared : Option (Bor Declaration)) (e : Entry)
+    → IfSome (option_copied declared) (λ d. d.tag.0 ≢ 0)
+    → head_of (option_copied declared) ≡ head e → is_null e ≡ is_none declared
+head_null None e some same =
+    let tag : e.tag.0 ≡ 0 = sym (ap (λ (h : Head). h.tag.0) same) in
+    rw tag refl
+head_null (Some d) e some same =
+    let tag : e.tag.0 ≡ d.now.tag.0 = sym (ap (λ (h : Head). h.tag.0) same) in
+    rw tag (ne_eqb d.now.tag.0 0 some)
 
 -- the depth after a null, and after an entry
 null_after : (e : Entry) (d : ℤ) → is_null e ≡ true → (d -ℤ pos 1) ≤ℤ depth_after e d

@@ -1,16 +1,16 @@
 -- What a check of sibling references holds: the entries whose children are not closed yet, and the
 -- first false reference (DWARF 5, 2.3).
-use Rattle.std.specs.Prelude.{ℕ, ℤ, pos, ◌+ℤ◌, ◌≤ℤ◌, if◌then◌else◌, List, [], ◌∷◌, map, Option}
+use Rattle.std.specs.Prelude.{◌≡◌, ℕ, ℤ, pos, ◌+ℤ◌, ◌≤ℤ◌, if◌then◌else◌, List, [], ◌∷◌, map, Option}
 use Rattle.std.specs.Prelude.{Some, None}
 use Rattle.std.specs.Option.{option_map}
-use Rattle.gimli_base.specs.View.{View}
-use Rattle.gimli_units.specs.declared.entry.DebuggingInformationEntry.{DebuggingInformationEntry}
-use Rattle.gimli_units.specs.Entry.{entry_of}
+use Rattle.gimli_units.specs.Entry.{is_null}
+use Rattle.gimli_units.specs.Kind.{kind_of}
 use Rattle.gimli_units.specs.Rows.{Row}
-use Rattle.gimli_units.specs.Honest.{past_closer}
+use Rattle.gimli_units.specs.Honest.{past_closer, target}
 use Rattle.gimli_units.specs.FirstFalse.{misses, first_false}
 use Rattle.gimli_headers.specs.declared.siblings.Open.{Open}
 use Rattle.gimli_headers.specs.declared.siblings.Check.{Check}
+use Rattle.gimli_headers.specs.declared.siblings.Passed.{Passed}
 
 -- an entry whose children are not closed yet: where it stands, its depth, and where its reference
 -- leads
@@ -33,11 +33,13 @@ abbrev pub check_held : {O A : Type 0} → (O → ℕ) → Check O A → Checked
 check_held g c =
     record { opens = map (open_of g) c.open.items; first = option_map (λ o. g o.0) c.first }
 
--- the row of an entry that code holds, with the offset of what is after it
-abbrev pub row_of : {R A O : Type 0} → (R → View) → (O → ℕ) → DebuggingInformationEntry R A O → ℕ
-    → Row
-row_of f g e behind =
-    record { offset = g e.offset.0; next = behind; depth = e.depth; entry = entry_of f g e }
+-- a row, of which this was read, with the offset of what is after it
+pub record IsRowOf {O : Type 0} (g : O → ℕ) (x : Passed O) (behind : ℕ) (r : Row) : Type 0 where
+  pub null : is_null r.entry ≡ x.is_null
+  pub offset : r.offset ≡ g x.offset.0
+  pub next : r.next ≡ behind
+  pub depth : r.depth ≡ x.depth
+  pub leads : target (kind_of r.entry) ≡ option_map (λ o. g o.0) x.sibling
 
 -- the depth of the outermost of these, or one that is given
 abbrev pub outermost_depth : ℤ → List OpenRow → ℤ

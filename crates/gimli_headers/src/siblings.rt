@@ -5,11 +5,10 @@ ghost use Rattle.std.specs.Prelude.{IfOk, IfErr, IfSome, OnOk};
 ghost use Rattle.std.specs.Option.{option_map};
 ghost use Rattle.gimli_base.specs.declared.error.Error.TheVariants.{OutOfMemory};
 ghost use Rattle.gimli_base.specs.Table.{codes_of};
-ghost use Rattle.gimli_units.specs.Entry.{entry_of, is_null};
-ghost use Rattle.gimli_units.specs.Kind.{kind_of};
+ghost use Rattle.gimli_units.specs.Entry.{is_null};
 ghost use Rattle.gimli_units.specs.RawPlace.{depth_after};
 ghost use Rattle.gimli_units.specs.Rows.{Row};
-ghost use Rattle.gimli_units.specs.Honest.{target, within};
+ghost use Rattle.gimli_units.specs.Honest.{within};
 ghost use Rattle.gimli_units.specs.CursorMoves.{rows_of};
 ghost use Rattle.gimli_units.specs.Unit.{whole_length};
 ghost use Rattle.gimli_units.specs.UnitHeld.{unit_view};
@@ -17,11 +16,11 @@ ghost use Rattle.gimli_units.specs.UnitRows.{unit_rows, start_view, IsHonestAt, 
 ghost use Rattle.gimli_units.specs.UnitRows.{StandsAt};
 ghost use Rattle.gimli_units.specs.FirstFalse.{first_false};
 ghost use Rattle.gimli_units.specs.FirstFalse.{IsLeastFalse};
-ghost use Rattle.gimli_headers.specs.OpenRows.{OpenRow, open_of, check_held, row_of, Rise};
+ghost use Rattle.gimli_headers.specs.OpenRows.{OpenRow, open_of, check_held, IsRowOf, Rise};
 ghost use Rattle.gimli_headers.specs.OpenRows.{judgement};
 
 use gimli_base::{Abbreviations, Error, Reader, ReaderOffset, Result};
-use gimli_units::{DebuggingInformationEntry, EntriesRaw, UnitHeader, UnitOffset};
+use gimli_units::{EntriesRaw, UnitHeader, UnitOffset};
 use std::alloc::Allocator;
 
 // An entry whose children are not closed yet, and whose reference can be followed.
@@ -41,18 +40,28 @@ struct Check<Offset, A: Allocator> {
     first: Option<UnitOffset<Offset>>,
 }
 
-// Where the reference of an entry leads, if it can be followed: not before what is after the entry,
-// and not past the end.
-fn usable_target<R: Reader, A: Allocator>(
-    entry: &DebuggingInformationEntry<R, A>,
-    behind: UnitOffset<R::Offset>,
-    end: UnitOffset<R::Offset>,
-) -> Option<UnitOffset<R::Offset>>
-    ensures { let number = R.Offset.number in
-        let leads = target (kind_of (entry_of R.view number entry.now)) in
+// An entry or a null of which only this is read: where it stands, its depth, and where its reference
+// leads, if it has children and one.
+#[derive(Clone, Copy)]
+struct Passed<Offset> {
+    is_null: bool,
+    offset: UnitOffset<Offset>,
+    depth: isize,
+    sibling: Option<UnitOffset<Offset>>,
+}
+
+// Where a reference leads, if it can be followed: not before what is after its entry, and not past
+// the end.
+fn usable_target<Offset: ReaderOffset>(
+    sibling: Option<UnitOffset<Offset>>,
+    behind: UnitOffset<Offset>,
+    end: UnitOffset<Offset>,
+) -> Option<UnitOffset<Offset>>
+    ensures { let number = Offset.number in
+        let leads = option_map (λ o. number o.0) sibling in
         option_map (λ o. number o.0) result ≡ within (number behind.0) (number end.0) leads }
 {
-    let target = entry.sibling()?;
+    let target = sibling?;
     let number = target.0.into_u64();
     if behind.0.into_u64() <= number && number <= end.0.into_u64() {
         Some(target)
@@ -148,37 +157,38 @@ impl<Offset: ReaderOffset, A: Allocator> Check<Offset, A> {
 
 // Goes after an entry or a null, with the offsets of what is after it and of the end. Refusal:
 // `OutOfMemory`.
-fn go_behind<R: Reader, A: Allocator>(
-    check: &mut Check<R::Offset, A>,
-    entry: &DebuggingInformationEntry<R, A>,
-    behind: UnitOffset<R::Offset>,
-    end: UnitOffset<R::Offset>,
+fn go_behind<Offset: ReaderOffset, A: Allocator>(
+    check: &mut Check<Offset, A>,
+    passed: &Passed<Offset>,
+    behind: UnitOffset<Offset>,
+    end: UnitOffset<Offset>,
 ) -> Result<()>
-    requires { Rise entry.now.depth (check_held R.Offset.number check.old).opens }
-    ensures judged { OnOk result ((rest : List Row) →
-        let r = row_of R.view R.Offset.number entry.now (R.Offset.number behind.0) in
-        judgement (R.Offset.number end.0) (check_held R.Offset.number check.new) rest
-        ≡ judgement (R.Offset.number end.0) (check_held R.Offset.number check.old) (r ∷ rest)) }
-    ensures rise { let e = entry_of R.view R.Offset.number entry.now in
-        let depth = depth_after e entry.now.depth in
-        OnOk result (Rise depth (check_held R.Offset.number check.new).opens) }
+    requires { Rise passed.now.depth (check_held Offset.number check.old).opens }
+    ensures judged { OnOk result ((r : Row) (rest : List Row) →
+        IsRowOf Offset.number passed.now (Offset.number behind.0) r →
+        judgement (Offset.number end.0) (check_held Offset.number check.new) rest
+        ≡ judgement (Offset.number end.0) (check_held Offset.number check.old) (r ∷ rest)) }
+    ensures rise { OnOk result ((r : Row) →
+        IsRowOf Offset.number passed.now (Offset.number behind.0) r →
+        Rise (depth_after r.entry r.depth) (check_held Offset.number check.new).opens) }
     ensures refusal { IfErr result (λ e. e ≡ OutOfMemory) }
 {
-    if entry.is_null() {
-        check.close(entry.depth(), behind);
+    if passed.is_null {
+        check.close(passed.depth, behind);
         return Ok(());
     }
     if check.first.is_some() {
         return Ok(());
     }
-    match usable_target(entry, behind, end) {
-        Some(target) => check.enter(entry.offset(), entry.depth(), target),
+    match usable_target(passed.sibling, behind, end) {
+        Some(target) => check.enter(passed.offset, passed.depth, target),
         None => Ok(()),
     }
 }
 
-// The first of the rows that are left whose reference is false. Refusal: `OutOfMemory`.
-fn first_false_ahead<R: Reader, A: Allocator + Copy>(
+// The first of the rows that are left whose reference is false. Of an entry only the head and the
+// reference are read. Refusal: `OutOfMemory`.
+fn first_false_ahead<R: Reader, A: Allocator>(
     alloc: A,
     entries: &mut EntriesRaw<'_, R, A>,
     end: UnitOffset<R::Offset>,
@@ -190,13 +200,21 @@ fn first_false_ahead<R: Reader, A: Allocator + Copy>(
     ensures refusal { IfErr result (λ e. e ≡ OutOfMemory) }
 {
     let mut check = Check::new(alloc);
-    let mut entry = DebuggingInformationEntry::null(alloc);
     'rows: while !entries.is_empty() {
-        match entries.read_entry(&mut entry) {
-            Ok(_) => {}
+        let offset = entries.next_offset();
+        let depth = entries.next_depth();
+        match entries.read_head_and_sibling() {
+            Ok((declared, sibling)) => {
+                let passed = Passed {
+                    is_null: declared.is_none(),
+                    offset,
+                    depth,
+                    sibling,
+                };
+                go_behind(&mut check, &passed, entries.next_offset(), end)?;
+            }
             Err(error) => return check.stop(error),
         }
-        go_behind(&mut check, &entry, entries.next_offset(), end)?;
     }
     Ok(check.finish())
 }

@@ -1,10 +1,15 @@
-use Rattle.std.proofs.Common.{◌≡◌, ◌∷◌, ℤ, refl, sym, ap, ◌∙◌, rules, length}
+use Rattle.std.proofs.Common.{◌≡◌, ◌∷◌, ℤ, refl, sym, ap, ◌∙◌, rules, length, w64, to_z, of_z}
+use Rattle.std.specs.Option.{option_map, option_copied}
+use Rattle.std.proofs.lemmas.Int.{to_z-of_z}
 use Rattle.gimli_units.proofs.EntryReads.{entry_at-shorter}
+use Rattle.gimli_units.proofs.PassedOn.{entry_of_head, refusal_of_head}
 use Rattle.gimli_units.specs.RawPlace.{RawPlace}
 use Rattle.gimli_units.specs.Rows.{Row}
 use Rattle.gimli_units.specs.CursorMoves.{rows_of}
-use Rattle.gimli_headers.specs.OpenRows.{check_held, row_of, judgement}
+use Rattle.gimli_headers.specs.OpenRows.{check_held, judgement, IsRowOf}
 use Rattle.gimli_headers.proofs.RowTurns.{if_ok, ended_rows, refused_rows, more_rows, turn_judged}
+use Rattle.gimli_headers.proofs.RowTurns.{head_null, not_twice}
+use Rattle.std.specs.Prelude.{not}
 use Rattle.gimli_headers.proofs.siblings.first_false_ahead.Goals as goal
 
 pub returns-in-Err : goal.returns-in-Err
@@ -15,38 +20,71 @@ returns-in-Err g c =
     let some : length p.rest.bytes ≡ 0 → ⊥ = λ none. let t = c.rows-test.ensures.1 none in cc in
     record {
       value = if_ok c.stop.result (λ o h.
-          let none = refused_rows limit p c.in-Err.error some (c.in-Err.ensures.value h.0) in
+          let none = refused_rows limit p c.in-Err.error some
+          (refusal_of_head limit p c.in-Err.error c.in-Err.ensures.value) in
           h.1 p.end ∙ ap (judgement p.end (check_held number c.rows.check)) (sym none)
           ∙ c.rows.invariant.same) c.stop.ensures.value;
       refusal = c.stop.ensures.refusal;
     }
 
 pub rows-smaller : goal.rows-smaller
-rows-smaller g c = entry_at-shorter _ _ _ _ _ _ c.in-Ok.ensures.value
+rows-smaller g c =
+    let limit = g.R.Offset.ReaderOffset.limit in
+    let number = g.R.Offset.ReaderOffset.number in
+    let p = c.rows.entries in
+    let q = c.read_head_and_sibling.new.self in
+    let o = option_copied c.in-Ok.declared in
+    let leads = option_map (λ x. number x.0) c.in-Ok.sibling in
+    let h = entry_of_head limit p o leads q.rest q.depth c.in-Ok.ensures.value c.in-Ok.ensures.some
+    c.in-Ok.ensures.depth in
+    entry_at-shorter _ _ _ _ _ _ h.reads
 
 pub rows-preserved : goal.rows-preserved
 rows-preserved g c =
     let limit = g.R.Offset.ReaderOffset.limit in
     let number = g.R.Offset.ReaderOffset.number in
     let p = c.rows.entries in
-    let q = c.read_entry.new.self in
-    let r : Row = row_of g.R.Reader.view number c.read_entry.new.entry
-    (number c.next_offset.result.0) in
+    let q = c.read_head_and_sibling.new.self in
+    let o = option_copied c.in-Ok.declared in
+    let leads = option_map (λ x. number x.0) c.in-Ok.sibling in
+    let h = entry_of_head limit p o leads q.rest q.depth c.in-Ok.ensures.value c.in-Ok.ensures.some
+    c.in-Ok.ensures.depth in
+    let r : Row = record {
+      offset = number c.next_offset-offset.result.0;
+      next = number c.next_offset.result.0;
+      depth = p.depth;
+      entry = h.entry;
+    } in
     let some : length p.rest.bytes ≡ 0 → ⊥ = search rules in
+    let deep : to_z w64 (of_z w64 c.next_depth-depth.result) ≡ p.depth =
+    to_z-of_z w64 _ (record { sfits = c.next_depth-depth.type_inv }) ∙ c.next_depth-depth.ensures in
     let next = c.in-Ok.ensures.same
-    ∙ ap (λ (d : ℤ). record p { rest = q.rest; depth = d }) c.in-Ok.ensures.depth in
-    let more : (rows_of limit p).rows
-    ≡ r ∷ (rows_of limit q).rows =
-    more_rows limit p q r some c.in-Ok.ensures.value next c.in-Ok.ensures.offset
-    c.next_offset.ensures c.in-Ok.ensures.entry_depth in
+    ∙ ap (λ (d : ℤ). record p { rest = q.rest; depth = d }) h.behind in
+    let more : (rows_of limit p).rows ≡ r ∷ (rows_of limit q).rows =
+    more_rows limit p q r some h.reads next c.next_offset-offset.ensures c.next_offset.ensures refl in
     let same_end : q.end ≡ p.end = ap (λ (x : RawPlace). x.end) c.in-Ok.ensures.same in
     let end : number c.args.end.0 ≡ p.end = c.requires ∙ sym c.rows.invariant.end in
+    let is : IsRowOf number
+    (record {
+      is_null = c.is_none.result;
+      offset = c.next_offset-offset.result;
+      depth = to_z w64 (of_z w64 c.next_depth-depth.result);
+      sibling =
+          c.in-Ok.sibling;
+    }) (number c.next_offset.result.0) r =
+    record {
+      null = head_null c.in-Ok.declared h.entry c.in-Ok.ensures.some h.same
+          ∙ ap not c.is_none.ensures ∙ not_twice c.is_none.result;
+      offset = refl;
+      next = refl;
+      depth = sym deep;
+      leads = sym h.leads;
+    } in
     record {
       same = turn_judged (number c.args.end.0) p.end q.end (check_held number c.rows.check)
           (check_held number c.go_behind.new.check) r _ _ _ end same_end more
-          c.in_ok-go_behind.ensures.judged c.rows.invariant.same;
-      rise = rw (ap (λ (x : RawPlace). x.depth) next, ← c.in-Ok.ensures.entry_depth)
-          c.in_ok-go_behind.ensures.rise;
+          (λ others. c.in_ok-go_behind-in-Ok.ensures.judged r others is) c.rows.invariant.same;
+      rise = rw h.behind (c.in_ok-go_behind-in-Ok.ensures.rise r is);
       end = same_end ∙ c.rows.invariant.end;
     }
 
