@@ -20,3 +20,4 @@ pub mod TreeTruth
 pub mod TreeTurned
 pub mod WordLines
 pub mod WrittenLines
+mod HeadRows

@@ -143,7 +143,7 @@ fn dump_unit<R: Reader, A: Allocator + Copy, W: Write>(
     write_unit_line(out, offset, unit.version(), type_number)?;
     match table_of(alloc, unit, debug_abbrev, held.take()) {
         Ok(of_unit) => {
-            let written = write_rows(alloc, unit, &of_unit.table, out);
+            let written = write_rows(unit, &of_unit.table, out);
             *held = Some(of_unit);
             written
         }

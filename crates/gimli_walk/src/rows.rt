@@ -4,6 +4,8 @@ ghost use Rattle.std.specs.Prelude.{◌≡◌, IfOk, Err};
 ghost use Rattle.gimli_base.specs.Table.{codes_of};
 ghost use Rattle.gimli_units.specs.Entry.{entry_at};
 ghost use Rattle.gimli_units.specs.Rows.{ahead_at};
+ghost use Rattle.gimli_units.specs.Head.{head_of};
+ghost use Rattle.std.specs.Option.{option_copied};
 ghost use Rattle.gimli_units.specs.UnitHeld.{unit_view};
 ghost use Rattle.gimli_walk.specs.declared.lines.Stop.TheVariants.{Memory};
 ghost use Rattle.gimli_walk.specs.Lines.{Text};
@@ -11,14 +13,29 @@ ghost use Rattle.gimli_walk.specs.Text.{Wrote, WroteAll, rows_text, unit_text};
 ghost use Rattle.gimli_walk.specs.Stops.{WroteUntil};
 
 use crate::lines::{Stop, WriteFault, write_end, write_error, write_error_at, write_row};
-use gimli_base::{Abbreviations, Error, Reader, ReaderOffset};
-use gimli_units::{DebuggingInformationEntry, EntriesRaw, UnitHeader};
+use gimli_base::{Abbreviation, Abbreviations, Error, Reader, ReaderOffset};
+use gimli_units::{EntriesRaw, UnitHeader};
 use std::alloc::Allocator;
 use std::io::Write;
 
-// Writes the lines of the rows that are left, and answers the status of their text.
-fn write_rows_left<R: Reader, A: Allocator + Copy, W: Write>(
-    alloc: A,
+// The tag and the children flag of the entries of a declaration, or of a null.
+#[inline(always)]
+fn head_parts<A: Allocator>(declared: Option<&Abbreviation<A>>) -> (u16, bool)
+    ensures tag { result.0 ≡ (head_of (option_copied declared.entry)).tag.0 }
+    ensures flag { result.1 ≡ (head_of (option_copied declared.entry)).has_children }
+{
+    match declared {
+        Some(declared) => {
+            let tag = declared.tag();
+            (tag.0, declared.has_children())
+        }
+        None => (0, false),
+    }
+}
+
+// Writes the lines of the rows that are left, and answers the status of their text. Of an entry only
+// the head is read, so that no memory is taken.
+fn write_rows_left<R: Reader, A: Allocator, W: Write>(
     entries: &mut EntriesRaw<'_, R, A>,
     out: &mut W,
 ) -> Result<u8, Stop>
@@ -27,34 +44,26 @@ fn write_rows_left<R: Reader, A: Allocator + Copy, W: Write>(
         let text = rows_text (ahead_at read entries.old.end entries.old.depth entries.old.rest) in
         WroteUntil (W.contents out.old) (W.contents out.new) text result }
 {
-    let mut entry = DebuggingInformationEntry::null(alloc);
     'rows: while !entries.is_empty() {
-        match entries.read_entry(&mut entry) {
-            Ok(_) => {}
-            Err(Error::OutOfMemory) => {
-                return Err(Stop::Memory);
+        let offset = entries.next_offset().0.into_u64();
+        let depth = entries.next_depth();
+        match entries.read_head() {
+            Ok(declared) => {
+                let (tag, has_children) = head_parts(declared);
+                write_row(out, offset, depth, tag, has_children)?;
             }
             Err(error) => {
-                write_error_at(out, error, entry.offset().0.into_u64())?;
+                write_error_at(out, error, offset)?;
                 return Ok(1);
             }
         }
-        let offset = entry.offset().0.into_u64();
-        write_row(
-            out,
-            offset,
-            entry.depth(),
-            entry.tag().0,
-            entry.has_children(),
-        )?;
     }
     write_end(out)?;
     Ok(0)
 }
 
 /// Writes the lines of a unit's rows, and answers the status of their text.
-pub(crate) fn write_rows<R: Reader, A: Allocator + Copy, W: Write>(
-    alloc: A,
+pub(crate) fn write_rows<R: Reader, A: Allocator, W: Write>(
     unit: &UnitHeader<R>,
     abbreviations: &Abbreviations<A>,
     out: &mut W,
@@ -64,7 +73,7 @@ pub(crate) fn write_rows<R: Reader, A: Allocator + Copy, W: Write>(
         WroteUntil (W.contents out.old) (W.contents out.new) text result }
 {
     match unit.entries_raw(abbreviations, None) {
-        Ok(mut entries) => write_rows_left(alloc, &mut entries, out),
+        Ok(mut entries) => write_rows_left(&mut entries, out),
         Err(_) => {
             write_end(out)?;
             Ok(0)

@@ -146,7 +146,7 @@ fn walk_declared<R: Reader, A: Allocator + Copy, W: Write>(
 {
     match mode {
         Mode::Rows => {
-            let written = write_rows(alloc, unit, abbreviations, out);
+            let written = write_rows(unit, abbreviations, out);
             end_lines(written, out)
         }
         Mode::Check => {
