@@ -1,5 +1,5 @@
 -- The line of an entry of which the head alone was read is that of the entry.
-use Rattle.std.proofs.Common.{◌≡◌, ℕ, ◌<◌, ℤ, Bool, Option, Ok, Err, refl, sym, ap, ◌∙◌, length}
+use Rattle.std.proofs.Common.{◌≡◌, ℕ, ◌<◌, ℤ, Option, Ok, Err, refl, sym, ap, ◌∙◌, length}
 use Rattle.std.specs.Prelude.{◌≢◌, IfSome}
 use Rattle.gimli_base.specs.declared.error.Error.{Error}
 use Rattle.gimli_base.specs.View.{View}
