@@ -9,5 +9,6 @@ pub mod Items
 pub mod Abbreviations
 pub mod Table
 pub mod Width
+pub mod Sizes
 pub mod Address
 pub mod ListsBase

@@ -1,10 +1,11 @@
 -- How many bytes the value of a form takes, where that is known before it is read (DWARF 5, 7.5.6,
 -- table 7.6).
-use Rattle.std.specs.Prelude.{ℕ, ◌==◌, if◌then◌else◌, List, [], ◌∷◌, Option, Some, None}
+use Rattle.std.specs.Prelude.{ℕ, ◌+◌, ◌==◌, if◌then◌else◌, List, [], ◌∷◌, Option, Some, None}
 use Rattle.gimli_base.specs.declared.common.Encoding.{Encoding}
 use Rattle.gimli_base.specs.declared.width.Width.{Width}
 use Rattle.gimli_base.specs.declared.width.Width.TheVariants.{Fixed, Address, Word, Reference}
 use Rattle.gimli_base.specs.declared.width.Width.TheVariants.{Unknown}
+use Rattle.gimli_base.specs.Abbreviations.{Specification}
 use Rattle.gimli_base.specs.Reading.{word_size_of}
 
 -- every form but indirect, by its code
@@ -78,3 +79,14 @@ size_in e Unknown = None
 -- the number of bytes of a form's value, where it does not depend on the bytes
 abbrev pub form_size : Encoding → ℕ → Option ℕ
 form_size e form = size_in e (width_of form)
+
+-- the sum of two numbers, where both are known
+abbrev pub known_sum : Option ℕ → Option ℕ → Option ℕ
+known_sum (Some m) (Some n) = Some (m + n)
+known_sum (Some m) None = None
+known_sum None n = None
+
+-- the number of bytes of the values of attributes together, where it does not depend on the bytes
+abbrev pub attributes_size : Encoding → List Specification → Option ℕ
+attributes_size e [] = Some 0
+attributes_size e (s ∷ ss) = known_sum (form_size e s.form.0) (attributes_size e ss)

@@ -3,7 +3,7 @@
 ghost use Rattle.std.proofs.Common.{ap};
 ghost use Rattle.std.specs.Prelude.{ℕ, ◌≡◌, ◌≢◌, ◌==◌, [], is_some, if◌then◌else◌, Some, None};
 ghost use Rattle.std.specs.Prelude.{Option, OnOk, IfErr, IsSome, unwrap_or, pos, List, ◌++◌, ◌∷◌};
-ghost use Rattle.std.specs.Prelude.{take, nat_le, IfOk};
+ghost use Rattle.std.specs.Prelude.{take, nat_le, IfOk, IfSome, length, ◌<◌, ◌^◌};
 ghost use Rattle.std.specs.Option.{option_copied};
 ghost use Rattle.gimli_base.specs.declared.common.SectionId.TheVariants.{DebugAbbrev as AbbrevSection};
 ghost use Rattle.gimli_base.specs.Abbreviations.{
@@ -18,11 +18,14 @@ ghost use Rattle.gimli_base.specs.Abbreviations.{
   map_at,
   declarations_at,
 };
-ghost use Rattle.gimli_base.specs.Width.{width_of, form_size};
+ghost use Rattle.gimli_base.specs.Width.{width_of, form_size, attributes_size};
+ghost use Rattle.std.specs.List.{All};
+ghost use Rattle.gimli_base.specs.Sizes.{AreSizesOf, fixed_of, others_of};
 ghost use Rattle.gimli_base.specs.Table.{Table, codes_of};
 ghost use Rattle.gimli_base.specs.Offset.{answer_of};
 ghost use Rattle.gimli_base.specs.Reading.{read_of, answer_leaving, map_read, UnlessMemory};
 
+use crate::sizes::Sizes;
 use crate::width::Width;
 use crate::{
     DW_AT_null, DW_CHILDREN_no, DW_CHILDREN_yes, DW_FORM_implicit_const, DW_FORM_null, DW_TAG_null,
@@ -126,12 +129,59 @@ impl AttributeSpecification {
     {
         self.width.size(encoding)
     }
+}
+
+// A declared attribute, and what its width adds to the sums of its declaration: both come of one
+// look at the form.
+#[derive(Clone, Copy)]
+struct Counted {
+    specification: AttributeSpecification,
+    fixed: u32,
+    others: u64,
+}
+
+impl Model for Counted {
+    ghost Value = { Specification };
+
+    ghost view = { λ c. c.specification };
+
+    ghost inverse = { λ s.
+        record {
+          specification = s;
+          fixed = fixed_of (width_of s.form.0);
+          others = others_of (width_of s.form.0);
+        } };
+
+    ghost invariant = { λ c. (c.fixed ≡ fixed_of (width_of c.specification.form.0))
+        × (c.others ≡ others_of (width_of c.specification.form.0)) };
+}
+
+impl Counted {
+    // A declared attribute; a number stands exactly with the form implicit_const.
+    #[inline(always)]
+    fn new(name: DwAt, form: DwForm, implicit_const_value: Option<i64>) -> Self
+        requires { IsWellFormed
+            (record { name = name; form = form; constant = implicit_const_value }) }
+        ensures { result ≡ record { name = name; form = form; constant = implicit_const_value } }
+    {
+        let share = Width::share(form);
+        Counted {
+            specification: AttributeSpecification {
+                name,
+                form,
+                width: share.width,
+                constant: implicit_const_value.unwrap_or(0),
+            },
+            fixed: share.fixed,
+            others: share.others,
+        }
+    }
 
     // The next declared attribute, or none where two zeros end the list; where it is refused, the
     // input is left anywhere.
     #[inline(always)]
     #[tactic(auto, unfolding(crate::specs::Abbreviations::specification_at))]
-    fn parse<R: Reader>(input: &mut R) -> Result<Option<AttributeSpecification>>
+    fn parse<R: Reader>(input: &mut R) -> Result<Option<Counted>>
         ensures { read_of result (R.view input.new) ≡ specification_at (R.view input.old) }
     {
         let name = DwAt(input.read_uleb128_u16()?);
@@ -142,9 +192,9 @@ impl AttributeSpecification {
             (_, DW_FORM_null) => Err(Error::AttributeFormZero),
             (_, DW_FORM_implicit_const) => {
                 let value = input.read_sleb128()?;
-                Ok(Some(AttributeSpecification::new(name, form, Some(value))))
+                Ok(Some(Counted::new(name, form, Some(value))))
             }
-            _ => Ok(Some(AttributeSpecification::new(name, form, None))),
+            _ => Ok(Some(Counted::new(name, form, None))),
         }
     }
 }
@@ -152,12 +202,17 @@ impl AttributeSpecification {
 // How many attributes stand in a declaration itself: the 12 in the view of `Attributes`.
 const FEW: usize = 12;
 
+// Up to how many attributes the bytes of all are known, since each count has 16 bits.
+const MOST: usize = 65_535;
+
 // The attributes of a declaration: up to `FEW` in place, since to ask for memory takes longer than
 // to read a declaration, and more in a list of their own.
 #[derive(Drop)]
 struct Attributes<A: Allocator> {
-    // above `FEW` where they are in the list
-    count: usize,
+    // of all of them; they lie beside the tag
+    sizes: Sizes,
+    // above `FEW` where they are in the list (a `u32`, which fills the bytes after the sizes)
+    count: u32,
     few: [AttributeSpecification; FEW],
     more: Vec<AttributeSpecification, A>,
 }
@@ -166,6 +221,9 @@ impl<A: Allocator> Model for Attributes<A> {
     ghost Value = { List Specification };
 
     ghost view = { λ a. if nat_le a.count 12 then take a.count a.few else a.more.items };
+
+    ghost invariant = { λ a.
+        AreSizesOf a.sizes (if nat_le a.count 12 then take a.count a.few else a.more.items) };
 }
 
 impl<A: Allocator> Debug for Attributes<A> {
@@ -182,6 +240,7 @@ impl<A: Allocator> Attributes<A> {
     {
         let none = AttributeSpecification::new(DW_AT_null, DW_FORM_null, None);
         Attributes {
+            sizes: Sizes::new(),
             count: 0,
             few: [none; FEW],
             more: Vec::new(alloc),
@@ -193,21 +252,35 @@ impl<A: Allocator> Attributes<A> {
     fn as_slice(&self) -> &[AttributeSpecification]
         ensures { result.now ≡ self.now }
     {
-        if self.count <= FEW {
-            &self.few[..self.count]
+        let count = self.count as usize;
+        if count <= FEW {
+            &self.few[..count]
         } else {
             &self.more
         }
     }
 
+    // The bytes of all together under an encoding, where they are known.
+    #[inline(always)]
+    fn size(&self, encoding: Encoding) -> Option<u64>
+        ensures exact { IfSome result (λ n. attributes_size encoding self.now ≡ Some n) }
+        ensures known { length self.now < 2 ^ 16 → result ≡ attributes_size encoding self.now }
+        ensures formed { All IsWellFormed self.now }
+    {
+        self.sizes.size(encoding)
+    }
+
     // One more attribute; where memory is refused, they are left anywhere.
     #[inline(always)]
-    fn push(&mut self, specification: AttributeSpecification) -> std::result::Result<(), AllocError>
-        ensures { OnOk result (self.new ≡ self.old ++ specification ∷ []) }
+    fn push(&mut self, counted: Counted) -> std::result::Result<(), AllocError>
+        ensures { OnOk result (self.new ≡ self.old ++ counted ∷ []) }
     {
-        if self.count < FEW {
-            self.few[self.count] = specification;
+        let specification = counted.specification;
+        let count = self.count as usize;
+        if count < FEW {
+            self.few[count] = specification;
             self.count += 1;
+            self.sizes.push(counted.fixed, counted.others);
             return Ok(());
         }
         let (name, form) = (specification.name(), specification.form());
@@ -230,12 +303,21 @@ impl<A: Allocator> Attributes<A> {
             ≡ self.old
             ++ record { name = name; form = form; constant = implicit_const_value } ∷ []) }
     {
-        if self.count <= FEW {
+        let count = self.count as usize;
+        if count <= FEW {
             self.more.clear();
-            self.more.extend_from_slice(&self.few[..self.count])?;
-            self.count = FEW + 1;
+            self.more.extend_from_slice(&self.few[..count])?;
+            self.count = FEW as u32 + 1;
         }
-        self.more.push(AttributeSpecification::new(name, form, implicit_const_value))?;
+        let before = self.more.len();
+        let counted = Counted::new(name, form, implicit_const_value);
+        let (fixed, others) = (counted.fixed, counted.others);
+        self.more.push(counted.specification)?;
+        if before < MOST {
+            self.sizes.push(fixed, others);
+        } else {
+            self.sizes.forget();
+        }
         Ok(())
     }
 
@@ -248,7 +330,7 @@ impl<A: Allocator> Attributes<A> {
             (read_of (answer_leaving self.new result) (R.view input.new)
             ≡ specifications_at (R.view input.old)) }
     {
-        while let Some(specification) = AttributeSpecification::parse(input)? {
+        while let Some(specification) = Counted::parse(input)? {
             self.push(specification)?;
         }
         Ok(())
@@ -312,6 +394,20 @@ impl<A: Allocator> Abbreviation<A> {
         ensures { result.now ≡ self.now.attributes }
     {
         self.attributes.as_slice()
+    }
+
+    /// The number of bytes that the attributes' values take together under an encoding, where no
+    /// value has to be looked at (DWARF 5, 7.5.6). Of up to 65,535 attributes it is known wherever
+    /// each one's `size` is.
+    #[inline]
+    pub fn attributes_size(&self, encoding: Encoding) -> Option<u64>
+        ensures exact { IfSome result (λ n.
+            attributes_size encoding self.now.attributes ≡ Some n) }
+        ensures known { length self.now.attributes < 2 ^ 16
+            → result ≡ attributes_size encoding self.now.attributes }
+        ensures formed { All IsWellFormed self.now.attributes }
+    {
+        self.attributes.size(encoding)
     }
 }
 

@@ -15,6 +15,7 @@ mod leb128;
 mod offset;
 mod reader;
 mod section;
+mod sizes;
 mod str;
 mod whole_slice;
 mod width;

@@ -29,3 +29,8 @@ returns-clause-ok g c =
     (found-insert _ _ _ c.args.declared
     (not_inside c.self.inside.dense.items c.self.inside.others.entries c.args.declared.code
     none) updates)
+
+pub returns-clause-new : goal.returns-clause-new
+returns-clause-new g c =
+    let code_is = ap (λ (d : Declaration). d.code) c.declared.view_is in
+    rw code_is at (sym c.get.ensures ∙ none_of c.get.result c.if-is_some.ensures)
