@@ -1,14 +1,16 @@
 -- Attributes of known sizes are passed together, where all their bytes are there.
 use Rattle.std.specs.Prelude.{◌≡◌, ℕ, ◌+◌, ◌-◌, ◌<◌, ◌≤◌, length, take, List, [], ◌∷◌, All}
-use Rattle.std.specs.Prelude.{Option, Some, None, Ok}
+use Rattle.std.specs.Prelude.{Option, Some, None, Result, Ok, Err, true}
 use Rattle.std.specs.List.{AllByRecursion}
 use Rattle.std.proofs.Common.{refl, sym, ap, subst, ◌∙◌, arith, length-drop}
 use Rattle.std.proofs.lemmas.List.{take-take, drop-take}
 use Rattle.std.proofs.lemmas.List.Elements.{All-take, All-drop, recursion_from_All}
 use Rattle.gimli_base.specs.declared.common.Encoding.{Encoding}
 use Rattle.gimli_base.specs.View.{View, cut}
-use Rattle.gimli_base.specs.Reading.{◌>>=◌, skip_at}
-use Rattle.gimli_base.specs.Width.{form_size}
+use Rattle.gimli_base.specs.declared.error.Error.{Error}
+use Rattle.std.specs.Result.{is_ok}
+use Rattle.gimli_base.specs.Reading.{◌>>=◌, read_of, skip_at}
+use Rattle.gimli_base.specs.Width.{form_size, known_sum, attributes_size}
 use Rattle.gimli_base.specs.Abbreviations.{Specification, IsWellFormed}
 use Rattle.gimli_base.proofs.Later.{cut-cut}
 use Rattle.gimli_base.proofs.Passed.{skip_at-none}
@@ -17,17 +19,6 @@ use Rattle.gimli_units.specs.Sized.{ReadsAny}
 use Rattle.gimli_units.proofs.SkipTurns.{skip_ok}
 use Rattle.gimli_units.proofs.SizedReads.{Passed, left_by, attribute_any}
 use Rattle.gimli_units.proofs.ReadTurns.{left_by_all}
-
--- the sum of two sizes, where both are known
-abbrev pub sum_known : Option ℕ → Option ℕ → Option ℕ
-sum_known (Some m) (Some n) = Some (m + n)
-sum_known (Some m) None = None
-sum_known None o = None
-
--- how many bytes the values of these specifications take, where it is known of each
-abbrev pub attributes_size : Encoding → List Specification → Option ℕ
-attributes_size e [] = Some 0
-attributes_size e (s ∷ ss) = sum_known (form_size e s.form.0) (attributes_size e ss)
 
 -- a value of a bytes, and then others of b
 module _ (limit : ℕ) (e : Encoding) (any : (n : ℕ) → ReadsAny limit e n) where
@@ -66,7 +57,7 @@ module _ (limit : ℕ) (e : Encoding) (any : (n : ℕ) → ReadsAny limit e n) w
       cases (form_size e s.form.0) (attributes_size e ss) refl refl h (together ss well.1)
     where
       cases : (o p : Option ℕ) → form_size e s.form.0 ≡ o → attributes_size e ss ≡ p
-          → Some n ≡ sum_known o p → Together ss
+          → Some n ≡ known_sum o p → Together ss
           → left_by (attributes_at limit e (s ∷ ss) v) ≡ Ok (tt, cut n v)
       cases (Some a) (Some b) i j k others =
           let sum : a + b ≡ n = cc in
@@ -82,3 +73,26 @@ module _ (limit : ℕ) (e : Encoding) (any : (n : ℕ) → ReadsAny limit e n) w
       → All (λ b. b < 256) (take n v.bytes)
       → left_by (attributes_at limit e ss v) ≡ Ok (tt, cut n v)
   attributes_together ss well = together ss (recursion_from_All IsWellFormed ss well)
+
+-- bytes that are there were passed
+pub skipped : (r : Result (Unit {0}) Error) (w v : View) (n : ℕ) → is_ok r ≡ true
+    → read_of r w ≡ skip_at n v → n ≤ length v.bytes → w ≡ cut n v
+skipped (Ok u) w v n h is le =
+    let both : ◌≡◌ {A = Passed} (Ok (u, w)) (Ok (tt, cut n v)) = is ∙ skip_ok n v le in
+    let pair : ◌≡◌ {A = Unit {0} × View} (u, w) (tt, cut n v) = cc in
+    ap (λ (p : Unit {0} × View). p.1) pair
+skipped (Err e) w v n h is le = absurd (cc)
+
+-- where a number of 8 bytes and less is never refused, none of any size is
+pub any_below : (limit : ℕ) (e : Encoding) (above : ℕ) → ((n : ℕ) → n < above → ReadsAny limit e n)
+    → 256 ≤ above → (m : ℕ) → ReadsAny limit e m
+any_below limit e above h le m = record {
+  sized = (h 0 (omega (arith, le))).sized;
+  fits = λ few. (h m (omega (arith, le, few))).fits few;
+}
+
+-- the first of bytes are bytes
+pub first_bytes : (n m : ℕ) (xs : List ℕ) → n ≤ m → All (λ b. b < 256) (take m xs)
+    → All (λ b. b < 256) (take n xs)
+first_bytes n m xs le h =
+    subst (All (λ b. b < 256)) (take-take n m xs le) (All-take (λ b. b < 256) n (take m xs) h)

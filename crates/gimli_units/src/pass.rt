@@ -8,11 +8,15 @@ ghost use Rattle.gimli_base.specs.Offset.{answer_of};
 ghost use Rattle.gimli_base.specs.Reading.{read_of, map_read, skip_at, is_size};
 ghost use Rattle.gimli_units.specs.Kind.{unit_reference, sibling_of};
 ghost use Rattle.gimli_units.specs.Entry.{attribute_at, attributes_at};
-ghost use Rattle.gimli_units.specs.Sized.{ReadsAny};
+ghost use Rattle.gimli_units.specs.Sized.{ReadsAny, PassesTogether};
+ghost use Rattle.std.specs.Prelude.{true, false};
 
 use crate::UnitOffset;
 use crate::attribute::parse_attribute;
-use gimli_base::{AttributeSpecification, DW_AT_sibling, Encoding, Reader, ReaderOffset, Result};
+use gimli_base::{
+    Abbreviation, AttributeSpecification, DW_AT_sibling, Encoding, Reader, ReaderOffset, Result,
+};
+use std::alloc::Allocator;
 
 // Each of these bytes is below 256.
 #[inline(always)]
@@ -25,7 +29,7 @@ fn are_bytes(bytes: &[u8])
 #[inline(always)]
 #[tactic(auto, unfolding(gimli_base::specs::Reading::bytes_at))]
 fn next_are_bytes<R: Reader, const N: usize>(input: &R)
-    requires { N ≤ 8 }
+    requires { N ≤ 64 }
     ensures { let bytes = (R.view input.now).bytes in
         N ≤ length bytes → All (λ b. b < 256) (take N bytes) }
 {
@@ -152,6 +156,45 @@ pub(crate) fn pass_as_read<R: Reader>(
     Ok(())
 }
 
+// How many bytes of attributes are passed together at most: so many are looked at.
+const TOGETHER: u64 = 64;
+
+// Passes so many bytes of attributes of known sizes together, where reading refuses no value that is
+// there; where it answers false, nothing is passed.
+#[inline(always)]
+fn pass_together<R: Reader>(input: &mut R, encoding: Encoding, size: u64) -> bool
+    ensures passed { result ≡ true →
+        PassesTogether R.Offset.limit encoding size (R.view input.old) (R.view input.new) }
+    ensures kept { result ≡ false → R.view input.new ≡ R.view input.old }
+{
+    if size > TOGETHER || input.len().into_u64() < TOGETHER || above_any::<R>(encoding) < 256 {
+        return false;
+    }
+    next_are_bytes::<R, 64>(input);
+    input.skip(R::Offset::from_u8(size as u8)).is_ok()
+}
+
+/// Passes what reading the attributes of a declaration's entry reads, with the same refusals; where
+/// one is refused, the input is left anywhere. Where the size of all is known they are passed as
+/// one.
+#[inline(always)]
+pub(crate) fn pass_declared<R: Reader, A: Allocator>(
+    input: &mut R,
+    encoding: Encoding,
+    declared: &Abbreviation<A>,
+) -> Result<()>
+    ensures { read_of result (R.view input.new)
+        ≡ map_read (λ _. tt)
+        (attributes_at R.Offset.limit encoding declared.now.attributes (R.view input.old)) }
+{
+    if let Some(size) = declared.attributes_size(encoding) {
+        if pass_together(input, encoding, size) {
+            return Ok(());
+        }
+    }
+    pass_as_read(input, encoding, declared.attributes())
+}
+
 // Which specification is the first reference to a sibling, if one is.
 #[inline(always)]
 fn place_of_sibling(specifications: &[AttributeSpecification]) -> Option<usize>
@@ -201,16 +244,17 @@ fn read_reference<R: Reader>(
 /// Passes what `parse_attributes` reads, with the same refusals, and answers where the first
 /// reference to a sibling leads; where one is refused, the input is left anywhere.
 #[inline(always)]
-pub(crate) fn pass_but_sibling<R: Reader>(
+pub(crate) fn pass_but_sibling<R: Reader, A: Allocator>(
     input: &mut R,
     encoding: Encoding,
-    specifications: &[AttributeSpecification],
+    declared: &Abbreviation<A>,
 ) -> Result<Option<UnitOffset<R::Offset>>>
     ensures { read_of (answer_of (option_map (λ o. R.Offset.number o.0)) result)
         (R.view input.new)
         ≡ map_read sibling_of
-        (attributes_at R.Offset.limit encoding specifications.now (R.view input.old)) }
+        (attributes_at R.Offset.limit encoding declared.now.attributes (R.view input.old)) }
 {
+    let specifications = declared.attributes();
     match place_of_sibling(specifications) {
         Some(place) => {
             pass_as_read(input, encoding, &specifications[..place])?;
@@ -219,7 +263,7 @@ pub(crate) fn pass_but_sibling<R: Reader>(
             Ok(reference)
         }
         None => {
-            pass_as_read(input, encoding, specifications)?;
+            pass_declared(input, encoding, declared)?;
             Ok(None)
         }
     }

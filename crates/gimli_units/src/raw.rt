@@ -21,7 +21,7 @@ ghost use Rattle.gimli_units.specs.Honest.{within};
 ghost use Rattle.gimli_units.specs.CursorRead.{stands_at, stands_if};
 
 use crate::attribute::parse_attribute;
-use crate::pass::{pass_as_read, pass_but_sibling};
+use crate::pass::{pass_but_sibling, pass_declared};
 use crate::skip::skip_all;
 use crate::{Attribute, DebuggingInformationEntry, UnitOffset};
 use gimli_base::{
@@ -304,7 +304,7 @@ impl<'abbrev, R: Reader, A: Allocator> EntriesRaw<'abbrev, R, A> {
         };
         // (it says that the tag is not 0)
         let _ = declared.tag();
-        pass_as_read(&mut rest, self.encoding, declared.attributes())?;
+        pass_declared(&mut rest, self.encoding, declared)?;
         self.go_behind_entry(rest, declared.has_children());
         Ok(Some(declared))
     }
@@ -343,11 +343,11 @@ impl<'abbrev, R: Reader, A: Allocator> EntriesRaw<'abbrev, R, A> {
         // (it says that the tag is not 0)
         let _ = abbreviation.tag();
         if abbreviation.has_children() {
-            let sibling = pass_but_sibling(&mut rest, self.encoding, abbreviation.attributes())?;
+            let sibling = pass_but_sibling(&mut rest, self.encoding, abbreviation)?;
             self.go_behind_entry(rest, true);
             return Ok((Some(abbreviation), sibling));
         }
-        pass_as_read(&mut rest, self.encoding, abbreviation.attributes())?;
+        pass_declared(&mut rest, self.encoding, abbreviation)?;
         self.go_behind_entry(rest, false);
         Ok((Some(abbreviation), None))
     }

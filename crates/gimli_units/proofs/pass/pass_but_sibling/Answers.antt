@@ -25,10 +25,12 @@ returns-in_err-pass_as_read-in-Some-2 g c =
 
 pub returns-in_ok-pass_as_read-in-Some-2 : goal.returns-in_ok-pass_as_read-in-Some-2
 returns-in_ok-pass_as_read-in-Some-2 g c =
-    reference_there _ _ _ _ _ _ c.in-Some.ensures.exact c.index-specifications-place.is _ _
+    rw (← c.attributes-specifications.ensures)
+    (reference_there _ _ _ _ _ _ c.in-Some.ensures.exact c.index-specifications-place.is _ _
     c.in_ok-pass_as_read-in-Some.ensures _ _ _ _ c.in_ok-reference-in-Some.ensures
-    c.in_ok-pass_as_read-in-Some-2.ensures
+    c.in_ok-pass_as_read-in-Some-2.ensures)
 
-pub returns-in_ok-pass_as_read-in-None : goal.returns-in_ok-pass_as_read-in-None
-returns-in_ok-pass_as_read-in-None g c =
-    no_reference _ _ _ _ _ _ c.in-None.ensures.exact c.in_ok-pass_as_read-in-None.ensures
+pub returns-in_ok-pass_declared-in-None : goal.returns-in_ok-pass_declared-in-None
+returns-in_ok-pass_declared-in-None g c =
+    no_reference _ _ _ _ _ _ (rw c.attributes-specifications.ensures at c.in-None.ensures.exact)
+    c.in_ok-pass_declared-in-None.ensures

@@ -31,7 +31,7 @@ go_behind_entry-requires-2 g c =
     (abbreviation_at-later _ _ _ _ c.in_ok-abbreviation.ensures) in
     let passed = IsLater-length 0 _ _
     (made_leaves_later 0 _ (λ _. tt) _ (attributes_at-later _ _ _ _) _ _
-    c.in_ok-pass_as_read.ensures) in
+    c.in_ok-pass_declared.ensures) in
     let same = ap (λ (v : View). length v.bytes) c.copy-rest.ensures in
     let left = ap (λ (p : RawPlace). length p.rest.bytes) c.self.view_is in
     omega (arith, shorter, passed, same, left)
