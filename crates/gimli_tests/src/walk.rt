@@ -2,5 +2,6 @@
 
 mod deep;
 mod faults;
+mod gathered;
 mod large;
 mod walks;

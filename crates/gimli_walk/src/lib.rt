@@ -9,6 +9,7 @@ mod cursor;
 mod digits;
 mod dump;
 mod find;
+mod gathered;
 mod letters;
 mod lines;
 mod locations;

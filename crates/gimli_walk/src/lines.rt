@@ -32,10 +32,16 @@ impl From<WriteFault> for Stop {
     }
 }
 
-// Puts the line of a row at the end of a buffer, and answers where it begins. It has at most 45
-// bytes: 16 digits, a sign and 19 digits, 4 digits, the flag, three spaces and the end.
+/// Puts the line of a row at the end of a buffer, and answers where it begins. It has at most 45
+/// bytes: 16 digits, a sign and 19 digits, 4 digits, the flag, three spaces and the end.
 #[inline(always)]
-fn put_row(offset: u64, depth: isize, tag: u16, has_children: bool, line: &mut [u8; 48]) -> usize
+pub(crate) fn put_row(
+    offset: u64,
+    depth: isize,
+    tag: u16,
+    has_children: bool,
+    line: &mut [u8; 48],
+) -> usize
     ensures within { result ≤ 48 }
     ensures value { drop result line.new ≡ row_line offset depth tag has_children }
 {

@@ -12,7 +12,8 @@ ghost use Rattle.gimli_walk.specs.Lines.{Text};
 ghost use Rattle.gimli_walk.specs.Text.{Wrote, WroteAll, rows_text, unit_text};
 ghost use Rattle.gimli_walk.specs.Stops.{WroteUntil};
 
-use crate::lines::{Stop, WriteFault, write_end, write_error, write_error_at, write_row};
+use crate::gathered::Gathered;
+use crate::lines::{Stop, WriteFault, write_end, write_error, write_error_at};
 use gimli_base::{Abbreviation, Abbreviations, Error, Reader, ReaderOffset};
 use gimli_units::{EntriesRaw, UnitHeader};
 use std::alloc::Allocator;
@@ -34,7 +35,8 @@ fn head_parts<A: Allocator>(declared: Option<&Abbreviation<A>>) -> (u16, bool)
 }
 
 // Writes the lines of the rows that are left, and answers the status of their text. Of an entry only
-// the head is read, so that no memory is taken.
+// the head is read, so that no memory is taken. Lines are gathered, and all have gone out at the
+// end.
 fn write_rows_left<R: Reader, A: Allocator, W: Write>(
     entries: &mut EntriesRaw<'_, R, A>,
     out: &mut W,
@@ -44,20 +46,23 @@ fn write_rows_left<R: Reader, A: Allocator, W: Write>(
         let text = rows_text (ahead_at read entries.old.end entries.old.depth entries.old.rest) in
         WroteUntil (W.contents out.old) (W.contents out.new) text result }
 {
+    let mut lines = Gathered::new();
     'rows: while !entries.is_empty() {
         let offset = entries.next_offset().0.into_u64();
         let depth = entries.next_depth();
         match entries.read_head() {
             Ok(declared) => {
                 let (tag, has_children) = head_parts(declared);
-                write_row(out, offset, depth, tag, has_children)?;
+                lines.write_row(out, offset, depth, tag, has_children)?;
             }
             Err(error) => {
+                lines.send(out)?;
                 write_error_at(out, error, offset)?;
                 return Ok(1);
             }
         }
     }
+    lines.send(out)?;
     write_end(out)?;
     Ok(0)
 }

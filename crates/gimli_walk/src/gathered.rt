@@ -1,0 +1,128 @@
+//! Lines of rows that are gathered, and go out together.
+
+ghost use Rattle.std.specs.Prelude.{◌≡◌, ◌+◌, ◌≤◌, List, ℕ, [], ◌++◌, OnOk, length, take, true};
+ghost use Rattle.std.specs.Io.KnownBytes.{Appends, append_known};
+ghost use Rattle.gimli_walk.specs.Lines.{row_line};
+
+use crate::lines::{WriteFault, put_row};
+use std::io::{ErrorKind, Write};
+use std::marker::Model;
+
+// How many bytes are gathered at most.
+const ROOM: usize = 1024;
+
+/// Lines that are still to go out.
+#[derive(Drop)]
+pub(crate) struct Gathered {
+    bytes: [u8; ROOM],
+    count: usize,
+}
+
+impl Model for Gathered {
+    ghost Value = { List ℕ };
+
+    ghost view = { λ g. take g.count g.bytes };
+
+    ghost invariant = { λ g. g.count ≤ 1024 };
+}
+
+impl Gathered {
+    /// No lines.
+    #[inline(always)]
+    pub(crate) fn new() -> Self
+        ensures { result ≡ [] }
+    {
+        Gathered {
+            bytes: [0; ROOM],
+            count: 0,
+        }
+    }
+
+    // Whether there is room for the line of a row.
+    #[inline(always)]
+    fn has_room(&self) -> bool
+        ensures { result ≡ true → length self.now + 48 ≤ 1024 }
+    {
+        self.count <= ROOM - 48
+    }
+
+    // Adds a line.
+    #[inline(always)]
+    fn push(&mut self, line: &[u8])
+        requires { length self.old + length line.now ≤ 1024 }
+        ensures { self.new ≡ self.old ++ line.now }
+    {
+        let end = self.count + line.len();
+        self.bytes[self.count..end].copy_from_slice(line);
+        self.count = end;
+    }
+
+    /// Writes the lines, after which there are none.
+    #[inline(never)]
+    pub(crate) fn send<W: Write>(&mut self, out: &mut W) -> Result<(), WriteFault>
+        ensures sent { OnOk result
+            (Appends (W.contents out.old) (W.contents out.new) self.old) }
+        ensures none { OnOk result (self.new ≡ []) }
+    {
+        let lines: &[u8] = &self.bytes[..self.count];
+        write_together(out, lines)?;
+        self.count = 0;
+        Ok(())
+    }
+
+    /// Adds the line of a row: its offset and tag in hexadecimal, its depth, and whether children
+    /// follow. Where there is no room, the lines before it are written first.
+    #[inline(always)]
+    pub(crate) fn write_row<W: Write>(
+        &mut self,
+        out: &mut W,
+        offset: u64,
+        depth: isize,
+        tag: u16,
+        has_children: bool,
+    ) -> Result<(), WriteFault>
+        ensures { OnOk result
+            (Appends (append_known (W.contents out.old) self.old)
+            (append_known (W.contents out.new) self.new)
+            (row_line offset depth tag has_children)) }
+    {
+        if !self.has_room() {
+            self.send(out)?;
+        }
+        let mut line = [b' '; 48];
+        let begin = put_row(offset, depth, tag, has_children, &mut line);
+        let text: &[u8] = &line;
+        self.push(&text[begin..]);
+        Ok(())
+    }
+}
+
+// Writes lines at once; none are no write.
+fn write_together<W: Write>(out: &mut W, lines: &[u8]) -> Result<(), WriteFault>
+    ensures { OnOk result (Appends (W.contents out.old) (W.contents out.new) lines.now) }
+{
+    if lines.is_empty() {
+        return Ok(());
+    }
+    match out.write(lines) {
+        Ok(0) => Err(WriteFault),
+        Ok(count) => out.write_all(&lines[count..]).map_err(|_| WriteFault),
+        Err(error) => {
+            if error.kind() == ErrorKind::Interrupted {
+                return out.write_all(lines).map_err(|_| WriteFault);
+            }
+            write_apart(out, lines);
+            Err(WriteFault)
+        }
+    }
+}
+
+// Writes lines one by one, up to the first that is refused. Together they were refused: those
+// before the one for which there is no room go out still.
+fn write_apart<W: Write>(out: &mut W, lines: &[u8]) {
+    for line in lines.split_inclusive(|byte| *byte == b'\n') {
+        if out.write_all(line).is_err() {
+            return;
+        }
+    }
+}
