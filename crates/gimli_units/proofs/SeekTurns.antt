@@ -1,6 +1,6 @@
 -- Turns of the search for a depth that passes entries without their attributes: what is left of an
 -- entry that was passed is what a cursor leaves that has read it.
-use Rattle.std.proofs.Common.{◌≡◌, ℕ, ◌<◌, ℤ, Bool, true, false, length, Result, Ok, Err, refl, sym}
+use Rattle.std.proofs.Common.{◌≡◌, ℕ, zero, suc, ◌<◌, ℤ, Bool, true, false, length, Result, Ok, Err, refl, sym}
 use Rattle.std.proofs.Common.{ap, ◌∙◌, arith}
 use Rattle.std.specs.Prelude.{not}
 use Rattle.std.specs.Ordering.{int_eq}
@@ -10,7 +10,9 @@ use Rattle.gimli_units.specs.Entry.{is_null}
 use Rattle.gimli_units.specs.CursorMoves.{CursorView, IsSound}
 use Rattle.gimli_units.specs.CursorRead.{HasRead, an_entry, the_end, a_refusal, leave_entry}
 use Rattle.gimli_units.specs.CursorRead.{HasPassed, a_pass, no_pass, HasSought}
+use Rattle.gimli_units.specs.CursorRead.{HasPassedMany, HasPassedTo, IsRefusedAfter}
 use Rattle.gimli_units.proofs.CursorSteps.{sound_read}
+use Rattle.gimli_units.proofs.PassedOn.{sound_pass}
 use Rattle.gimli_units.proofs.Onward.{onward_start, onward_follow}
 use Rattle.gimli_units.proofs.Walking.{read_shorter}
 use Rattle.gimli_units.proofs.Seeking.{Seeking, seeking_on, seeking_start, sought_to, sought_end}
@@ -66,18 +68,17 @@ module _ (limit : ℕ) (depth : ℤ) (offset : ℕ) where
   leaving_on start here outcome new k (no_pass e read is) took other =
       let x : ◌≡◌ {A = Result (Unit {0}) Error} (Err e) (Ok tt) = sym is ∙ took in absurd (cc)
 
-  -- each turn leaves fewer bytes
-  pub leaving_shorter : (start here : CursorView) (outcome : Result (Unit {0}) Error)
-      (new : CursorView) → Leaving start here → HasPassed limit depth here outcome new
-      → outcome ≡ Ok tt → length new.raw.rest.bytes < length here.raw.rest.bytes
-  leaving_shorter start here outcome new k (a_pass mid read is same) took =
-      let s = sound_read limit here (Ok true) mid (leaving_sound start here k) read in
-      let o = onward_follow mid mid depth (onward_start mid s) in
-      let fewer = IsLater-length 0 mid.raw.rest (leave_entry depth mid).raw.rest o.further in
-      let one = read_shorter limit here (Ok true) mid read refl in
-      rw same (omega (arith, fewer, one))
-  leaving_shorter start here outcome new k (no_pass e read is) took =
-      let x : ◌≡◌ {A = Result (Unit {0}) Error} (Err e) (Ok tt) = sym is ∙ took in absurd (cc)
+  -- entries of other depths are passed, one after the other
+  leaving_many : (start old : CursorView) (n : ℕ) (new : CursorView) → Leaving start old
+      → HasPassedMany limit depth n old new → Leaving start new
+  leaving_many start old zero new k passed = rw passed k
+  leaving_many start old (suc n) new k passed =
+      leaving_on start passed.0 (Ok tt) new (leaving_many start old n passed.0 k passed.1)
+      passed.3 refl passed.2
+
+  pub leaving_to : (start old new : CursorView) → Leaving start old
+      → HasPassedTo limit depth old new → Leaving start new
+  leaving_to start old new k h = leaving_many start old h.count new k h.passed
 
   -- an entry of another depth is refused
   pub leaving_out : (start here : CursorView) (outcome : Result (Unit {0}) Error) (new : CursorView)
@@ -90,6 +91,13 @@ module _ (limit : ℕ) (depth : ℤ) (offset : ℕ) where
       let one : e ≡ x = cc in
       sought_out limit depth offset start k.mid (Err e) new k.seeking (rw k.left at read) x
       (ap Err one)
+
+  -- the entry after them is refused
+  pub leaving_after : (start old : CursorView) (x : Error) (new : CursorView) → Leaving start old
+      → IsRefusedAfter limit depth old x new → HasSought limit depth offset start (Err x) new
+  leaving_after start old x new k h =
+      leaving_out start h.mid (Err x) new (leaving_many start old h.count h.mid k h.passed)
+      h.refused x refl
 
   -- what is read then has the depth
   pub left_to : (start here : CursorView) (outcome : Result Bool Error) (new : CursorView)
@@ -113,3 +121,50 @@ module _ (limit : ℕ) (depth : ℤ) (offset : ℕ) where
       → HasSought limit depth offset start (Err x) new
   left_out start here outcome new k read x fails =
       sought_out limit depth offset start k.mid outcome new k.seeking (rw k.left at read) x fails
+
+-- entries that were passed up to here, on the way to a depth
+pub record Passing (limit : ℕ) (sought : ℤ) (start here : CursorView) : Type 0 where
+  pub count : ℕ
+  pub passed : HasPassedMany limit sought count start here
+  pub sound : IsSound here
+
+module _ (limit : ℕ) (sought : ℤ) (start : CursorView) where
+  pub passing_start : IsSound start → Passing limit sought start start
+  passing_start s = record { count = 0; passed = refl; sound = s }
+
+  -- one more is passed
+  pub passing_on : (here : CursorView) (outcome : Result (Unit {0}) Error) (new : CursorView)
+      → Passing limit sought start here → HasPassed limit sought here outcome new
+      → outcome ≡ Ok tt → int_eq here.raw.depth sought ≡ false → Passing limit sought start new
+  passing_on here outcome new k h took other =
+      record {
+        count = suc k.count;
+        passed = (here, k.passed, other, rw took at h);
+        sound = sound_pass limit sought here outcome new k.sound h;
+      }
+
+  -- each turn leaves fewer bytes
+  pub passing_shorter : (here : CursorView) (outcome : Result (Unit {0}) Error) (new : CursorView)
+      → IsSound here → HasPassed limit sought here outcome new → outcome ≡ Ok tt
+      → length new.raw.rest.bytes < length here.raw.rest.bytes
+  passing_shorter here outcome new s (a_pass mid read is same) took =
+      let o = onward_follow mid mid sought
+      (onward_start mid (sound_read limit here (Ok true) mid s read)) in
+      let fewer = IsLater-length 0 mid.raw.rest (leave_entry sought mid).raw.rest o.further in
+      let one = read_shorter limit here (Ok true) mid read refl in
+      rw same (omega (arith, fewer, one))
+  passing_shorter here outcome new s (no_pass e read is) took =
+      let x : ◌≡◌ {A = Result (Unit {0}) Error} (Err e) (Ok tt) = sym is ∙ took in absurd (cc)
+
+  -- the next one is refused
+  pub passing_out : (here : CursorView) (outcome : Result (Unit {0}) Error) (new : CursorView)
+      → Passing limit sought start here → HasPassed limit sought here outcome new → (x : Error)
+      → outcome ≡ Err x → IsRefusedAfter limit sought start x new
+  passing_out here outcome new k h x fails =
+      record { count = k.count; mid = here; passed = k.passed; refused = rw fails at h }
+
+  -- it has the depth, or there is none
+  pub passing_to : (here : CursorView) → Passing limit sought start here
+      → ((length here.raw.rest.bytes ≡ 0 → ⊥) → int_eq here.raw.depth sought ≡ true)
+      → HasPassedTo limit sought start here
+  passing_to here k there = record { count = k.count; passed = k.passed; there = there }

@@ -114,6 +114,27 @@ pub data HasPassed (limit : ℕ) (sought : ℤ) (old : CursorView) (outcome : Re
   no_pass : (e : Error) → HasRead limit old (Err e) new → outcome ≡ Err e
       → HasPassed limit sought old outcome new
 
+-- n entries of other depths were read and left, one after the other
+abbrev pub HasPassedMany : ℕ → ℤ → ℕ → CursorView → CursorView → Type 0
+HasPassedMany limit sought zero old new = new ≡ old
+HasPassedMany limit sought (suc n) old new =
+    (mid : CursorView) × HasPassedMany limit sought n old mid
+    × (int_eq mid.raw.depth sought ≡ false) × HasPassed limit sought mid (Ok tt) new
+
+-- all up to the first of the depth, or to the end
+pub record HasPassedTo (limit : ℕ) (sought : ℤ) (old new : CursorView) : Type 0 where
+  pub count : ℕ
+  pub passed : HasPassedMany limit sought count old new
+  pub there : (length new.raw.rest.bytes ≡ 0 → ⊥) → int_eq new.raw.depth sought ≡ true
+
+-- some were passed, and the next was refused
+pub record IsRefusedAfter (limit : ℕ) (sought : ℤ) (old : CursorView) (e : Error)
+    (new : CursorView) : Type 0 where
+  pub count : ℕ
+  pub mid : CursorView
+  pub passed : HasPassedMany limit sought count old mid
+  pub refused : HasPassed limit sought mid (Err e) new
+
 -- where a search ended, by which a cursor answers and stands as the definition says
 abbrev pub Stands : ℕ → Result Bool Error → CursorView → Moved → Type 0
 Stands limit outcome new m =

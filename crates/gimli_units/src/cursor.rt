@@ -13,7 +13,7 @@ ghost use Rattle.gimli_units.specs.CursorMoves.{CursorView, cursor_held, Goes, I
 ghost use Rattle.gimli_units.specs.CursorStart.{before_first};
 ghost use Rattle.gimli_units.specs.CursorLent.{HasReadOn, HasWalked, HasWalkedOver};
 ghost use Rattle.gimli_units.specs.CursorRead.{HasRead, HasSought, leave_entry, reference_for};
-ghost use Rattle.gimli_units.specs.CursorRead.{HasPassed};
+ghost use Rattle.gimli_units.specs.CursorRead.{HasPassed, HasPassedTo, IsRefusedAfter};
 
 use crate::{DebuggingInformationEntry, EntriesRaw, UnitOffset};
 use gimli_base::{Reader, ReaderOffset, Result};
@@ -323,6 +323,21 @@ impl<'abbrev, R: Reader, A: Allocator> EntriesCursor<'abbrev, R, A> {
         }
     }
 
+    // Passes entries up to the first of a depth, or to the end of the bytes. It is never laid into a
+    // search, of which most have nothing to pass.
+    #[inline(never)]
+    fn pass_to(&mut self, sought: isize) -> Result<()>
+        requires sound { IsSound self.old }
+        ensures passed { IfOk result (λ _. HasPassedTo R.Offset.limit sought self.old self.new) }
+        ensures refused { IfErr result (λ e.
+            IsRefusedAfter R.Offset.limit sought self.old e self.new) }
+    {
+        'passing: while self.is_before(sought) {
+            self.pass_on(sought)?;
+        }
+        Ok(())
+    }
+
     // Reads on to the first entry of a depth; the references of entries that are at least so deep
     // are followed. At the end of the input the pair becomes `offset` and that depth.
     //
@@ -335,8 +350,8 @@ impl<'abbrev, R: Reader, A: Allocator> EntriesCursor<'abbrev, R, A> {
             self.new }
     {
         self.follow(depth);
-        'seeking: while self.is_before(depth) {
-            self.pass_on(depth)?;
+        if self.is_before(depth) {
+            self.pass_to(depth)?;
         }
         if self.read_next()? {
             return Ok(self.is_on_entry());

@@ -1,63 +1,102 @@
-use Rattle.std.proofs.Common.{rules, ◌≡◌, ◌∙◌, ap, Ok, Err, true, false, w64}
+use Rattle.std.proofs.Common.{rules, ◌≡◌, ◌∙◌, ap, length, Ok, Err, true, false, w64}
+use Rattle.std.specs.Ordering.{int_eq}
 use Rattle.std.proofs.lemmas.Int.{to_z-of_z}
-use Rattle.gimli_units.proofs.SeekTurns.{leaving_on, leaving_shorter, leaving_out}
-use Rattle.gimli_units.proofs.SeekTurns.{left_to, left_end, left_out}
+use Rattle.gimli_units.proofs.SeekTurns.{Leaving, leaving_start, leaving_sound, leaving_to}
+use Rattle.gimli_units.proofs.SeekTurns.{leaving_after, left_to, left_end, left_out}
+use Rattle.gimli_units.proofs.cursor.EntriesCursor.seek.Goals.{then-is_before+in_ok-pass_to}
+use Rattle.gimli_units.proofs.cursor.EntriesCursor.seek.Goals.{else-is_before}
 use Rattle.gimli_units.proofs.cursor.EntriesCursor.seek.Goals as goal
 
-pub seeking-preserved : goal.seeking-preserved
-seeking-preserved g c =
-    let took : c.pass_on.result ≡ Ok tt = c.in_ok-pass_on.was in
-    leaving_on g.R.Offset.ReaderOffset.limit _ (g.R.Offset.ReaderOffset.number c.args.offset.0)
-    c.args.self.now c.seeking.self c.pass_on.result c.pass_on.new.self c.seeking.invariant
-    c.pass_on.ensures took (c.is_before.ensures.other c.seeking-test.true)
-
-pub seeking-smaller : goal.seeking-smaller
-seeking-smaller g c =
-    let took : c.pass_on.result ≡ Ok tt = c.in_ok-pass_on.was in
-    leaving_shorter g.R.Offset.ReaderOffset.limit _ (g.R.Offset.ReaderOffset.number c.args.offset.0)
-    c.args.self.now c.seeking.self c.pass_on.result c.pass_on.new.self c.seeking.invariant
-    c.pass_on.ensures took
-
-pub returns-in_err-pass_on : goal.returns-in_err-pass_on
-returns-in_err-pass_on g c =
+pub pass_to-requires : goal.pass_to-requires
+pass_to-requires g c =
     let deep = to_z-of_z w64 c.args.depth c.ranges.depth in
-    let r : c.from_residual.result ≡ Err c.in_err-pass_on.field-0.0 = search rules in
-    let passed = rw deep at c.pass_on.ensures in
+    let offset = g.R.Offset.ReaderOffset.number c.args.offset.0 in
+    record {
+      sound =
+          leaving_sound g.R.Offset.ReaderOffset.limit c.args.depth offset c.args.self.now
+          c.follow.new.self
+          (leaving_start g.R.Offset.ReaderOffset.limit c.args.depth offset c.args.self.now
+          c.follow.new.self c.requires.sound (rw deep at c.follow.ensures));
+    }
+
+pub returns-in_err-pass_to : goal.returns-in_err-pass_to
+returns-in_err-pass_to g c =
+    let limit = g.R.Offset.ReaderOffset.limit in
+    let deep = to_z-of_z w64 c.args.depth c.ranges.depth in
+    let offset = g.R.Offset.ReaderOffset.number c.args.offset.0 in
+    let r : c.from_residual.result ≡ Err c.in_err-pass_to.field-0.0 = search rules in
+    let k = leaving_start limit c.args.depth offset c.args.self.now c.follow.new.self
+    c.requires.sound (rw deep at c.follow.ensures) in
     rw r
-    (leaving_out g.R.Offset.ReaderOffset.limit c.args.depth
-    (g.R.Offset.ReaderOffset.number c.args.offset.0) c.args.self.now c.seeking.self
-    c.pass_on.result c.pass_on.new.self (rw deep at c.seeking.invariant) passed
-    c.in_err-pass_on.field-0.0 c.in_err-pass_on.was)
+    (leaving_after limit c.args.depth offset c.args.self.now c.follow.new.self _ c.pass_to.new.self
+    k (rw deep at c.in_err-pass_to.ensures.refused))
 
 pub returns-in_err-read_next : goal.returns-in_err-read_next
 returns-in_err-read_next g c =
+    let limit = g.R.Offset.ReaderOffset.limit in
     let deep = to_z-of_z w64 c.args.depth c.ranges.depth in
+    let offset = g.R.Offset.ReaderOffset.number c.args.offset.0 in
+    let start = leaving_start limit c.args.depth offset c.args.self.now c.follow.new.self
+    c.requires.sound (rw deep at c.follow.ensures) in
+    let k : Leaving limit c.args.depth offset c.args.self.now c.if-is_before.self =
+    elim c.if-is_before.branch [
+      | then-is_before+in_ok-pass_to w ↦
+          rw w.self-is
+          (leaving_to limit c.args.depth offset c.args.self.now c.follow.new.self _ start
+          (rw deep at w.in_ok-pass_to.ensures.passed))
+      | else-is_before w ↦ rw w.self-is start
+    ] in
     let r : c.from_residual-in_err-read_next.result ≡ Err c.in_err-read_next.field-0.0 = search
     rules in
     rw r
-    (left_out g.R.Offset.ReaderOffset.limit c.args.depth
-    (g.R.Offset.ReaderOffset.number c.args.offset.0) c.args.self.now c.seeking.self
-    c.read_next.result c.read_next.new.self (rw deep at c.seeking.invariant)
-    c.read_next.ensures.read c.in_err-read_next.field-0.0 c.in_err-read_next.was)
+    (left_out limit c.args.depth offset c.args.self.now c.if-is_before.self c.read_next.result
+    c.read_next.new.self k c.read_next.ensures.read c.in_err-read_next.field-0.0
+    c.in_err-read_next.was)
 
 pub returns-then-branch : goal.returns-then-branch
 returns-then-branch g c =
+    let limit = g.R.Offset.ReaderOffset.limit in
     let deep = to_z-of_z w64 c.args.depth c.ranges.depth in
+    let offset = g.R.Offset.ReaderOffset.number c.args.offset.0 in
+    let start = leaving_start limit c.args.depth offset c.args.self.now c.follow.new.self
+    c.requires.sound (rw deep at c.follow.ensures) in
+    let k : Leaving limit c.args.depth offset c.args.self.now c.if-is_before.self =
+    elim c.if-is_before.branch [
+      | then-is_before+in_ok-pass_to w ↦
+          rw w.self-is
+          (leaving_to limit c.args.depth offset c.args.self.now c.follow.new.self _ start
+          (rw deep at w.in_ok-pass_to.ensures.passed))
+      | else-is_before w ↦ rw w.self-is start
+    ] in
+    let there : (length c.if-is_before.self.raw.rest.bytes ≡ 0 → ⊥)
+    → int_eq c.if-is_before.self.raw.depth c.args.depth ≡ true = elim c.if-is_before.branch [
+      | then-is_before+in_ok-pass_to w ↦
+          let to = rw deep at w.in_ok-pass_to.ensures.passed in rw w.self-is to.there
+      | else-is_before w ↦
+          rw w.self-is (rw deep at (c.is_before.ensures.same w.if-is_before.false))
+    ] in
     let took : c.read_next.result ≡ Ok true = c.in_ok-read_next.was ∙ ap Ok c.if-branch.true in
-    let there = rw deep at (c.is_before.ensures.same c.seeking-test.false) in
     rw c.is_on_entry.ensures
-    (left_to g.R.Offset.ReaderOffset.limit c.args.depth
-    (g.R.Offset.ReaderOffset.number c.args.offset.0) c.args.self.now c.seeking.self
-    c.read_next.result c.read_next.new.self (rw deep at c.seeking.invariant)
-    c.read_next.ensures.read took there)
+    (left_to limit c.args.depth offset c.args.self.now c.if-is_before.self c.read_next.result
+    c.read_next.new.self k c.read_next.ensures.read took there)
 
 pub returns : goal.returns
 returns g c =
+    let limit = g.R.Offset.ReaderOffset.limit in
     let deep = to_z-of_z w64 c.args.depth c.ranges.depth in
+    let offset = g.R.Offset.ReaderOffset.number c.args.offset.0 in
+    let start = leaving_start limit c.args.depth offset c.args.self.now c.follow.new.self
+    c.requires.sound (rw deep at c.follow.ensures) in
+    let k : Leaving limit c.args.depth offset c.args.self.now c.if-is_before.self =
+    elim c.if-is_before.branch [
+      | then-is_before+in_ok-pass_to w ↦
+          rw w.self-is
+          (leaving_to limit c.args.depth offset c.args.self.now c.follow.new.self _ start
+          (rw deep at w.in_ok-pass_to.ensures.passed))
+      | else-is_before w ↦ rw w.self-is start
+    ] in
     let ends : c.read_next.result ≡ Ok false = c.in_ok-read_next.was ∙ ap Ok c.if-branch.false in
     let pair = rw deep at c.set_pair.ensures in
     rw pair
-    (left_end g.R.Offset.ReaderOffset.limit c.args.depth
-    (g.R.Offset.ReaderOffset.number c.args.offset.0) c.args.self.now c.seeking.self
-    c.read_next.result c.read_next.new.self (rw deep at c.seeking.invariant)
-    c.read_next.ensures.read ends)
+    (left_end limit c.args.depth offset c.args.self.now c.if-is_before.self c.read_next.result
+    c.read_next.new.self k c.read_next.ensures.read ends)
