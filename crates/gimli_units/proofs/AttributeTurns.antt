@@ -7,7 +7,12 @@ use Rattle.gimli_base.specs.declared.error.Error.{Error}
 use Rattle.gimli_base.specs.View.{View}
 use Rattle.gimli_base.specs.Reading.{Reads, map_read}
 use Rattle.gimli_base.specs.Abbreviations.{Specification}
+use Rattle.std.specs.Prelude.{◌==◌, is_some}
+use Rattle.gimli_units.specs.Value.{Value}
+use Rattle.gimli_units.specs.Form.{direct_at, value_at}
 use Rattle.gimli_units.specs.Entry.{Attr, attribute_at, attributes_at}
+use Rattle.gimli_units.specs.AttributeList.{with_value}
+use Rattle.gimli_units.proofs.Chains.{direct_value}
 
 -- a list that was read after another
 abbrev pub after : {A : Type 0} → List A → Reads (List A) → Reads (List A)
@@ -45,8 +50,55 @@ module _ (limit : ℕ) (encoding : Encoding) (ss : List Specification) (i : ℕ)
       let more = ap (λ ss. after xs (attributes_at limit encoding ss v)) next in
       so_far ∙ more ∙ rw (← h) (with_first a xs (attributes_at limit encoding (drop (i + 1) ss) w))
 
+  -- the same, where the attribute was read onto those before it
+  pub turn_onto : (s : Specification) (ys : List Attr) (w : View) → i < length ss
+      → s ≡ get_or ss i s
+      → Ok (ys, w) ≡ map_read (λ a. xs ++ a ∷ []) (attribute_at limit encoding s v)
+      → attributes_at limit encoding ss all
+      ≡ after ys (attributes_at limit encoding (drop (i + 1) ss) w)
+  turn_onto s ys w lt is h = cases (attribute_at limit encoding s v) refl h
+    where
+      cases : (r : Reads Attr) → attribute_at limit encoding s v ≡ r
+          → Ok (ys, w) ≡ map_read (λ a. xs ++ a ∷ []) r
+          → attributes_at limit encoding ss all
+          ≡ after ys (attributes_at limit encoding (drop (i + 1) ss) w)
+      cases (Ok p) read given =
+          let both : ◌≡◌ {A = List Attr × View} (ys, w) (xs ++ p.0 ∷ [], p.1) = cc in
+          let items : ys ≡ xs ++ p.0 ∷ [] = ap (λ (q : List Attr × View). q.0) both in
+          let left : w ≡ p.1 = ap (λ (q : List Attr × View). q.1) both in
+          rw (items, left) (turn_more s p.0 p.1 lt is (sym read))
+      cases (Err e) read given = absurd (cc)
+
+  pub turn_not : (s : Specification) (e : Error) → i < length ss → s ≡ get_or ss i s
+      → Err e ≡ map_read (λ a. xs ++ a ∷ []) (attribute_at limit encoding s v)
+      → Err e ≡ attributes_at limit encoding ss all
+  turn_not s e lt is h = cases (attribute_at limit encoding s v) refl h
+    where
+      cases : (r : Reads Attr) → attribute_at limit encoding s v ≡ r
+          → Err e ≡ map_read (λ a. xs ++ a ∷ []) r → Err e ≡ attributes_at limit encoding ss all
+      cases (Ok p) read given = absurd (cc)
+      cases (Err x) read given =
+          let same : e ≡ x = cc in turn_refused s e lt is (ap Err same ∙ sym read)
+
   pub turn_end : length ss ≤ i → Ok (xs, v) ≡ attributes_at limit encoding ss all
   unfolding attributes_at
   turn_end le =
       let none = ap (λ ss. after xs (attributes_at limit encoding ss v)) (drop_all i ss le) in
       sym (so_far ∙ none ∙ ap (λ ys. Ok (ys, v)) (append-nil xs))
+
+-- a value of a form that is not indirect, as the attribute that has it
+pub onto_direct : (limit : ℕ) (e : Encoding) (s : Specification) (v : View) (xs : List Attr)
+    → (s.form.0 ≡ 0x16 → ⊥) → is_some s.constant ≡ (s.form.0 == 0x21)
+    → map_read (λ x. xs ++ with_value s x ∷ [])
+    (direct_at limit e s.name.0 s.constant s.form.0 v)
+    ≡ map_read (λ a. xs ++ a ∷ []) (attribute_at limit e s v)
+unfolding attribute_at
+onto_direct limit e s v xs ne h =
+    ap (λ (r : Reads Value). map_read (λ x. xs ++ with_value s x ∷ []) r)
+    (direct_value limit e s.name.0 s.constant s.form.0 v ne h)
+    ∙ twice (value_at limit e s.name.0 s.constant s.form.0 v)
+  where
+    twice : (r : Reads Value) → map_read (λ x. xs ++ with_value s x ∷ []) r
+        ≡ map_read (λ a. xs ++ a ∷ []) (map_read (λ x. with_value s x) r)
+    twice (Ok p) = refl
+    twice (Err x) = refl

@@ -3,11 +3,12 @@ use Rattle.std.proofs.Common.{◌≡◌, ℕ, zero, suc, ◌<◌, ◌≤◌, len
 use Rattle.std.proofs.Common.{◌∙◌, arith}
 use Rattle.std.specs.Prelude.{◌==◌, ℤ, Bool, true, if◌then◌else◌, is_some, Option, Some, None}
 use Rattle.std.proofs.lemmas.Bool.{eqb-true, ne_eqb}
+use Rattle.gimli_base.specs.declared.common.Encoding.{Encoding}
 use Rattle.gimli_base.specs.declared.error.Error.{Error}
 use Rattle.gimli_base.specs.View.{View}
 use Rattle.gimli_base.specs.Reading.{Reads, eof, byte_at, uleb16_at, uleb_within}
 use Rattle.gimli_base.proofs.Later.{IsLater-length, uleb16_at-later}
-use Rattle.gimli_units.specs.Form.{form_within, form_at, declared_number}
+use Rattle.gimli_units.specs.Form.{form_within, form_at, declared_number, direct_at, value_at}
 
 uleb16_at-none : (v : View) → length v.bytes ≤ 0 → uleb16_at v ≡ Err (eof v)
 unfolding uleb16_at uleb_within byte_at
@@ -72,3 +73,11 @@ number_stands form None h = if_none (form == 0x16)
 number_stands form (Some n) h =
     let is : form ≡ 0x21 = eqb-true form 0x21 (sym h) in
     rw is refl
+
+-- a form that is not indirect is the one that is read
+pub direct_value : (limit : ℕ) (e : Encoding) (name : ℕ) (c : Option ℤ) (form : ℕ) (v : View)
+    → (form ≡ 0x16 → ⊥) → is_some c ≡ (form == 0x21)
+    → direct_at limit e name c form v ≡ value_at limit e name c form v
+unfolding value_at form_at
+direct_value limit e name c form v ne h =
+    rw (ended (length v.bytes) form v ne, number_stands form c h) refl

@@ -16,6 +16,7 @@ use gimli_base::{
     AttributeSpecification, DebugStr, DwAt, DwForm, Encoding, Expression, Reader, Result, Section,
 };
 
+pub(crate) mod list;
 mod normal;
 
 /// An attribute of an entry: a name, the form of its declaration, and a value (DWARF 5, 7.5.4).

@@ -30,7 +30,7 @@ use gimli_base::{
 
 // Whether data4 or data8 under a name is an offset into a section.
 #[tactic(auto, unfolding(crate::specs::Form::is_section_name))]
-fn allow_section_offset(name: DwAt, version: u16) -> bool
+pub(crate) fn allow_section_offset(name: DwAt, version: u16) -> bool
     ensures { result ≡ is_section_name name.0 version }
 {
     match name {
@@ -57,7 +57,7 @@ fn allow_section_offset(name: DwAt, version: u16) -> bool
 // registers.
 #[inline(always)]
 #[tactic(auto, unfolding(gimli_base::specs::Reading::address_at))]
-fn address<R: Reader>(input: &mut R, size: u8) -> Result<u64>
+pub(crate) fn address<R: Reader>(input: &mut R, size: u8) -> Result<u64>
     ensures { read_of result (R.view input.new) ≡ address_at size (R.view input.old) }
 {
     if size == 8 {
@@ -89,7 +89,7 @@ pub(crate) fn uleb128_offset<R: Reader>(input: &mut R) -> Result<R::Offset>
 // The bytes after their number, which has `size` bytes; where they are refused, the input is left
 // anywhere.
 #[inline(always)]
-fn sized_block<R: Reader>(input: &mut R, size: u8) -> Result<R>
+pub(crate) fn sized_block<R: Reader>(input: &mut R, size: u8) -> Result<R>
     ensures { read_of (answer_of R.view result) (R.view input.new)
         ≡ block_after (sized_offset_at R.Offset.limit size (R.view input.old)) }
 {
@@ -100,7 +100,7 @@ fn sized_block<R: Reader>(input: &mut R, size: u8) -> Result<R>
 // The bytes after their number, which is a LEB128 number; where they are refused, the input is left
 // anywhere.
 #[inline(always)]
-fn uleb128_block<R: Reader>(input: &mut R) -> Result<R>
+pub(crate) fn uleb128_block<R: Reader>(input: &mut R) -> Result<R>
     ensures { read_of (answer_of R.view result) (R.view input.new)
         ≡ block_after (uleb_offset_at R.Offset.limit (R.view input.old)) }
 {

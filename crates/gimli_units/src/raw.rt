@@ -20,6 +20,7 @@ ghost use Rattle.gimli_units.specs.RawPlace.{depth_after};
 ghost use Rattle.gimli_units.specs.Honest.{within};
 ghost use Rattle.gimli_units.specs.CursorRead.{stands_at, stands_if};
 
+use crate::attribute::list::push_attribute;
 use crate::attribute::parse_attribute;
 use crate::pass::{pass_but_sibling, pass_declared};
 use crate::skip::skip_all;
@@ -479,8 +480,7 @@ fn parse_attributes<R: Reader, A: Allocator>(
 {
     attrs.reserve(specifications.len())?;
     for specification in specifications {
-        let attribute = parse_attribute(input, encoding, *specification)?;
-        attrs.push_reserved(attribute);
+        push_attribute(input, encoding, specification, attrs)?;
     }
     Ok(())
 }

@@ -1,4 +1,4 @@
-use Rattle.std.proofs.Common.{◌≡◌, ◌≤◌, arith, length, sym, ◌∙◌}
+use Rattle.std.proofs.Common.{◌≤◌, arith, length, sym, ◌∙◌}
 use Rattle.gimli_units.proofs.SumReads.{skipped, any_below, first_bytes}
 use Rattle.gimli_units.proofs.pass.pass_together.Goals as goal
 
