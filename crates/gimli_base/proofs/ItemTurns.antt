@@ -7,27 +7,11 @@ use Rattle.gimli_base.specs.declared.error.Error.{Error}
 use Rattle.gimli_base.specs.View.{View}
 use Rattle.gimli_base.specs.Reading.{Reads, eof}
 use Rattle.gimli_base.specs.Chain.{then_others, chain_within, chain}
-use Rattle.gimli_base.specs.Items.{Items, item_of_read, items_at, all_items}
+use Rattle.gimli_base.specs.Items.{Items, item_of_read, items_at, all_items, before, items_within}
+use Rattle.gimli_base.specs.Items.{ItemsSoFar}
 use Rattle.gimli_base.specs.View.{IsLater}
 use Rattle.gimli_base.proofs.Later.{LeavesLater, IsLater-trans, ok_leaves_later}
 use Rattle.gimli_base.proofs.Later.{err_leaves_later}
-
--- items before others
-abbrev pub before : {A : Type 0} → List A → Items A → Items A
-before xs r = record { items = xs ++ r.items; ending = r.ending }
-
--- n items at most, and how they end
-abbrev pub items_within : {A : Type 0} → (View → Reads (Option A)) → Result View Error → ℕ → View
-    → Items A
-items_within next cut_short n v = chain_within (λ w. item_of_read (next w)) cut_short n v
-
--- after the items xs the view v is left, and the rest of the items is read there
-pub record ItemsSoFar {A : Type 0} (next : View → Reads (Option A)) (all : Items A) (xs : List A)
-    (v : View) : Type 0 where
-  pub cut_short : Result View Error
-  pub fuel : ℕ
-  pub enough : length v.bytes < fuel
-  pub same : all ≡ before xs (items_within next cut_short fuel v)
 
 pub items_begin : {A : Type 0} → (next : View → Reads (Option A)) (v : View)
     → ItemsSoFar next (items_at next v) [] v

@@ -8,7 +8,8 @@ use Rattle.gimli_base.specs.declared.error.Error.{Error}
 use Rattle.gimli_base.specs.declared.error.Error.TheVariants.{DuplicateAbbreviationCode}
 use Rattle.gimli_base.specs.View.{View}
 use Rattle.gimli_base.specs.Items.{Items}
-use Rattle.gimli_base.proofs.ItemTurns.{ItemsSoFar, items_within, items_begin, items_more}
+use Rattle.gimli_base.specs.Items.{ItemsSoFar, items_within}
+use Rattle.gimli_base.proofs.ItemTurns.{items_begin, items_more}
 use Rattle.gimli_base.proofs.ItemTurns.{items_refused, items_end}
 use Rattle.gimli_base.specs.Abbreviations.{Declaration, declaration_of, repeats, map_of}
 use Rattle.gimli_base.specs.Abbreviations.{declaration_at, declarations_at}

@@ -3,7 +3,7 @@
 ghost use Rattle.std.proofs.Common.{ap};
 ghost use Rattle.std.specs.Prelude.{ℕ, ◌≡◌, ◌≢◌, ◌==◌, [], is_some, if◌then◌else◌, Some, None};
 ghost use Rattle.std.specs.Prelude.{Option, OnOk, IfErr, IsSome, unwrap_or, pos, List, ◌++◌, ◌∷◌};
-ghost use Rattle.std.specs.Prelude.{take, nat_le, IfOk, IfSome, length, ◌<◌, ◌^◌};
+ghost use Rattle.std.specs.Prelude.{take, nat_le, IfOk, IfSome, length, ◌<◌, ◌^◌, true, false};
 ghost use Rattle.std.specs.Option.{option_copied};
 ghost use Rattle.gimli_base.specs.declared.common.SectionId.TheVariants.{DebugAbbrev as AbbrevSection};
 ghost use Rattle.gimli_base.specs.Abbreviations.{
@@ -22,6 +22,7 @@ ghost use Rattle.gimli_base.specs.Width.{width_of, form_size, attributes_size};
 ghost use Rattle.std.specs.List.{All};
 ghost use Rattle.gimli_base.specs.Sizes.{AreSizesOf, fixed_of, others_of};
 ghost use Rattle.gimli_base.specs.Table.{Table, codes_of};
+ghost use Rattle.gimli_base.specs.Items.{Items, ItemsSoFar, all_items};
 ghost use Rattle.gimli_base.specs.Offset.{answer_of};
 ghost use Rattle.gimli_base.specs.Reading.{read_of, answer_leaving, map_read, UnlessMemory};
 
@@ -270,38 +271,26 @@ impl<A: Allocator> Attributes<A> {
         self.sizes.size(encoding)
     }
 
-    // One more attribute; where memory is refused, they are left anywhere.
+    // One more attribute, in place. Answers false where none has room there, and then adds nothing.
     #[inline(always)]
-    fn push(&mut self, counted: Counted) -> std::result::Result<(), AllocError>
-        ensures { OnOk result (self.new ≡ self.old ++ counted ∷ []) }
+    fn push(&mut self, counted: Counted) -> bool
+        ensures pushed { result ≡ true → self.new ≡ self.old ++ counted ∷ [] }
+        ensures kept { result ≡ false → self.new ≡ self.old }
     {
-        let specification = counted.specification;
         let count = self.count as usize;
         if count < FEW {
-            self.few[count] = specification;
+            self.few[count] = counted.specification;
             self.count += 1;
             self.sizes.push(counted.fixed, counted.others);
-            return Ok(());
+            return true;
         }
-        let (name, form) = (specification.name(), specification.form());
-        self.push_apart(name, form, specification.implicit_const_value())
+        false
     }
 
-    // The same, into the list. It takes the parts, since a specification that is passed as a whole
-    // lies in memory wherever it may be passed.
-    #[inline(never)]
-    fn push_apart(
-        &mut self,
-        name: DwAt,
-        form: DwForm,
-        implicit_const_value: Option<i64>,
-    ) -> std::result::Result<(), AllocError>
-        requires { IsWellFormed
-            (record { name = name; form = form; constant = implicit_const_value }) }
-        ensures { OnOk result
-            (self.new
-            ≡ self.old
-            ++ record { name = name; form = form; constant = implicit_const_value } ∷ []) }
+    // One more attribute, in the list; where memory is refused, they are left anywhere.
+    #[inline(always)]
+    fn push_apart(&mut self, counted: Counted) -> std::result::Result<(), AllocError>
+        ensures { OnOk result (self.new ≡ self.old ++ counted ∷ []) }
     {
         let count = self.count as usize;
         if count <= FEW {
@@ -310,7 +299,6 @@ impl<A: Allocator> Attributes<A> {
             self.count = FEW as u32 + 1;
         }
         let before = self.more.len();
-        let counted = Counted::new(name, form, implicit_const_value);
         let (fixed, others) = (counted.fixed, counted.others);
         self.more.push(counted.specification)?;
         if before < MOST {
@@ -321,8 +309,38 @@ impl<A: Allocator> Attributes<A> {
         Ok(())
     }
 
+    // Adds an attribute to the list, and after it the declared ones up to two zeros; where they are
+    // refused, the input and the attributes are left anywhere. It takes the parts of the first, since
+    // a specification that is passed as a whole lies in memory wherever it may be passed.
+    #[inline(never)]
+    fn parse_apart<R: Reader>(
+        &mut self,
+        name: DwAt,
+        form: DwForm,
+        implicit_const_value: Option<i64>,
+        input: &mut R,
+    ) -> Result<()>
+        requires { IsWellFormed
+            (record { name = name; form = form; constant = implicit_const_value }) }
+        ensures { let first : Specification =
+            record { name = name; form = form; constant = implicit_const_value } in
+            (all : Items Specification)
+            → ItemsSoFar specification_at all (self.old ++ first ∷ []) (R.view input.old)
+            → UnlessMemory result
+            (read_of (answer_leaving self.new result) (R.view input.new) ≡ all_items all) }
+    {
+        self.push_apart(Counted::new(name, form, implicit_const_value))?;
+        while let Some(specification) = Counted::parse(input)? {
+            self.push_apart(specification)?;
+        }
+        Ok(())
+    }
+
     // Adds the declared attributes up to two zeros to none; where they are refused, the input and
     // the attributes are left anywhere.
+    //
+    // Those in the list are read by a call, which gets a reader of its own, so that this one stays
+    // in registers.
     #[inline(always)]
     fn parse<R: Reader>(&mut self, input: &mut R) -> Result<()>
         requires { self.old ≡ [] }
@@ -331,7 +349,14 @@ impl<A: Allocator> Attributes<A> {
             ≡ specifications_at (R.view input.old)) }
     {
         while let Some(specification) = Counted::parse(input)? {
-            self.push(specification)?;
+            if !self.push(specification) {
+                let first = specification.specification;
+                let (name, form) = (first.name(), first.form());
+                let mut rest = input.copy();
+                self.parse_apart(name, form, first.implicit_const_value(), &mut rest)?;
+                *input = rest;
+                return Ok(());
+            }
         }
         Ok(())
     }

@@ -1,4 +1,4 @@
-use Rattle.std.proofs.Common.{rules, ap, sym}
+use Rattle.std.proofs.Common.{rules, ap, sym, ◌≡◌, Err, true, false}
 use Rattle.gimli_base.specs.Items.{all_items}
 use Rattle.gimli_base.proofs.ItemTurns.{items_begin, items_more, items_refused, items_end}
 use Rattle.gimli_base.specs.Abbreviations.{specifications_at}
@@ -21,10 +21,52 @@ loop-specification-smaller g c = specification_at-shorter _ _ _ c.in_ok-specific
 
 pub loop-specification-preserved : goal.loop-specification-preserved
 loop-specification-preserved g c =
-    rw c.in_ok-push.ensures
+    let there : c.push.result ≡ true = search rules in
+    rw (c.push.ensures.pushed there)
     (items_more _ _ _ _ _ _ c.loop-specification.invariant
     (rw c.in-Some.is at c.in_ok-specification.ensures)
     (specification_at-shorter _ _ _ c.in_ok-specification.ensures))
+
+pub returns-then-not-push : goal.returns-then-not-push
+unfolding specifications_at
+returns-then-not-push g c =
+    let full : c.push.result ≡ false = search rules in
+    let more =
+    items_more _ _ _ _ _ _ c.loop-specification.invariant
+    (rw c.in-Some.is at c.in_ok-specification.ensures)
+    (specification_at-shorter _ _ _ c.in_ok-specification.ensures) in
+    c.in_ok-parse_apart.ensures _
+    (rw (
+      c.push.ensures.kept full,
+      c.name-name.ensures,
+      c.form-form.ensures,
+      c.implicit_const_value.ensures.value,
+      c.copy-rest.ensures,
+      c.specification.view_is,
+    )
+    more)
+
+pub returns-in_err-parse_apart : goal.returns-in_err-parse_apart
+unfolding specifications_at
+returns-in_err-parse_apart g c =
+    let full : c.push.result ≡ false = search rules in
+    let more =
+    items_more _ _ _ _ _ _ c.loop-specification.invariant
+    (rw c.in-Some.is at c.in_ok-specification.ensures)
+    (specification_at-shorter _ _ _ c.in_ok-specification.ensures) in
+    let r : c.from_residual-in_err-parse_apart.result
+    ≡ Err c.in_err-parse_apart.field-0.0 = search rules in
+    rw r
+    (c.in_err-parse_apart.ensures _
+    (rw (
+      c.push.ensures.kept full,
+      c.name-name.ensures,
+      c.form-form.ensures,
+      c.implicit_const_value.ensures.value,
+      c.copy-rest.ensures,
+      c.specification.view_is,
+    )
+    more))
 
 pub returns : goal.returns
 unfolding specifications_at

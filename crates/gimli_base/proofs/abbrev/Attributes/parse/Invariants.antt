@@ -1,6 +1,5 @@
 use Rattle.std.proofs.Common.{length}
-use Rattle.gimli_base.specs.Items.{items_at}
-use Rattle.gimli_base.proofs.ItemTurns.{ItemsSoFar}
+use Rattle.gimli_base.specs.Items.{items_at, ItemsSoFar}
 use Rattle.gimli_base.specs.Abbreviations.{specification_at}
 use Rattle.gimli_base.proofs.abbrev.Attributes.parse.Given as goal
 
