@@ -1,23 +1,30 @@
 //! Attributes that are read onto a list.
 
-ghost use Rattle.std.specs.Prelude.{◌≡◌, ◌+◌, ◌<◌, map, OnOk, ◌++◌, ◌∷◌, [], Ok, false, true};
+ghost use Rattle.std.specs.Prelude.{◌≡◌, ◌+◌, ◌<◌, ◌==◌, map, OnOk, ◌++◌, ◌∷◌, [], Ok, false, true};
+ghost use Rattle.std.specs.Prelude.{if◌then◌else◌};
 ghost use Rattle.std.specs.Vec.{vec_len, vec_capacity};
-ghost use Rattle.gimli_base.specs.Reading.{read_of, map_read, answer_leaving};
+ghost use Rattle.gimli_base.specs.Offset.{answer_of};
+ghost use Rattle.gimli_base.specs.Reading.{read_of, map_read, answer_leaving, text_at, offset_at};
+ghost use Rattle.gimli_base.specs.Reading.{sized_offset_at, uint_offset_at};
 ghost use Rattle.gimli_units.specs.Value.{map_value, map_attribute};
-ghost use Rattle.gimli_units.specs.Form.{direct_at};
+ghost use Rattle.gimli_units.specs.declared.value.AttributeValue.TheVariants.{String};
+ghost use Rattle.gimli_units.specs.Form.{direct_at, uleb_offset_at};
 ghost use Rattle.gimli_units.specs.AttributeList.{IsReadOnto, with_value};
 
 use super::{Attribute, parse_attribute};
 use crate::form::{address, allow_section_offset, sized_block, uleb128_block, uleb128_offset};
-use crate::{AttributeValue, UnitOffset};
+use crate::{AttributeValue, DebugInfoOffset, UnitOffset};
 use gimli_base::{
-    AttributeSpecification, DW_FORM_addr, DW_FORM_addrx, DW_FORM_block1, DW_FORM_data1,
+    AttributeSpecification, DW_FORM_GNU_addr_index, DW_FORM_GNU_ref_alt, DW_FORM_GNU_str_index,
+    DW_FORM_GNU_strp_alt, DW_FORM_addr, DW_FORM_addrx, DW_FORM_block1, DW_FORM_data1,
     DW_FORM_data2, DW_FORM_data4, DW_FORM_data8, DW_FORM_exprloc, DW_FORM_flag,
     DW_FORM_flag_present, DW_FORM_implicit_const, DW_FORM_line_strp, DW_FORM_loclistx,
-    DW_FORM_ref_sig8, DW_FORM_ref4, DW_FORM_rnglistx, DW_FORM_sdata, DW_FORM_sec_offset,
-    DW_FORM_strp, DW_FORM_strx, DW_FORM_strx1, DW_FORM_strx2, DW_FORM_udata, DebugAddrIndex,
-    DebugLineStrOffset, DebugLocListsIndex, DebugRngListsIndex, DebugStrOffset,
-    DebugStrOffsetsIndex, DebugTypeSignature, Encoding, Error, Expression, Format, Reader, Result,
+    DW_FORM_ref_addr, DW_FORM_ref_sig8, DW_FORM_ref_udata, DW_FORM_ref1, DW_FORM_ref2,
+    DW_FORM_ref4, DW_FORM_ref8, DW_FORM_rnglistx, DW_FORM_sdata, DW_FORM_sec_offset,
+    DW_FORM_string, DW_FORM_strp, DW_FORM_strp_sup, DW_FORM_strx, DW_FORM_strx1, DW_FORM_strx2,
+    DW_FORM_udata, DebugAddrIndex, DebugLineStrOffset, DebugLocListsIndex, DebugRngListsIndex,
+    DebugStrOffset, DebugStrOffsetsIndex, DebugTypeSignature, DwForm, Encoding, Error, Expression,
+    Format, Reader, Result,
 };
 use std::alloc::Allocator;
 
@@ -43,6 +50,87 @@ fn push<R: Reader, A: Allocator>(
         value,
     });
     Ok(true)
+}
+
+// Reads a text onto a list; where it is refused, the input and the list are left anywhere.
+#[inline(never)]
+fn push_text<R: Reader, A: Allocator>(
+    input: &mut R,
+    specification: &AttributeSpecification,
+    attrs: &mut Vec<Attribute<R>, A>,
+) -> Result<()>
+    requires { vec_len attrs.old < vec_capacity attrs.old }
+    ensures value { let read = map (map_attribute R.view R.Offset.number) in
+        read_of (answer_leaving (read attrs.new.items) result) (R.view input.new)
+        ≡ map_read (λ x. read attrs.old.items ++ with_value specification.now x ∷ [])
+        (map_read String (text_at (R.view input.old))) }
+    ensures room { OnOk result ((vec_len attrs.new ≡ vec_len attrs.old + 1)
+        × (vec_capacity attrs.new ≡ vec_capacity attrs.old)) }
+{
+    let text = input.read_null_terminated_slice()?;
+    let _ = push(specification, AttributeValue::String(text), attrs)?;
+    Ok(())
+}
+
+// The same on a reader of its own, so that the caller's stays in registers.
+#[inline(always)]
+fn push_text_apart<R: Reader, A: Allocator>(
+    input: &mut R,
+    specification: &AttributeSpecification,
+    attrs: &mut Vec<Attribute<R>, A>,
+) -> Result<bool>
+    requires { vec_len attrs.old < vec_capacity attrs.old }
+    ensures value { let read = map (map_attribute R.view R.Offset.number) in
+        read_of (answer_leaving (read attrs.new.items) result) (R.view input.new)
+        ≡ map_read (λ x. read attrs.old.items ++ with_value specification.now x ∷ [])
+        (map_read String (text_at (R.view input.old))) }
+    ensures room { OnOk result ((vec_len attrs.new ≡ vec_len attrs.old + 1)
+        × (vec_capacity attrs.new ≡ vec_capacity attrs.old)) }
+    ensures told { result ≡ Ok false → ⊥ }
+{
+    let mut rest = input.copy();
+    push_text(&mut rest, specification, attrs)?;
+    *input = rest;
+    Ok(true)
+}
+
+// The next offset of an entry of the unit, in one of the forms but ref4; where it is refused, the
+// input is left anywhere.
+#[inline(always)]
+#[tactic(auto, unfolding(gimli_base::specs::Reading::sized_offset_at))]
+fn other_reference<R: Reader>(input: &mut R, form: DwForm) -> Result<R::Offset>
+    ensures { let v = R.view input.old in let limit = R.Offset.limit in
+        read_of (answer_of R.Offset.number result) (R.view input.new)
+        ≡ (if form.0 == 0x11 then uint_offset_at limit 1 v
+        else if form.0 == 0x12 then uint_offset_at limit 2 v
+        else if form.0 == 0x14 then uint_offset_at limit 8 v
+        else uleb_offset_at limit v) }
+{
+    match form {
+        DW_FORM_ref1 => input.read_sized_offset(1),
+        DW_FORM_ref2 => input.read_sized_offset(2),
+        DW_FORM_ref8 => input.read_sized_offset(8),
+        _ => uleb128_offset(input),
+    }
+}
+
+// The next offset of an entry in `.debug_info`; where it is refused, the input is left anywhere. In
+// version 2 it is read by a call that gets a reader of its own, as an address is.
+#[inline(always)]
+#[tactic(auto, unfolding(gimli_base::specs::Reading::sized_offset_at))]
+fn section_reference<R: Reader>(input: &mut R, encoding: Encoding) -> Result<R::Offset>
+    ensures { let v = R.view input.old in let limit = R.Offset.limit in
+        read_of (answer_of R.Offset.number result) (R.view input.new)
+        ≡ (if encoding.version == 2 then sized_offset_at limit encoding.address_size v
+        else offset_at limit encoding.format v) }
+{
+    if encoding.version != 2 {
+        return input.read_offset(encoding.format);
+    }
+    let mut rest = input.copy();
+    let offset = rest.read_sized_offset(encoding.address_size)?;
+    *input = rest;
+    Ok(offset)
 }
 
 // Reads the attribute of a specification onto a list, where its form is one of those that compilers
@@ -128,11 +216,32 @@ fn push_common<R: Reader, A: Allocator>(
             AttributeValue::UnitRef(UnitOffset(input.read_sized_offset(4)?)),
             attrs,
         ),
+        DW_FORM_ref1 | DW_FORM_ref2 | DW_FORM_ref8 | DW_FORM_ref_udata => push(
+            s,
+            AttributeValue::UnitRef(UnitOffset(other_reference(input, s.form())?)),
+            attrs,
+        ),
+        DW_FORM_ref_addr => push(
+            s,
+            AttributeValue::DebugInfoRef(DebugInfoOffset(section_reference(input, encoding)?)),
+            attrs,
+        ),
+        DW_FORM_GNU_ref_alt => push(
+            s,
+            AttributeValue::DebugInfoRefSup(DebugInfoOffset(input.read_offset(encoding.format)?)),
+            attrs,
+        ),
+        DW_FORM_strp_sup | DW_FORM_GNU_strp_alt => push(
+            s,
+            AttributeValue::DebugStrRefSup(DebugStrOffset(input.read_offset(encoding.format)?)),
+            attrs,
+        ),
         DW_FORM_ref_sig8 => push(
             s,
             AttributeValue::DebugTypesRef(DebugTypeSignature(input.read_u64()?)),
             attrs,
         ),
+        DW_FORM_string => push_text_apart(input, s, attrs),
         DW_FORM_strp => push(
             s,
             AttributeValue::DebugStrRef(DebugStrOffset(input.read_offset(encoding.format)?)),
@@ -149,7 +258,7 @@ fn push_common<R: Reader, A: Allocator>(
             Some(value) => push(s, AttributeValue::Sdata(value), attrs),
             None => Err(Error::InvalidImplicitConst),
         },
-        DW_FORM_strx => push(
+        DW_FORM_strx | DW_FORM_GNU_str_index => push(
             s,
             AttributeValue::DebugStrOffsetsIndex(DebugStrOffsetsIndex(uleb128_offset(input)?)),
             attrs,
@@ -164,7 +273,7 @@ fn push_common<R: Reader, A: Allocator>(
             AttributeValue::DebugStrOffsetsIndex(DebugStrOffsetsIndex(input.read_sized_offset(2)?)),
             attrs,
         ),
-        DW_FORM_addrx => push(
+        DW_FORM_addrx | DW_FORM_GNU_addr_index => push(
             s,
             AttributeValue::DebugAddrIndex(DebugAddrIndex(uleb128_offset(input)?)),
             attrs,
