@@ -12,14 +12,13 @@ use Rattle.gimli_base.specs.declared.sizes.Sizes.{Sizes}
 use Rattle.gimli_base.specs.declared.width.Width.{Width}
 use Rattle.gimli_base.specs.declared.width.Width.TheVariants.{Fixed, Address, Word, Reference}
 use Rattle.gimli_base.specs.declared.width.Width.TheVariants.{Unknown}
-use Rattle.std.specs.List.{All}
 use Rattle.std.proofs.lemmas.List.Elements.{All-append, All-cons, All-nil}
 use Rattle.gimli_base.specs.Abbreviations.{Specification, IsWellFormed, constant_of}
 use Rattle.gimli_base.specs.Reading.{word_size_of}
 use Rattle.gimli_base.specs.Width.{attributes_size, known_sum, size_in, width_of, width_in}
 use Rattle.gimli_base.specs.Width.{form_size, widths}
-use Rattle.gimli_base.specs.Sizes.{AreSizesOf, sizes_in, sizes_with, sizes_from, no_sizes}
-use Rattle.gimli_base.specs.Sizes.{fixed_of, others_of}
+use Rattle.gimli_base.specs.Sizes.{AreSizesOf, AreSizesOfFew, sizes_in, sizes_with, sizes_from}
+use Rattle.gimli_base.specs.Sizes.{no_sizes, fixed_of, others_of}
 
 known_sum_assoc : (l m n : Option ℕ) → known_sum (known_sum l m) n ≡ known_sum l (known_sum m n)
 known_sum_assoc (Some l) (Some m) (Some n) = ap Some (omega arith)
@@ -271,18 +270,6 @@ sizes-push sizes ss s are formed few =
       many = λ h. absurd (omega (arith, h, few));
     }
 
--- sums that are unknown, of 2 ^ 16 attributes and more
-pub sizes-forget : (sizes : Sizes) (ss : List Specification) (s : Specification)
-    → All IsWellFormed ss → IsWellFormed s → 2 ^ 48 ≤ sizes.others → 65535 ≤ length ss
-    → AreSizesOf sizes (ss ++ s ∷ [])
-sizes-forget sizes ss s were formed large many =
-    let more : length (ss ++ s ∷ []) ≡ length ss + 1 = omega (arith, length-append ss (s ∷ [])) in
-    record {
-      formed = All-append IsWellFormed ss (s ∷ []) were (All-cons IsWellFormed s [] formed (All-nil IsWellFormed));
-      few = λ h. absurd (omega (arith, h, many));
-      many = λ h. large;
-    }
-
 -- a number that is kept for the form implicit_const alone is well formed
 pub constant-formed : (form : ℕ) (n : ℤ) → is_some (constant_of form n) ≡ (form == 0x21)
 constant-formed form n = cases (form == 0x21)
@@ -351,3 +338,31 @@ pub others-fits : (sizes : Sizes) (ss : List Specification) (form : ℕ) → Are
 others-fits sizes ss form are few =
     rw (are.few (omega (arith, few)))
     (omega (arith, few, others_from-below no_sizes ss, others_of-below (width_of form)))
+
+-- sums that cannot have wrapped
+sizes-few_enough : (sizes : Sizes) (ss : List Specification) → AreSizesOfFew sizes ss
+    → length ss ≤ 65535 → AreSizesOf sizes ss
+sizes-few_enough sizes ss are few = record {
+  formed = are.formed;
+  few = are.few;
+  many = λ h. absurd (omega (arith, h, few));
+}
+
+-- the sums with one attribute more, where it had room in them if there are fewer than 2 ^ 16
+pub sizes-wrap : (sizes wrapped : Sizes) (ss : List Specification) (s : Specification)
+    → AreSizesOfFew sizes ss → IsWellFormed s
+    → (sizes.fixed + fixed_of (width_of s.form.0) < 2 ^ 32
+    → sizes.others + others_of (width_of s.form.0) < 2 ^ 64
+    → wrapped ≡ sizes_with sizes (fixed_of (width_of s.form.0)) (others_of (width_of s.form.0)))
+    → AreSizesOfFew wrapped (ss ++ s ∷ [])
+sizes-wrap sizes wrapped ss s are formed room =
+    let more : length (ss ++ s ∷ []) ≡ length ss + 1 = omega (arith, length-append ss (s ∷ [])) in
+    record {
+      formed = All-append IsWellFormed ss (s ∷ []) are.formed (All-cons IsWellFormed s [] formed (All-nil IsWellFormed));
+      few = λ h.
+          let less : length ss < 65535 = omega (arith, h, more) in
+          let before : AreSizesOf sizes ss = sizes-few_enough sizes ss are (omega (arith, less)) in
+          room (fixed-fits sizes ss s.form.0 before less)
+          (others-fits sizes ss s.form.0 before less)
+          ∙ (sizes-push sizes ss s before formed less).few h;
+    }

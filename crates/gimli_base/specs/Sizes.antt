@@ -65,3 +65,8 @@ pub record AreSizesOf (sizes : Sizes) (ss : List Specification) : Type 0 where
   pub formed : All IsWellFormed ss
   pub few : length ss < 2 ^ 16 → sizes ≡ sizes_from no_sizes ss
   pub many : 2 ^ 16 ≤ length ss → 2 ^ 48 ≤ sizes.others
+
+-- the sums are those of these attributes, where there are fewer than 2 ^ 16 of them
+pub record AreSizesOfFew (sizes : Sizes) (ss : List Specification) : Type 0 where
+  pub formed : All IsWellFormed ss
+  pub few : length ss < 2 ^ 16 → sizes ≡ sizes_from no_sizes ss

@@ -20,7 +20,7 @@ ghost use Rattle.gimli_base.specs.Abbreviations.{
 };
 ghost use Rattle.gimli_base.specs.Width.{width_of, form_size, attributes_size};
 ghost use Rattle.std.specs.List.{All};
-ghost use Rattle.gimli_base.specs.Sizes.{AreSizesOf, fixed_of, others_of};
+ghost use Rattle.gimli_base.specs.Sizes.{AreSizesOf, AreSizesOfFew, fixed_of, others_of};
 ghost use Rattle.gimli_base.specs.Table.{Table, codes_of};
 ghost use Rattle.gimli_base.specs.Items.{Items, ItemsSoFar, all_items};
 ghost use Rattle.gimli_base.specs.Offset.{answer_of};
@@ -206,6 +206,56 @@ const FEW: usize = 12;
 // Up to how many attributes the bytes of all are known, since each count has 16 bits.
 const MOST: usize = 65_535;
 
+// One more attribute in a list, and in the sums of its widths, which are right up to `MOST`
+// attributes; where memory is refused, both are left anywhere.
+#[inline(always)]
+fn push_listed<A: Allocator>(
+    list: &mut Vec<AttributeSpecification, A>,
+    sizes: &mut Sizes,
+    counted: Counted,
+) -> std::result::Result<(), AllocError>
+    requires { AreSizesOfFew sizes.old list.old.items }
+    ensures pushed { OnOk result (list.new.items ≡ list.old.items ++ counted ∷ []) }
+    ensures counted { OnOk result (AreSizesOfFew sizes.new list.new.items) }
+{
+    sizes.push_wrapping(counted.fixed, counted.others);
+    list.push(counted.specification)?;
+    Ok(())
+}
+
+// Adds an attribute to a list whose widths have these sums, and after it the declared ones up to
+// two zeros, and answers the sums of all; where they are refused, the input and the list are left
+// anywhere.
+//
+// It reads by a copy of the input and keeps sums of its own, so that both stay in registers, and
+// looks only at the end whether the sums hold.
+#[inline(always)]
+fn parse_listed<R: Reader, A: Allocator>(
+    list: &mut Vec<AttributeSpecification, A>,
+    before: Sizes,
+    first: Counted,
+    input: &mut R,
+) -> Result<Sizes>
+    requires { AreSizesOf before list.old.items }
+    ensures counted { IfOk result (λ sizes. AreSizesOf sizes list.new.items) }
+    ensures read { (all : Items Specification)
+        → ItemsSoFar specification_at all (list.old.items ++ first ∷ []) (R.view input.old)
+        → UnlessMemory result
+        (read_of (answer_leaving list.new.items result) (R.view input.new) ≡ all_items all) }
+{
+    let mut sizes = before;
+    let mut rest = input.copy();
+    push_listed(list, &mut sizes, first)?;
+    while let Some(counted) = Counted::parse(&mut rest)? {
+        push_listed(list, &mut sizes, counted)?;
+    }
+    if list.len() > MOST {
+        sizes.forget();
+    }
+    *input = rest;
+    Ok(sizes)
+}
+
 // The attributes of a declaration: up to `FEW` in place, since to ask for memory takes longer than
 // to read a declaration, and more in a list of their own.
 #[derive(Drop)]
@@ -287,28 +337,6 @@ impl<A: Allocator> Attributes<A> {
         false
     }
 
-    // One more attribute, in the list; where memory is refused, they are left anywhere.
-    #[inline(always)]
-    fn push_apart(&mut self, counted: Counted) -> std::result::Result<(), AllocError>
-        ensures { OnOk result (self.new ≡ self.old ++ counted ∷ []) }
-    {
-        let count = self.count as usize;
-        if count <= FEW {
-            self.more.clear();
-            self.more.extend_from_slice(&self.few[..count])?;
-            self.count = FEW as u32 + 1;
-        }
-        let before = self.more.len();
-        let (fixed, others) = (counted.fixed, counted.others);
-        self.more.push(counted.specification)?;
-        if before < MOST {
-            self.sizes.push(fixed, others);
-        } else {
-            self.sizes.forget();
-        }
-        Ok(())
-    }
-
     // Adds an attribute to the list, and after it the declared ones up to two zeros; where they are
     // refused, the input and the attributes are left anywhere. It takes the parts of the first, since
     // a specification that is passed as a whole lies in memory wherever it may be passed.
@@ -329,10 +357,18 @@ impl<A: Allocator> Attributes<A> {
             → UnlessMemory result
             (read_of (answer_leaving self.new result) (R.view input.new) ≡ all_items all) }
     {
-        self.push_apart(Counted::new(name, form, implicit_const_value))?;
-        while let Some(specification) = Counted::parse(input)? {
-            self.push_apart(specification)?;
+        let count = self.count as usize;
+        if count <= FEW {
+            self.more.clear();
+            self.more.extend_from_slice(&self.few[..count])?;
         }
+        let before = self.sizes;
+        // (so that none are left where a read is refused)
+        self.count = 0;
+        self.sizes = Sizes::new();
+        let first = Counted::new(name, form, implicit_const_value);
+        self.sizes = parse_listed(&mut self.more, before, first, input)?;
+        self.count = FEW as u32 + 1;
         Ok(())
     }
 

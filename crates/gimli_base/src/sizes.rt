@@ -100,6 +100,17 @@ impl Sizes {
         self.fixed += fixed;
     }
 
+    /// Adds a width, by its share, to sums that wrap where they have no room for it.
+    #[inline(always)]
+    pub(crate) fn push_wrapping(&mut self, fixed: u32, others: u64)
+        ensures { self.old.fixed + fixed < 2 ^ 32
+            → self.old.others + others < 2 ^ 64
+            → self.new ≡ sizes_with self.old fixed others }
+    {
+        self.others = self.others.wrapping_add(others);
+        self.fixed = self.fixed.wrapping_add(fixed);
+    }
+
     /// Takes the number of bytes as unknown from here on.
     #[inline(always)]
     pub(crate) fn forget(&mut self)
