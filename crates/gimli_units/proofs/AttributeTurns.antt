@@ -102,3 +102,18 @@ onto_direct limit e s v xs ne h =
         ≡ map_read (λ a. xs ++ a ∷ []) (map_read (λ x. with_value s x) r)
     twice (Ok p) = refl
     twice (Err x) = refl
+
+-- a value of a form that is not indirect was passed
+pub passed_direct : (limit : ℕ) (e : Encoding) (s : Specification) (v : View)
+    → (s.form.0 ≡ 0x16 → ⊥) → is_some s.constant ≡ (s.form.0 == 0x21)
+    → map_read (λ _. tt {0}) (direct_at limit e s.name.0 s.constant s.form.0 v)
+    ≡ map_read (λ _. tt {0}) (attribute_at limit e s v)
+unfolding attribute_at
+passed_direct limit e s v ne h =
+    ap (λ (r : Reads Value). map_read (λ _. tt {0}) r)
+    (direct_value limit e s.name.0 s.constant s.form.0 v ne h)
+    ∙ once (value_at limit e s.name.0 s.constant s.form.0 v)
+  where
+    once : (r : Reads Value) → map_read (λ _. tt {0}) r ≡ map_read (λ _. tt {0}) (map_read (λ x. with_value s x) r)
+    once (Ok p) = refl
+    once (Err x) = refl

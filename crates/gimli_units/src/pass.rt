@@ -5,16 +5,22 @@ ghost use Rattle.std.specs.Prelude.{◌≡◌, ◌≤◌, ◌<◌, ◌==◌, ℕ
 ghost use Rattle.std.specs.List.{position};
 ghost use Rattle.std.specs.Option.{option_map};
 ghost use Rattle.gimli_base.specs.Offset.{answer_of};
-ghost use Rattle.gimli_base.specs.Reading.{read_of, map_read, skip_at, is_size};
+ghost use Rattle.gimli_base.specs.Reading.{read_of, map_read, skip_at, is_size, text_at};
+ghost use Rattle.gimli_base.specs.Reading.{answer_leaving};
+ghost use Rattle.gimli_units.specs.Form.{direct_at};
 ghost use Rattle.gimli_units.specs.Kind.{unit_reference, sibling_of};
 ghost use Rattle.gimli_units.specs.Entry.{attribute_at, attributes_at};
 ghost use Rattle.gimli_units.specs.Sized.{ReadsAny, PassesTogether};
-ghost use Rattle.std.specs.Prelude.{true, false};
+ghost use Rattle.std.specs.Prelude.{Ok, true, false};
 
 use crate::UnitOffset;
 use crate::attribute::parse_attribute;
+use crate::form::{uleb128_block, uleb128_offset};
 use gimli_base::{
-    Abbreviation, AttributeSpecification, DW_AT_sibling, Encoding, Reader, ReaderOffset, Result,
+    Abbreviation, AttributeSpecification, DW_AT_sibling, DW_FORM_GNU_addr_index,
+    DW_FORM_GNU_str_index, DW_FORM_addrx, DW_FORM_exprloc, DW_FORM_loclistx, DW_FORM_ref_udata,
+    DW_FORM_rnglistx, DW_FORM_sdata, DW_FORM_string, DW_FORM_strx, DW_FORM_udata, Encoding, Reader,
+    ReaderOffset, Result,
 };
 use std::alloc::Allocator;
 
@@ -96,10 +102,92 @@ fn above_any<R: Reader>(encoding: Encoding) -> u16
     0
 }
 
-// Passes a value as it is read, on a reader of its own; where it is refused, the input is left
+// Passes a text; where it is refused, the input is left anywhere.
+#[inline(never)]
+fn pass_text<R: Reader>(input: &mut R) -> Result<()>
+    ensures { read_of result (R.view input.new)
+        ≡ map_read (λ _. tt) (text_at (R.view input.old)) }
+{
+    let _ = input.read_null_terminated_slice()?;
+    Ok(())
+}
+
+// The same on a reader of its own, so that the caller's stays in registers.
+#[inline(always)]
+fn pass_text_apart<R: Reader>(input: &mut R) -> Result<()>
+    ensures { read_of result (R.view input.new)
+        ≡ map_read (λ _. tt) (text_at (R.view input.old)) }
+{
+    let mut rest = input.copy();
+    pass_text(&mut rest)?;
+    *input = rest;
+    Ok(())
+}
+
+// Passes a value whose bytes tell how many they are, in one of the forms that compilers write most;
+// with any other form it answers false, and nothing is passed. Where it is refused, the input is left
 // anywhere.
 #[inline(always)]
+#[tactic(auto, unfolding(crate::specs::Form::direct_at))]
+fn pass_common<R: Reader>(
+    input: &mut R,
+    encoding: Encoding,
+    specification: &AttributeSpecification,
+) -> Result<bool>
+    ensures kept { result ≡ Ok false → R.view input.new ≡ R.view input.old }
+    ensures direct { (result ≡ Ok false → ⊥) → specification.now.form.0 ≡ 0x16 → ⊥ }
+    ensures value { (result ≡ Ok false → ⊥) → let s = specification.now in
+        read_of (answer_leaving (tt {0}) result) (R.view input.new)
+        ≡ map_read (λ _. tt)
+        (direct_at R.Offset.limit encoding s.name.0 s.constant s.form.0 (R.view input.old)) }
+{
+    match specification.form() {
+        DW_FORM_exprloc => {
+            let _ = uleb128_block(input)?;
+        }
+        DW_FORM_udata => {
+            let _ = input.read_uleb128()?;
+        }
+        DW_FORM_sdata => {
+            let _ = input.read_sleb128()?;
+        }
+        DW_FORM_strx
+        | DW_FORM_GNU_str_index
+        | DW_FORM_addrx
+        | DW_FORM_GNU_addr_index
+        | DW_FORM_loclistx
+        | DW_FORM_rnglistx
+        | DW_FORM_ref_udata => {
+            let _ = uleb128_offset(input)?;
+        }
+        DW_FORM_string => pass_text_apart(input)?,
+        _ => return Ok(false),
+    }
+    Ok(true)
+}
+
+// Passes a value as it is read; where it is refused, the input is left anywhere.
+#[inline(always)]
 fn pass_value<R: Reader>(
+    input: &mut R,
+    encoding: Encoding,
+    specification: &AttributeSpecification,
+) -> Result<()>
+    ensures { read_of result (R.view input.new)
+        ≡ map_read (λ _. tt)
+        (attribute_at R.Offset.limit encoding specification.now (R.view input.old)) }
+{
+    // (it says that the form implicit_const has a number)
+    let _ = specification.implicit_const_value();
+    if pass_common(input, encoding, specification)? {
+        return Ok(());
+    }
+    pass_apart(input, encoding, specification)
+}
+
+// The same by a call, which gets a reader of its own, so that the caller's stays in registers.
+#[inline(always)]
+fn pass_apart<R: Reader>(
     input: &mut R,
     encoding: Encoding,
     specification: &AttributeSpecification,
