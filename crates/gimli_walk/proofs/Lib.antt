@@ -21,4 +21,4 @@ pub mod TreeTruth
 pub mod TreeTurned
 pub mod WordLines
 pub mod WrittenLines
-mod HeadRows
+pub mod HeadRows

@@ -1,6 +1,6 @@
 //! Lines of rows that are gathered, and go out together.
 
-ghost use Rattle.std.specs.Prelude.{◌≡◌, ◌+◌, ◌≤◌, List, ℕ, [], ◌++◌, OnOk, length, take, true};
+ghost use Rattle.std.specs.Prelude.{◌≡◌, ◌+◌, ◌-◌, ◌≤◌, List, ℕ, [], ◌++◌, OnOk, length, take, drop, true};
 ghost use Rattle.std.specs.Io.KnownBytes.{Appends, append_known};
 ghost use Rattle.gimli_walk.specs.Lines.{row_line};
 
@@ -10,6 +10,9 @@ use std::marker::Model;
 
 // How many bytes are gathered at most.
 const ROOM: usize = 1024;
+
+// A line ends with the first so many bytes of what it is put into.
+const LINE: usize = 48;
 
 /// Lines that are still to go out.
 #[derive(Drop)]
@@ -46,15 +49,17 @@ impl Gathered {
         self.count <= ROOM - 48
     }
 
-    // Adds a line.
+    // Adds a line, which ends with the first 48 bytes and begins at `begin`. As many bytes are copied
+    // as the longest line has, so that no call is needed; what comes after the line is written over.
     #[inline(always)]
-    fn push(&mut self, line: &[u8])
-        requires { length self.old + length line.now ≤ 1024 }
-        ensures { self.new ≡ self.old ++ line.now }
+    fn push(&mut self, line: &[u8; 96], begin: usize)
+        requires room { length self.old + 48 ≤ 1024 }
+        requires within { begin ≤ 48 }
+        ensures { self.new ≡ self.old ++ take (48 - begin) (drop begin line.now) }
     {
-        let end = self.count + line.len();
-        self.bytes[self.count..end].copy_from_slice(line);
-        self.count = end;
+        let count = self.count;
+        self.bytes[count..count + LINE].copy_from_slice(&line[begin..begin + LINE]);
+        self.count = count + LINE - begin;
     }
 
     /// Writes the lines, after which there are none.
@@ -71,11 +76,13 @@ impl Gathered {
     }
 
     /// Adds the line of a row: its offset and tag in hexadecimal, its depth, and whether children
-    /// follow. Where there is no room, the lines before it are written first.
+    /// follow. Where there is no room, the lines before it are written first. It is put together in
+    /// `line`, which its caller keeps, so that it is made once.
     #[inline(always)]
     pub(crate) fn write_row<W: Write>(
         &mut self,
         out: &mut W,
+        line: &mut [u8; 96],
         offset: u64,
         depth: isize,
         tag: u16,
@@ -89,10 +96,8 @@ impl Gathered {
         if !self.has_room() {
             self.send(out)?;
         }
-        let mut line = [b' '; 48];
-        let begin = put_row(offset, depth, tag, has_children, &mut line);
-        let text: &[u8] = &line;
-        self.push(&text[begin..]);
+        let begin = put_row(offset, depth, tag, has_children, line);
+        self.push(line, begin);
         Ok(())
     }
 }

@@ -47,13 +47,14 @@ fn write_rows_left<R: Reader, A: Allocator, W: Write>(
         WroteUntil (W.contents out.old) (W.contents out.new) text result }
 {
     let mut lines = Gathered::new();
+    let mut line = [b' '; 96];
     'rows: while !entries.is_empty() {
         let offset = entries.next_offset().0.into_u64();
         let depth = entries.next_depth();
         match entries.read_head() {
             Ok(declared) => {
                 let (tag, has_children) = head_parts(declared);
-                lines.write_row(out, offset, depth, tag, has_children)?;
+                lines.write_row(out, &mut line, offset, depth, tag, has_children)?;
             }
             Err(error) => {
                 lines.send(out)?;
