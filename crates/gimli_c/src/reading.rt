@@ -6,7 +6,7 @@ ghost use Rattle.gimli_base.specs.Reading.{read_of, answer_leaving, map_read, Un
 ghost use Rattle.gimli_units.specs.Entry.{attributes_at, entry_at};
 ghost use Rattle.gimli_base.specs.declared.error.Error.TheVariants.{OutOfMemory};
 ghost use Rattle.gimli_c.specs.Attrs.{attr_of};
-ghost use Rattle.gimli_c.specs.Heads.{null_head, declared_head, IsReadPast, IsReadWith, AreRead};
+ghost use Rattle.gimli_c.specs.Heads.{null_head, declared_head, IsReadPast, IsReadWith};
 
 use crate::attrs::{GimliAttr, attr_of};
 use gimli_base::{Abbreviation, AttributeSpecification, Reader, Result};
@@ -55,33 +55,10 @@ pub(crate) fn pass_entry<R: Reader, A: Allocator>(
         entries.old.rest) }
     ensures kept { OnErr result (entries.new ≡ entries.old) }
 {
-    let mut rest = entries.copy();
-    let Some(declared) = rest.read_abbreviation()? else {
-        *entries = rest;
-        return Ok(null_head());
-    };
-    pass_attributes(&mut rest, declared.attributes())?;
-    *entries = rest;
-    Ok(declared_head(declared))
-}
-
-// Reads on past the attributes of these specifications; where one is refused, `entries` is left
-// anywhere.
-#[inline(always)]
-fn pass_attributes<R: Reader, A: Allocator>(
-    entries: &mut EntriesRaw<'_, R, A>,
-    specifications: &[AttributeSpecification],
-) -> Result<()>
-    ensures passed { IfOk result (λ _. AreRead R.Offset.limit entries.old.encoding
-        specifications.now entries.old.rest entries.new.rest) }
-    ensures refused { IfErr result (λ e. Err e
-        ≡ attributes_at R.Offset.limit entries.old.encoding specifications.now entries.old.rest) }
-    ensures same { entries.new ≡ record entries.old { rest = entries.new.rest } }
-{
-    for specification in specifications {
-        let _attribute = entries.read_attribute_inline(*specification)?;
+    match entries.read_head()? {
+        Some(declared) => Ok(declared_head(declared)),
+        None => Ok(null_head()),
     }
-    Ok(())
 }
 
 /// Reads the next entry, and keeps its head, and its attributes in place of those in `numbers`.
