@@ -262,7 +262,7 @@ fn parse_listed<R: Reader, A: Allocator>(
 struct Attributes<A: Allocator> {
     // of all of them; they lie beside the tag
     sizes: Sizes,
-    // above `FEW` where they are in the list (a `u32`, which fills the bytes after the sizes)
+    // above `FEW` where they are in the list
     count: u32,
     few: [AttributeSpecification; FEW],
     more: Vec<AttributeSpecification, A>,
