@@ -1,11 +1,11 @@
 //! Lines of rows that are gathered, and go out together.
 
-ghost use Rattle.std.specs.Prelude.{◌≡◌, ◌+◌, ◌-◌, ◌≤◌, List, ℕ, [], ◌++◌, OnOk, length, take, drop, true};
+ghost use Rattle.std.specs.Prelude.{◌≡◌, ◌+◌, ◌-◌, ◌<◌, ◌≤◌, List, ℕ, [], ◌++◌, OnOk, length, take, drop, true};
 ghost use Rattle.std.specs.Io.KnownBytes.{Appends, append_known};
 ghost use Rattle.gimli_walk.specs.Lines.{row_line};
 
 use crate::lines::{WriteFault, put_row};
-use std::io::{ErrorKind, Write};
+use std::io::Write;
 use std::marker::Model;
 
 // How many bytes are gathered at most.
@@ -102,32 +102,43 @@ impl Gathered {
     }
 }
 
-// Writes lines at once; none are no write.
+// Writes lines together, as far as they are taken. Where they are not, what is left of them is
+// written line by line, as if nothing had been gathered.
 fn write_together<W: Write>(out: &mut W, lines: &[u8]) -> Result<(), WriteFault>
     ensures { OnOk result (Appends (W.contents out.old) (W.contents out.new) lines.now) }
 {
-    if lines.is_empty() {
-        return Ok(());
-    }
-    match out.write(lines) {
-        Ok(0) => Err(WriteFault),
-        Ok(count) => out.write_all(&lines[count..]).map_err(|_| WriteFault),
-        Err(error) => {
-            if error.kind() == ErrorKind::Interrupted {
-                return out.write_all(lines).map_err(|_| WriteFault);
-            }
-            write_apart(out, lines);
-            Err(WriteFault)
+    let mut rest = lines;
+    'writes: while !rest.is_empty() {
+        match out.write(rest) {
+            Ok(0) => return write_apart(out, rest),
+            Ok(count) => rest = &rest[count..],
+            Err(_) => return write_apart(out, rest),
         }
     }
+    Ok(())
 }
 
-// Writes lines one by one, up to the first that is refused. Together they were refused: those
-// before the one for which there is no room go out still.
-fn write_apart<W: Write>(out: &mut W, lines: &[u8]) {
-    for line in lines.split_inclusive(|byte| *byte == b'\n') {
-        if out.write_all(line).is_err() {
-            return;
-        }
+// Writes lines one by one, up to the first that is refused.
+fn write_apart<W: Write>(out: &mut W, lines: &[u8]) -> Result<(), WriteFault>
+    ensures { OnOk result (Appends (W.contents out.old) (W.contents out.new) lines.now) }
+{
+    let mut rest = lines;
+    'lines: while !rest.is_empty() {
+        let end = line_end(rest);
+        out.write_all(&rest[..end]).map_err(|_| WriteFault)?;
+        rest = &rest[end..];
+    }
+    Ok(())
+}
+
+// How many bytes the first line has, its end among them, or what there is of it.
+fn line_end(lines: &[u8]) -> usize
+    requires { 0 < length lines.now }
+    ensures some { 0 < result }
+    ensures within { result ≤ length lines.now }
+{
+    match lines.iter().position(|byte| *byte == b'\n') {
+        Some(place) => place + 1,
+        None => lines.len(),
     }
 }

@@ -28,9 +28,9 @@ use std::io::Write;
 /// status is 1. `alloc` is asked for memory only after the header of the unit is read: without a
 /// unit, and where its header is refused, all lines are written.
 ///
-/// Refusal: `WriteFault`, where `out` refuses a write. Lines of rows that it refuses together are
-/// handed over one by one, up to the first that is refused. Nothing more is written then, and
-/// nothing is said of what was written before.
+/// Refusal: `WriteFault`, where `out` refuses a write. Nothing more is written then, and nothing is
+/// said of what was written before. Lines of rows are handed over together, and one by one where
+/// `out` does not take them so.
 pub fn walk_text<A: Allocator + Copy, W: Write>(
     alloc: A,
     mode: Mode<'_>,

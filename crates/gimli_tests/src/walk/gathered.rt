@@ -23,6 +23,14 @@ enum Takes {
     Few,
     // every second time none, as it is interrupted
     Interrupted,
+    // as `Whole`, and every second time none, as it is interrupted
+    WholeInterrupted,
+    // all, or it answers that it took none
+    WholeOrZero,
+    // all, or none where there is no room for all, or where they are more than 512
+    Record,
+    // at most 512, or none where there is no room for so many of them
+    Piece,
 }
 
 // A writer with room for so many bytes.
@@ -43,6 +51,12 @@ impl Narrow {
             interrupted: false,
         }
     }
+
+    // Whether this call is interrupted, which every second one is.
+    fn is_interrupted(&mut self) -> bool {
+        self.interrupted = !self.interrupted;
+        self.interrupted
+    }
 }
 
 impl Write for Narrow {
@@ -59,9 +73,32 @@ impl Write for Narrow {
             Takes::Part => {}
             Takes::Few => count = count.min(7),
             Takes::Interrupted => {
-                self.interrupted = !self.interrupted;
-                if self.interrupted {
+                if self.is_interrupted() {
                     return Err(Error::from(ErrorKind::Interrupted));
+                }
+            }
+            Takes::WholeInterrupted => {
+                if self.is_interrupted() {
+                    return Err(Error::from(ErrorKind::Interrupted));
+                }
+                if count < buf.len() {
+                    return Err(Error::from(ErrorKind::Other));
+                }
+            }
+            Takes::WholeOrZero => {
+                if count < buf.len() {
+                    return Ok(0);
+                }
+            }
+            Takes::Record => {
+                if count < buf.len() || count > 512 {
+                    return Err(Error::from(ErrorKind::Other));
+                }
+            }
+            Takes::Piece => {
+                count = buf.len().min(512);
+                if count > self.room {
+                    return Err(Error::from(ErrorKind::Other));
                 }
             }
         }
@@ -136,7 +173,15 @@ fn take_what_lines_one_by_one_leave(rt: HostRuntime) -> Result<(), Fail> {
         }
         // a null ends the rows, or a code that is not declared, whose line is written in parts
         let ended = unit_bytes(alloc, count, 0)?;
-        tries_rooms(&rt, alloc, &ended, Takes::Whole, &rooms)?;
+        for takes in [
+            Takes::Whole,
+            Takes::WholeInterrupted,
+            Takes::WholeOrZero,
+            Takes::Record,
+            Takes::Piece,
+        ] {
+            tries_rooms(&rt, alloc, &ended, takes, &rooms)?;
+        }
         for last in [0u8, 7] {
             let info = unit_bytes(alloc, count, last)?;
             tries_rooms(&rt, alloc, &info, Takes::Part, &rooms)?;
