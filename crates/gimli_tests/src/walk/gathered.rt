@@ -63,15 +63,16 @@ impl Write for Narrow {
     ghost contents = { λ _. None };
 
     fn write(&mut self, buf: &[u8]) -> std::io::Result<usize> {
-        let mut count = buf.len().min(self.room);
+        let fits = buf.len() <= self.room;
+        let mut most = usize::MAX;
         match self.takes {
             Takes::Whole => {
-                if count < buf.len() {
+                if !fits {
                     return Err(Error::from(ErrorKind::Other));
                 }
             }
             Takes::Part => {}
-            Takes::Few => count = count.min(7),
+            Takes::Few => most = 7,
             Takes::Interrupted => {
                 if self.is_interrupted() {
                     return Err(Error::from(ErrorKind::Interrupted));
@@ -81,27 +82,28 @@ impl Write for Narrow {
                 if self.is_interrupted() {
                     return Err(Error::from(ErrorKind::Interrupted));
                 }
-                if count < buf.len() {
+                if !fits {
                     return Err(Error::from(ErrorKind::Other));
                 }
             }
             Takes::WholeOrZero => {
-                if count < buf.len() {
+                if !fits {
                     return Ok(0);
                 }
             }
             Takes::Record => {
-                if count < buf.len() || count > 512 {
+                if !fits || buf.len() > 512 {
                     return Err(Error::from(ErrorKind::Other));
                 }
             }
             Takes::Piece => {
-                count = buf.len().min(512);
-                if count > self.room {
+                most = 512;
+                if buf.len().min(most) > self.room {
                     return Err(Error::from(ErrorKind::Other));
                 }
             }
         }
+        let count = buf.len().min(self.room).min(most);
         self.taken.extend_from_slice(&buf[..count])?;
         self.room -= count;
         Ok(count)
