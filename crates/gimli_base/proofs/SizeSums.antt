@@ -262,7 +262,8 @@ pub sizes-push : (sizes : Sizes) (ss : List Specification) (s : Specification)
 sizes-push sizes ss s are formed few =
     let more : length (ss ++ s ∷ []) ≡ length ss + 1 = omega (arith, length-append ss (s ∷ [])) in
     record {
-      formed = All-append IsWellFormed ss (s ∷ []) are.formed (All-cons IsWellFormed s [] formed (All-nil IsWellFormed));
+      formed = All-append IsWellFormed ss (s ∷ []) are.formed
+          (All-cons IsWellFormed s [] formed (All-nil IsWellFormed));
       few = λ h. ap (λ (z : Sizes).
           sizes_with z (fixed_of (width_of s.form.0)) (others_of (width_of s.form.0)))
           (are.few (omega (arith, few)))
@@ -358,7 +359,8 @@ pub sizes-wrap : (sizes wrapped : Sizes) (ss : List Specification) (s : Specific
 sizes-wrap sizes wrapped ss s are formed room =
     let more : length (ss ++ s ∷ []) ≡ length ss + 1 = omega (arith, length-append ss (s ∷ [])) in
     record {
-      formed = All-append IsWellFormed ss (s ∷ []) are.formed (All-cons IsWellFormed s [] formed (All-nil IsWellFormed));
+      formed = All-append IsWellFormed ss (s ∷ []) are.formed
+          (All-cons IsWellFormed s [] formed (All-nil IsWellFormed));
       few = λ h.
           let less : length ss < 65535 = omega (arith, h, more) in
           let before : AreSizesOf sizes ss = sizes-few_enough sizes ss are (omega (arith, less)) in

@@ -13,6 +13,7 @@ use Rattle.gimli_units.specs.Form.{direct_at, value_at}
 use Rattle.gimli_units.specs.Entry.{Attr, attribute_at, attributes_at}
 use Rattle.gimli_units.specs.AttributeList.{with_value}
 use Rattle.gimli_units.proofs.Chains.{direct_value}
+use Rattle.gimli_units.proofs.SizedReads.{left_by, left_by_made}
 
 -- a list that was read after another
 abbrev pub after : {A : Type 0} → List A → Reads (List A) → Reads (List A)
@@ -22,10 +23,6 @@ with_first : {A : Type 0} → (a : A) (xs : List A) (r : Reads (List A))
     → after xs (map_read (λ ys. a ∷ ys) r) ≡ after (xs ++ a ∷ []) r
 with_first a xs (Ok p) = ap (λ ys. Ok (ys, p.1)) (sym (append_assoc xs (a ∷ []) p.0))
 with_first a xs (Err e) = refl
-
-pub with_none : {A : Type 0} → (r : Reads (List A)) → r ≡ after [] r
-with_none (Ok p) = refl
-with_none (Err e) = refl
 
 -- a turn of the loop: the first i attributes are xs
 module _ (limit : ℕ) (encoding : Encoding) (ss : List Specification) (i : ℕ) (all v : View)
@@ -106,14 +103,9 @@ onto_direct limit e s v xs ne h =
 -- a value of a form that is not indirect was passed
 pub passed_direct : (limit : ℕ) (e : Encoding) (s : Specification) (v : View)
     → (s.form.0 ≡ 0x16 → ⊥) → is_some s.constant ≡ (s.form.0 == 0x21)
-    → map_read (λ _. tt {0}) (direct_at limit e s.name.0 s.constant s.form.0 v)
-    ≡ map_read (λ _. tt {0}) (attribute_at limit e s v)
+    → left_by (direct_at limit e s.name.0 s.constant s.form.0 v) ≡ left_by (attribute_at limit e s v)
 unfolding attribute_at
 passed_direct limit e s v ne h =
-    ap (λ (r : Reads Value). map_read (λ _. tt {0}) r)
+    ap (λ (r : Reads Value). left_by r)
     (direct_value limit e s.name.0 s.constant s.form.0 v ne h)
-    ∙ once (value_at limit e s.name.0 s.constant s.form.0 v)
-  where
-    once : (r : Reads Value) → map_read (λ _. tt {0}) r ≡ map_read (λ _. tt {0}) (map_read (λ x. with_value s x) r)
-    once (Ok p) = refl
-    once (Err x) = refl
+    ∙ sym (left_by_made (with_value s) (value_at limit e s.name.0 s.constant s.form.0 v))

@@ -42,7 +42,7 @@ Passed = Reads (Unit {0})
 abbrev pub left_by : {A : Type 0} → Reads A → Passed
 left_by r = map_read (λ _. tt) r
 
-left_by_made : {A B : Type 0} → (f : A → B) (r : Reads A) → left_by (map_read f r) ≡ left_by r
+pub left_by_made : {A B : Type 0} → (f : A → B) (r : Reads A) → left_by (map_read f r) ≡ left_by r
 left_by_made f (Ok p) = refl
 left_by_made f (Err e) = refl
 

@@ -1,6 +1,7 @@
 //! Lines of rows that are gathered, and go out together.
 
-ghost use Rattle.std.specs.Prelude.{◌≡◌, ◌+◌, ◌-◌, ◌<◌, ◌≤◌, List, ℕ, [], ◌++◌, OnOk, length, take, drop, true};
+ghost use Rattle.std.specs.Prelude.{◌≡◌, ◌+◌, ◌-◌, ◌<◌, ◌≤◌, List, ℕ, [], ◌++◌};
+ghost use Rattle.std.specs.Prelude.{OnOk, length, take, drop, true};
 ghost use Rattle.std.specs.Io.KnownBytes.{Appends, append_known};
 ghost use Rattle.gimli_walk.specs.Lines.{row_line};
 
