@@ -8,14 +8,14 @@ use Rattle.gimli_base.specs.declared.error.Error.{Error}
 use Rattle.gimli_base.specs.View.{View}
 use Rattle.gimli_base.specs.Reading.{Reads, map_read}
 use Rattle.gimli_base.specs.Abbreviations.{Declaration}
-use Rattle.gimli_units.specs.Entry.{Entry, null_entry}
+use Rattle.gimli_units.specs.Entry.{Entry}
 use Rattle.gimli_units.specs.Head.{Head, head, head_of, led_head, head_and_sibling}
 use Rattle.gimli_units.specs.Kind.{kind_of}
 use Rattle.gimli_units.specs.Honest.{target, within}
 use Rattle.gimli_units.specs.RawPlace.{RawPlace, next_offset_of, depth_read, depth_after}
 use Rattle.gimli_units.specs.CursorMoves.{CursorView, next_of, IsSound}
 use Rattle.gimli_units.specs.CursorRead.{stands_at, stands_if, after_entry}
-use Rattle.gimli_units.specs.CursorRead.{an_entry, HasPassed, a_pass, no_pass}
+use Rattle.gimli_units.specs.CursorRead.{an_entry, HasPassed, a_pass, no_pass, passed_over}
 use Rattle.gimli_base.specs.Table.{codes_of}
 use Rattle.gimli_units.proofs.EntryReads.{entry_at-shorter}
 use Rattle.gimli_units.proofs.Onward.{onward_start, onward_follow}
@@ -96,29 +96,16 @@ one_target true false sibling low high t followed is = absurd (cc)
 one_target true true sibling low high t followed is = rw is refl
 
 module _ (limit : ℕ) (sought : ℤ) (old : CursorView) where
-  -- a cursor that stands there, without an entry
-  abbrev left_with : RawPlace → Entry → ℕ → ℤ → CursorView
-  left_with raw e offset depth =
-      record {
-        raw = raw;
-        entry = e;
-        offset = offset;
-        depth = depth;
-        follows = old.follows;
-        reads = old.reads + 1;
-      }
-
   -- the entry is left for what is after it
-  pub passed_stays : (raw : RawPlace) (e : Entry) (offset : ℕ) (depth : ℤ) (o : Option Declaration)
-      (sibling : Option ℕ) → (length old.raw.rest.bytes ≡ 0 → ⊥)
+  pub passed_stays : (raw : RawPlace) (o : Option Declaration) (sibling : Option ℕ)
+      → (length old.raw.rest.bytes ≡ 0 → ⊥)
       → Ok (led_head o sibling, raw.rest)
       ≡ map_read head_and_sibling (next_of limit old.raw old.raw.rest)
       → IfSome o (λ d. d.tag.0 ≢ 0) → raw ≡ stands_at old.raw raw.rest raw.depth
-      → raw.depth ≡ depth_read o old.raw.depth → e ≡ null_entry → offset ≡ next_offset_of old.raw
-      → depth ≡ old.raw.depth
+      → raw.depth ≡ depth_read o old.raw.depth
       → ((old.follows && int_le sought old.raw.depth) ≡ true → sibling ≡ None)
-      → HasPassed limit sought old (Ok tt) (left_with raw e offset depth)
-  passed_stays raw e offset depth o sibling some read tagged unit behind null at same none =
+      → HasPassed limit sought old (Ok tt) (passed_over old raw)
+  passed_stays raw o sibling some read tagged unit behind none =
       let h = entry_of_head limit old.raw o sibling raw.rest raw.depth read tagged behind in
       let mid : CursorView = after_entry old h.entry raw.rest in
       let stays = no_target (int_le sought old.raw.depth) old.follows (target (kind_of h.entry))
@@ -131,22 +118,19 @@ module _ (limit : ℕ) (sought : ℤ) (old : CursorView) where
       else None) old.raw.depth =
       here ∙ ap (λ (t : Option ℕ). stands_if mid.raw t old.raw.depth) (sym stays) in
       a_pass mid (an_entry h.entry raw.rest some h.reads refl refl) refl
-      (rw (null, at, same)
-      (ap (λ (p : RawPlace). left_with p null_entry (next_offset_of old.raw) old.raw.depth) there))
+      (ap (λ (p : RawPlace). passed_over old p) there)
 
   -- the entry is left for where it leads
-  pub passed_goes : (raw mid_raw : RawPlace) (e : Entry) (offset : ℕ) (depth : ℤ)
-      (o : Option Declaration) (sibling : Option ℕ) (t : ℕ) → (length old.raw.rest.bytes ≡ 0 → ⊥)
+  pub passed_goes : (raw mid_raw : RawPlace) (o : Option Declaration) (sibling : Option ℕ) (t : ℕ)
+      → (length old.raw.rest.bytes ≡ 0 → ⊥)
       → Ok (led_head o sibling, mid_raw.rest)
       ≡ map_read head_and_sibling (next_of limit old.raw old.raw.rest)
       → IfSome o (λ d. d.tag.0 ≢ 0) → mid_raw ≡ stands_at old.raw mid_raw.rest mid_raw.depth
-      → mid_raw.depth ≡ depth_read o old.raw.depth → e ≡ null_entry
-      → offset ≡ next_offset_of old.raw → depth ≡ old.raw.depth
+      → mid_raw.depth ≡ depth_read o old.raw.depth
       → (old.follows && int_le sought old.raw.depth) ≡ true → sibling ≡ Some t
       → raw ≡ stands_if mid_raw (within (next_offset_of mid_raw) mid_raw.end (Some t)) old.raw.depth
-      → HasPassed limit sought old (Ok tt) (left_with raw e offset depth)
-  passed_goes raw mid_raw e offset depth o sibling t some read tagged unit behind null at same
-      followed leads goes =
+      → HasPassed limit sought old (Ok tt) (passed_over old raw)
+  passed_goes raw mid_raw o sibling t some read tagged unit behind followed leads goes =
       let h = entry_of_head limit old.raw o sibling mid_raw.rest mid_raw.depth read tagged behind in
       let mid : CursorView = after_entry old h.entry mid_raw.rest in
       let here : mid_raw ≡ mid.raw = unit ∙ ap (λ d. stands_at old.raw mid_raw.rest d) h.behind in
@@ -161,8 +145,7 @@ module _ (limit : ℕ) (sought : ℤ) (old : CursorView) where
       old.raw.depth) here
       ∙ ap (λ (o : Option ℕ). stands_if mid.raw o old.raw.depth) (sym one) in
       a_pass mid (an_entry h.entry mid_raw.rest some h.reads refl refl) refl
-      (rw (null, at, same)
-      (ap (λ (p : RawPlace). left_with p null_entry (next_offset_of old.raw) old.raw.depth) there))
+      (ap (λ (p : RawPlace). passed_over old p) there)
 
   -- what is left has fewer bytes
   pub head_shorter : (o : Option Declaration) (sibling : Option ℕ) (w : View) (depth : ℤ)

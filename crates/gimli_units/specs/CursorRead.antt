@@ -106,6 +106,23 @@ leave_entry sought c =
       reads = c.reads;
     }
 
+-- a cursor that stands there without an entry
+abbrev pub without_entry : RawPlace → ℕ → ℤ → Bool → ℕ → CursorView
+without_entry raw offset depth follows reads =
+    record {
+      raw = raw;
+      entry = null_entry;
+      offset = offset;
+      depth = depth;
+      follows = follows;
+      reads = reads;
+    }
+
+-- what is next was passed, or refused, and the reader of entries stands there
+abbrev pub passed_over : CursorView → RawPlace → CursorView
+passed_over c raw =
+    without_entry raw (next_offset_of c.raw) c.raw.depth c.follows (c.reads + 1)
+
 -- an entry was read and left, or what stood there was refused
 pub data HasPassed (limit : ℕ) (sought : ℤ) (old : CursorView) (outcome : Result (Unit {0}) Error)
     (new : CursorView) : Type 0 where

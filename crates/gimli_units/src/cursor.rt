@@ -6,7 +6,7 @@ ghost use Rattle.std.specs.Prelude.{◌&&◌, int_le};
 ghost use Rattle.std.specs.Ordering.{int_eq};
 ghost use Rattle.std.specs.Option.{option_map};
 ghost use Rattle.gimli_base.specs.declared.error.Error.TheVariants.{OutOfMemory};
-ghost use Rattle.gimli_units.specs.Entry.{entry_of, is_null};
+ghost use Rattle.gimli_units.specs.Entry.{entry_of, is_null, null_entry};
 ghost use Rattle.gimli_units.specs.RawPlace.{next_offset_of};
 ghost use Rattle.gimli_units.specs.CursorPlace.{some_of, has_depth};
 ghost use Rattle.gimli_units.specs.CursorMoves.{CursorView, cursor_held, Goes, IsSound};
@@ -14,6 +14,7 @@ ghost use Rattle.gimli_units.specs.CursorStart.{before_first};
 ghost use Rattle.gimli_units.specs.CursorLent.{HasReadOn, HasWalked, HasWalkedOver};
 ghost use Rattle.gimli_units.specs.CursorRead.{HasRead, HasSought, leave_entry, reference_for};
 ghost use Rattle.gimli_units.specs.CursorRead.{HasPassed, HasPassedTo, IsRefusedAfter};
+ghost use Rattle.gimli_units.specs.CursorRead.{without_entry, passed_over};
 
 use crate::{DebuggingInformationEntry, EntriesRaw, UnitOffset};
 use gimli_base::{Reader, ReaderOffset, Result};
@@ -278,63 +279,61 @@ impl<'abbrev, R: Reader, A: Allocator> EntriesCursor<'abbrev, R, A> {
         ensures same { result ≡ false → (length self.now.raw.rest.bytes ≡ 0 → ⊥)
             → int_eq self.now.raw.depth depth ≡ true }
     {
-        !self.raw.is_empty() && self.raw.next_depth() != depth
+        self.raw.is_before(depth)
     }
 
-    // Whether the reference of an entry of this depth is followed, if it has one that can be.
+    // Stands where entries were passed, without a current one.
     #[inline(always)]
-    fn is_followed(&self, sought: isize, depth: isize) -> bool
-        ensures { result ≡ (self.now.follows && int_le sought depth) }
+    fn stand(
+        &mut self,
+        raw: EntriesRaw<'abbrev, R, A>,
+        offset: UnitOffset<R::Offset>,
+        depth: isize,
+        reads: usize,
+    )
+        requires { IsSound
+            (without_entry raw (R.Offset.number offset.0) depth self.old.follows reads) }
+        ensures { self.new
+            ≡ without_entry raw.entry (R.Offset.number offset.0) depth self.old.follows reads }
     {
-        let follows = self.follows;
-        follows && sought <= depth
-    }
-
-    // Reads the next entry, without its attributes, and leaves it: for where its reference leads, if
-    // that is followed. There is something to read.
-    #[inline(always)]
-    fn pass_on(&mut self, sought: isize) -> Result<()>
-        requires some { length self.old.raw.rest.bytes ≡ 0 → ⊥ }
-        ensures { HasPassed R.Offset.limit sought self.old result self.new }
-    {
-        let offset = self.raw.next_offset();
-        let depth = self.raw.next_depth();
-        let is_followed = self.is_followed(sought, depth);
-        let read = self.raw.read_head_and_sibling();
-        let reads = self.reads + 1;
         let entry = &mut self.entry;
         entry.set_null();
         entry.offset = offset;
         entry.depth = depth;
+        self.raw = raw;
         self.reads = reads;
-        match read {
-            Ok((_, Some(target))) => {
-                if !is_followed {
-                    return Ok(());
-                }
-                self.raw.go_to(target, depth);
-                Ok(())
-            }
-            Ok((_, None)) => Ok(()),
-            Err(error) => {
-                self.raw.empty();
-                return Err(error);
-            }
-        }
     }
 
     // Passes entries up to the first of a depth, or to the end of the bytes. It is never laid into a
     // search, of which most have nothing to pass.
+    //
+    // What the cursor knows of its place is kept in registers, and written when all are passed.
     #[inline(never)]
     fn pass_to(&mut self, sought: isize) -> Result<()>
         requires sound { IsSound self.old }
+        requires none { self.old.entry ≡ null_entry }
         ensures passed { IfOk result (λ _. HasPassedTo R.Offset.limit sought self.old self.new) }
         ensures refused { IfErr result (λ e.
             IsRefusedAfter R.Offset.limit sought self.old e self.new) }
     {
-        'passing: while self.is_before(sought) {
-            self.pass_on(sought)?;
+        let follows = self.follows;
+        let mut raw = self.raw.copy();
+        let mut offset = self.entry.offset;
+        let mut depth = self.entry.depth;
+        let mut reads = self.reads;
+        'passing: while raw.is_before(sought) {
+            offset = raw.next_offset();
+            depth = raw.next_depth();
+            reads += 1;
+            match pass_on(&mut raw, follows, sought) {
+                Ok(()) => {}
+                Err(refusal) => {
+                    self.stand(raw, offset, depth, reads);
+                    return Err(refusal);
+                }
+            }
         }
+        self.stand(raw, offset, depth, reads);
         Ok(())
     }
 
@@ -358,5 +357,42 @@ impl<'abbrev, R: Reader, A: Allocator> EntriesCursor<'abbrev, R, A> {
         }
         self.set_pair(offset, depth);
         Ok(false)
+    }
+}
+
+// Whether the reference of an entry of this depth is followed, if it has one that can be.
+#[inline(always)]
+fn is_followed(follows: bool, sought: isize, depth: isize) -> bool
+    ensures { result ≡ (follows && int_le sought depth) }
+{
+    follows && sought <= depth
+}
+
+// Reads the next entry, without its attributes, and leaves it: for where its reference leads, if
+// that is followed. There is something to read. What a cursor knows beside `raw` is its caller's.
+#[inline(always)]
+fn pass_on<R: Reader, A: Allocator>(
+    raw: &mut EntriesRaw<R, A>,
+    follows: bool,
+    sought: isize,
+) -> Result<()>
+    requires some { length raw.old.rest.bytes ≡ 0 → ⊥ }
+    requires shallow { unsigned_abs raw.old.depth + length raw.old.rest.bytes < 2 ^ 63 }
+    ensures { (c : CursorView) → let old = record c { raw = raw.old; follows = follows } in
+        HasPassed R.Offset.limit sought old result (passed_over old raw.new) }
+{
+    let depth = raw.next_depth();
+    match raw.read_head_and_sibling() {
+        Ok((_, Some(target))) => {
+            if is_followed(follows, sought, depth) {
+                raw.go_to(target, depth);
+            }
+            Ok(())
+        }
+        Ok((_, None)) => Ok(()),
+        Err(error) => {
+            raw.empty();
+            Err(error)
+        }
     }
 }

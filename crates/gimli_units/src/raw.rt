@@ -5,6 +5,7 @@ ghost use Rattle.std.specs.Prelude.{length, map, IsTrue, IsOk, IfOk, IfErr, OnOk
 ghost use Rattle.std.specs.Prelude.{IfSome, ◌≢◌};
 ghost use Rattle.std.specs.Prelude.{[], true, false, unsigned_abs, Some};
 ghost use Rattle.std.specs.Option.{option_copied, option_map};
+ghost use Rattle.std.specs.Ordering.{int_eq};
 ghost use Rattle.gimli_base.specs.Offset.{answer_of};
 ghost use Rattle.gimli_base.specs.View.{View, end_of_view};
 ghost use Rattle.gimli_base.specs.Reading.{read_of, answer_leaving, UnlessMemory};
@@ -93,6 +94,7 @@ impl<'abbrev, R: Reader, A: Allocator> EntriesRaw<'abbrev, R, A> {
     }
 
     /// A reader that stands where this one stands.
+    #[inline(always)]
     pub fn copy(&self) -> Self
         ensures { result ≡ self.now }
     {
@@ -130,7 +132,19 @@ impl<'abbrev, R: Reader, A: Allocator> EntriesRaw<'abbrev, R, A> {
         self.depth
     }
 
+    // Whether there is something to read, and it has another depth.
+    #[inline(always)]
+    pub(crate) fn is_before(&self, depth: isize) -> bool
+        ensures left { result ≡ true → length self.now.rest.bytes ≡ 0 → ⊥ }
+        ensures other { result ≡ true → int_eq self.now.depth depth ≡ false }
+        ensures same { result ≡ false → (length self.now.rest.bytes ≡ 0 → ⊥)
+            → int_eq self.now.depth depth ≡ true }
+    {
+        !self.is_empty() && self.depth != depth
+    }
+
     // Leaves nothing to read.
+    #[inline(always)]
     pub(crate) fn empty(&mut self)
         ensures { self.new ≡ stands_at self.old (end_of_view self.old.rest) self.old.depth }
     {
@@ -139,6 +153,7 @@ impl<'abbrev, R: Reader, A: Allocator> EntriesRaw<'abbrev, R, A> {
 
     // Goes to an offset at a depth, where the offset is not before what is read next, and not past
     // the end.
+    #[inline(always)]
     pub(crate) fn go_to(&mut self, offset: UnitOffset<R::Offset>, new_depth: isize)
         requires { unsigned_abs new_depth + length self.old.rest.bytes < 2 ^ 63 }
         ensures { self.new ≡ stands_if self.old

@@ -1,27 +1,93 @@
-use Rattle.std.proofs.Common.{rules, ◌≡◌, Ok, Err, w64}
+use Rattle.std.proofs.Common.{◌≡◌, ◌∙◌, ap, w64, to_z, of_z}
 use Rattle.std.proofs.lemmas.Int.{to_z-of_z}
-use Rattle.gimli_units.proofs.SeekTurns.{passing_on, passing_shorter, passing_out}
+use Rattle.gimli_units.specs.CursorMoves.{CursorView}
+use Rattle.gimli_units.specs.CursorRead.{without_entry, passed_over}
+use Rattle.gimli_units.proofs.PassedOn.{sound_pass}
+use Rattle.gimli_units.proofs.SeekTurns.{passing_on, passing_shorter, passing_out, passing_to}
 use Rattle.gimli_units.proofs.cursor.EntriesCursor.pass_to.Goals as goal
+
+pub stand-requires : goal.stand-requires
+stand-requires g c =
+    let n = g.R.Offset.ReaderOffset.number in
+    let limit = g.R.Offset.ReaderOffset.limit in
+    let deep : to_z w64 (of_z w64 c.next_depth-depth.result) ≡ c.passing.raw.depth =
+    to_z-of_z w64 _ (record { sfits = c.next_depth-depth.type_inv }) ∙ c.next_depth-depth.ensures in
+    let here : CursorView =
+    without_entry c.passing.raw (n c.passing.offset.0) (to_z w64 c.passing.depth-bits) c.args.self.now.follows
+    c.passing.reads in
+    let new : CursorView = passed_over here c.pass_on.new.raw in
+    let follows : c.self.inside.follows ≡ c.args.self.now.follows =
+    ap (λ (x : CursorView). x.follows) c.self.view_is in
+    let passed = rw follows at c.pass_on.ensures here in
+    rw (c.passing.invariant.kept, deep, c.next_offset-offset.ensures)
+    (sound_pass limit _ here c.pass_on.result new c.passing.invariant.passing.sound
+    passed)
+
+pub returns-in-Err-clause-refused : goal.returns-in-Err-clause-refused
+returns-in-Err-clause-refused g c =
+    let n = g.R.Offset.ReaderOffset.number in
+    let limit = g.R.Offset.ReaderOffset.limit in
+    let deep : to_z w64 (of_z w64 c.next_depth-depth.result) ≡ c.passing.raw.depth =
+    to_z-of_z w64 _ (record { sfits = c.next_depth-depth.type_inv }) ∙ c.next_depth-depth.ensures in
+    let here : CursorView =
+    without_entry c.passing.raw (n c.passing.offset.0) (to_z w64 c.passing.depth-bits) c.args.self.now.follows
+    c.passing.reads in
+    let new : CursorView = passed_over here c.pass_on.new.raw in
+    let follows : c.self.inside.follows ≡ c.args.self.now.follows =
+    ap (λ (x : CursorView). x.follows) c.self.view_is in
+    let passed = rw follows at c.pass_on.ensures here in
+    let same = to_z-of_z w64 c.args.sought c.ranges.sought in
+    rw (c.stand.ensures, c.passing.invariant.kept, deep, c.next_offset-offset.ensures)
+    (passing_out limit c.args.sought c.args.self.now here c.pass_on.result new
+    (rw same at c.passing.invariant.passing) (rw same at passed) c.in-Err.refusal
+    c.in-Err.is)
 
 pub passing-smaller : goal.passing-smaller
 passing-smaller g c =
-    let took : c.pass_on.result ≡ Ok tt = c.in_ok-pass_on.was in
-    passing_shorter g.R.Offset.ReaderOffset.limit _ c.args.self.now c.passing.self c.pass_on.result
-    c.pass_on.new.self c.passing.invariant.sound c.pass_on.ensures took
+    let n = g.R.Offset.ReaderOffset.number in
+    let limit = g.R.Offset.ReaderOffset.limit in
+    let deep : to_z w64 (of_z w64 c.next_depth-depth.result) ≡ c.passing.raw.depth =
+    to_z-of_z w64 _ (record { sfits = c.next_depth-depth.type_inv }) ∙ c.next_depth-depth.ensures in
+    let here : CursorView =
+    without_entry c.passing.raw (n c.passing.offset.0) (to_z w64 c.passing.depth-bits) c.args.self.now.follows
+    c.passing.reads in
+    let new : CursorView = passed_over here c.pass_on.new.raw in
+    let follows : c.self.inside.follows ≡ c.args.self.now.follows =
+    ap (λ (x : CursorView). x.follows) c.self.view_is in
+    let passed = rw follows at c.pass_on.ensures here in
+    passing_shorter limit _ c.args.self.now here c.pass_on.result new
+    c.passing.invariant.passing.sound passed c.in-Ok.is
 
 pub passing-preserved : goal.passing-preserved
 passing-preserved g c =
-    let took : c.pass_on.result ≡ Ok tt = c.in_ok-pass_on.was in
-    passing_on g.R.Offset.ReaderOffset.limit _ c.args.self.now c.passing.self c.pass_on.result
-    c.pass_on.new.self c.passing.invariant c.pass_on.ensures took
-    (c.is_before.ensures.other c.passing-test.true)
+    let n = g.R.Offset.ReaderOffset.number in
+    let limit = g.R.Offset.ReaderOffset.limit in
+    let deep : to_z w64 (of_z w64 c.next_depth-depth.result) ≡ c.passing.raw.depth =
+    to_z-of_z w64 _ (record { sfits = c.next_depth-depth.type_inv }) ∙ c.next_depth-depth.ensures in
+    let here : CursorView =
+    without_entry c.passing.raw (n c.passing.offset.0) (to_z w64 c.passing.depth-bits) c.args.self.now.follows
+    c.passing.reads in
+    let new : CursorView = passed_over here c.pass_on.new.raw in
+    let follows : c.self.inside.follows ≡ c.args.self.now.follows =
+    ap (λ (x : CursorView). x.follows) c.self.view_is in
+    let passed = rw follows at c.pass_on.ensures here in
+    record {
+      kept = c.passing.invariant.kept;
+      passing =
+          rw (deep, c.next_offset-offset.ensures)
+          (passing_on limit _ c.args.self.now here c.pass_on.result new
+          c.passing.invariant.passing passed c.in-Ok.is
+          (c.is_before.ensures.other c.passing-test.true));
+    }
 
-pub returns-in_err-pass_on-clause-refused : goal.returns-in_err-pass_on-clause-refused
-returns-in_err-pass_on-clause-refused g c =
-    let deep = to_z-of_z w64 c.args.sought c.ranges.sought in
-    let r : c.from_residual.result ≡ Err c.in_err-pass_on.field-0.0 = search rules in
-    let passed = rw deep at c.pass_on.ensures in
-    rw r
-    (passing_out g.R.Offset.ReaderOffset.limit c.args.sought c.args.self.now c.passing.self
-    c.pass_on.result c.pass_on.new.self (rw deep at c.passing.invariant) passed
-    c.in_err-pass_on.field-0.0 c.in_err-pass_on.was)
+pub returns-clause-passed : goal.returns-clause-passed
+returns-clause-passed g c =
+    let n = g.R.Offset.ReaderOffset.number in
+    let limit = g.R.Offset.ReaderOffset.limit in
+    let same = to_z-of_z w64 c.args.sought c.ranges.sought in
+    let here : CursorView =
+    without_entry c.passing.raw (n c.passing.offset.0) (to_z w64 c.passing.depth-bits) c.args.self.now.follows
+    c.passing.reads in
+    rw (c.stand-2.ensures, c.passing.invariant.kept)
+    (passing_to limit c.args.sought c.args.self.now here (rw same at c.passing.invariant.passing)
+    (rw same at c.is_before.ensures.same c.passing-test.false))

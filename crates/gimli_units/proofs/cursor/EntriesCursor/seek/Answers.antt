@@ -1,6 +1,7 @@
 use Rattle.std.proofs.Common.{rules, ◌≡◌, ◌∙◌, ap, length, Ok, Err, true, false, w64}
 use Rattle.std.specs.Ordering.{int_eq}
 use Rattle.std.proofs.lemmas.Int.{to_z-of_z}
+use Rattle.gimli_units.specs.CursorMoves.{CursorView}
 use Rattle.gimli_units.proofs.SeekTurns.{Leaving, leaving_start, leaving_sound, leaving_to}
 use Rattle.gimli_units.proofs.SeekTurns.{leaving_after, left_to, left_end, left_out}
 use Rattle.gimli_units.proofs.cursor.EntriesCursor.seek.Goals.{then-is_before+in_ok-pass_to}
@@ -17,6 +18,7 @@ pass_to-requires g c =
           c.follow.new.self
           (leaving_start g.R.Offset.ReaderOffset.limit c.args.depth offset c.args.self.now
           c.follow.new.self c.requires.sound (rw deep at c.follow.ensures));
+      none = ap (λ (x : CursorView). x.entry) c.follow.ensures;
     }
 
 pub returns-in_err-pass_to : goal.returns-in_err-pass_to
