@@ -63,26 +63,10 @@ pub(crate) fn address<R: Reader>(input: &mut R, size: u8) -> Result<u64>
     if size == 8 {
         return input.read_u64();
     }
-    address_apart(input, size)
-}
-
-// The same of any size.
-#[inline(always)]
-fn address_apart<R: Reader>(input: &mut R, size: u8) -> Result<u64>
-    ensures { read_of result (R.view input.new) ≡ address_at size (R.view input.old) }
-{
     let mut rest = input.copy();
-    let address = any_address(&mut rest, size)?;
+    let address = rest.read_address(size)?;
     *input = rest;
     Ok(address)
-}
-
-// The same by a call.
-#[inline(never)]
-fn any_address<R: Reader>(input: &mut R, size: u8) -> Result<u64>
-    ensures { read_of result (R.view input.new) ≡ address_at size (R.view input.old) }
-{
-    input.read_address(size)
 }
 
 // The next three bytes as an offset; where they are refused, the input is left anywhere.

@@ -13,7 +13,6 @@ ghost use Rattle.gimli_base.specs.Reading.{PassesAs, map_read};
 ghost use Rattle.gimli_base.specs.Table.{Table, codes_of};
 ghost use Rattle.gimli_units.specs.Value.{map_attribute};
 ghost use Rattle.gimli_units.specs.Entry.{attribute_at, attributes_at, abbreviation_at, entry_at};
-ghost use Rattle.gimli_units.specs.Entry.{content_at};
 ghost use Rattle.gimli_units.specs.Entry.{entry_of, null_entry, is_null, takes_memory};
 ghost use Rattle.gimli_units.specs.Head.{head, head_of, led_head, head_and_sibling};
 ghost use Rattle.gimli_units.specs.Passing.{pass_all, without_place, NamesPlaceOf};
@@ -246,68 +245,55 @@ impl<'abbrev, R: Reader, A: Allocator> EntriesRaw<'abbrev, R, A> {
         ensures same { self.new ≡ record self.old { rest = self.new.rest; depth = self.new.depth } }
         ensures kept { OnErr result (self.new ≡ self.old) }
     {
+        entry.set_null();
         entry.depth = self.depth;
         entry.offset = self.next_offset();
         let mut rest = self.input.copy();
-        match parse_abbreviation(&mut rest, self.abbreviations) {
-            Ok(Some(declared)) => {
-                let start = rest.copy();
-                match self.read_declared(&start, declared, entry) {
-                    Ok(()) => Ok(true),
-                    Err(error) => {
-                        entry.set_null();
-                        Err(error)
-                    }
-                }
-            }
-            Ok(None) => {
-                entry.set_null();
-                self.go_behind_null(rest);
-                Ok(false)
+        let Some(abbreviation) = parse_abbreviation(&mut rest, self.abbreviations)? else {
+            self.go_behind_null(rest);
+            return Ok(false);
+        };
+        let start = rest.copy();
+        let specifications = abbreviation.attributes();
+        let has_children = abbreviation.has_children();
+        match self.read_behind(&start, has_children, specifications, &mut entry.attrs) {
+            Ok(()) => {
+                entry.tag = abbreviation.tag();
+                entry.has_children = abbreviation.has_children();
+                Ok(true)
             }
             Err(error) => {
-                entry.set_null();
+                entry.attrs.clear();
                 Err(error)
             }
         }
     }
 
-    // Reads an entry of a declaration, whose attributes begin at `start`, in place of the one in
-    // `entry`, and goes after it; offset and depth of `entry` stay. Where it is refused, the other
-    // parts of `entry` are left anywhere. The attributes are read on a reader whose address no call
-    // gets, so that it stays in registers.
+    // Reads the attributes of these specifications, which begin at `start`, into an empty list, and
+    // goes after their entry; where they are refused, the list is left anywhere. They are read on
+    // a reader whose address no call gets, so that it stays in registers.
     #[inline(never)]
-    fn read_declared(
+    fn read_behind(
         &mut self,
         start: &R,
-        declared: &Abbreviation<A>,
-        entry: &mut DebuggingInformationEntry<R, A>,
+        has_children: bool,
+        specifications: &[AttributeSpecification],
+        attrs: &mut Vec<Attribute<R>, A>,
     ) -> Result<()>
         requires shorter { length (R.view start.now).bytes < length self.old.rest.bytes }
-        ensures value { let e = entry_of R.view R.Offset.number entry.new in
-            UnlessMemory result (read_of (answer_leaving e result) self.new.rest
-            ≡ content_at R.Offset.limit self.old.encoding (Some declared.now)
+        requires empty { attrs.old.items ≡ [] }
+        ensures value { let read = map (map_attribute R.view R.Offset.number) attrs.new.items in
+            UnlessMemory result (read_of (answer_leaving read result) self.new.rest
+            ≡ attributes_at R.Offset.limit self.old.encoding specifications.now
             (R.view start.now)) }
-        ensures none { declared.now.attributes ≡ [] → IsOk result }
-        ensures some { OnOk result (is_null (entry_of R.view R.Offset.number entry.new) ≡ false) }
-        ensures stays { (entry.new.offset ≡ entry.old.offset)
-            × (entry.new.depth ≡ entry.old.depth) }
-        ensures depth { OnOk result
-            (self.new.depth ≡ below_flag declared.now.has_children self.old.depth) }
+        ensures none { specifications.now ≡ [] → IsOk result }
+        ensures depth { OnOk result (self.new.depth ≡ below_flag has_children self.old.depth) }
         ensures same { self.new ≡ record self.old { rest = self.new.rest; depth = self.new.depth } }
         ensures kept { OnErr result (self.new ≡ self.old) }
     {
-        entry.attrs.clear();
         let mut rest = start.copy();
-        parse_attributes(
-            &mut rest,
-            self.encoding,
-            declared.attributes(),
-            &mut entry.attrs,
-        )?;
-        self.go_behind_entry(rest, declared.has_children());
-        entry.tag = declared.tag();
-        entry.has_children = declared.has_children();
+        parse_attributes(&mut rest, self.encoding, specifications, attrs)?;
+        self.go_behind_entry(rest, has_children);
         Ok(())
     }
 

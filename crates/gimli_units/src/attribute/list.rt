@@ -117,6 +117,7 @@ fn other_reference<R: Reader>(input: &mut R, form: DwForm) -> Result<R::Offset>
 // The next offset of an entry in `.debug_info`; where it is refused, the input is left anywhere. In
 // version 2 it is read by a call that gets a reader of its own, as an address is.
 #[inline(always)]
+#[tactic(auto, unfolding(gimli_base::specs::Reading::sized_offset_at))]
 fn section_reference<R: Reader>(input: &mut R, encoding: Encoding) -> Result<R::Offset>
     ensures { let v = R.view input.old in let limit = R.Offset.limit in
         read_of (answer_of R.Offset.number result) (R.view input.new)
@@ -126,28 +127,10 @@ fn section_reference<R: Reader>(input: &mut R, encoding: Encoding) -> Result<R::
     if encoding.version != 2 {
         return input.read_offset(encoding.format);
     }
-    sized_reference_apart(input, encoding.address_size)
-}
-
-// The next offset of so many bytes; where it is refused, the input is left anywhere.
-#[inline(always)]
-fn sized_reference_apart<R: Reader>(input: &mut R, size: u8) -> Result<R::Offset>
-    ensures { read_of (answer_of R.Offset.number result) (R.view input.new)
-        ≡ sized_offset_at R.Offset.limit size (R.view input.old) }
-{
     let mut rest = input.copy();
-    let offset = sized_reference(&mut rest, size)?;
+    let offset = rest.read_sized_offset(encoding.address_size)?;
     *input = rest;
     Ok(offset)
-}
-
-// The same by a call.
-#[inline(never)]
-fn sized_reference<R: Reader>(input: &mut R, size: u8) -> Result<R::Offset>
-    ensures { read_of (answer_of R.Offset.number result) (R.view input.new)
-        ≡ sized_offset_at R.Offset.limit size (R.view input.old) }
-{
-    input.read_sized_offset(size)
 }
 
 // Reads the attribute of a specification onto a list, where its form is one of those that compilers

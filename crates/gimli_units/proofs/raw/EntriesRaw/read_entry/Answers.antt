@@ -8,15 +8,15 @@ use Rattle.gimli_units.proofs.raw.EntriesRaw.read_entry.Goals as goal
 pub go_behind_null-requires : goal.go_behind_null-requires
 go_behind_null-requires g c =
     let shorter = IsLater-length 1 _ _
-    (abbreviation_at-later _ _ _ _ c.in-Ok-None.ensures) in
+    (abbreviation_at-later _ _ _ _ c.in_ok-abbreviation.ensures) in
     let same = ap (λ (v : View). length v.bytes) c.copy-rest.ensures in
     let left = ap (λ (p : RawPlace). length p.rest.bytes) c.self.view_is in
     omega (arith, shorter, same, left)
 
-pub read_declared-requires : goal.read_declared-requires
-read_declared-requires g c =
+pub read_behind-requires-clause-shorter : goal.read_behind-requires-clause-shorter
+read_behind-requires-clause-shorter g c =
     let shorter = IsLater-length 1 _ _
-    (abbreviation_at-later _ _ _ _ c.in-Ok-Some.ensures) in
+    (abbreviation_at-later _ _ _ _ c.in_ok-abbreviation.ensures) in
     let same = ap (λ (v : View). length v.bytes) c.copy-rest.ensures in
     let again = ap (λ (v : View). length v.bytes) c.copy-start.ensures in
     let left = ap (λ (p : RawPlace). length p.rest.bytes) c.self.view_is in

@@ -3,7 +3,7 @@ use Rattle.gimli_base.specs.View.{View}
 use Rattle.gimli_base.proofs.Later.{IsLater-length}
 use Rattle.gimli_units.proofs.EntryReads.{attributes_at-later}
 use Rattle.gimli_units.specs.RawPlace.{RawPlace}
-use Rattle.gimli_units.proofs.raw.EntriesRaw.read_declared.Goals as goal
+use Rattle.gimli_units.proofs.raw.EntriesRaw.read_behind.Goals as goal
 
 pub go_behind_entry-requires : goal.go_behind_entry-requires
 go_behind_entry-requires g c =
