@@ -1,9 +1,10 @@
 //! Lines of rows that are gathered, and go out together.
 
 ghost use Rattle.std.specs.Prelude.{◌≡◌, ◌+◌, ◌-◌, ◌<◌, ◌≤◌, List, ℕ, [], ◌++◌};
-ghost use Rattle.std.specs.Prelude.{OnOk, length, take, drop, true};
+ghost use Rattle.std.specs.Prelude.{OnOk, IfSome, length, take, drop, true, ◌==◌};
+ghost use Rattle.std.specs.List.{position};
 ghost use Rattle.std.specs.Io.KnownBytes.{Appends, append_known};
-ghost use Rattle.gimli_walk.specs.Lines.{row_line};
+ghost use Rattle.gimli_walk.specs.Lines.{row_line, first_line};
 
 use crate::lines::{WriteFault, put_row};
 use std::io::Write;
@@ -132,13 +133,22 @@ fn write_apart<W: Write>(out: &mut W, lines: &[u8]) -> Result<(), WriteFault>
     Ok(())
 }
 
+// Where the first line ends, if one does.
+fn end_place(lines: &[u8]) -> Option<usize>
+    ensures exact { result ≡ position (λ b. b == 10) lines.now }
+    ensures within { IfSome result (λ n. n < length lines.now) }
+{
+    lines.iter().position(|byte| *byte == b'\n')
+}
+
 // How many bytes the first line has, its end among them, or what there is of it.
 fn line_end(lines: &[u8]) -> usize
     requires { 0 < length lines.now }
+    ensures value { result ≡ first_line lines.now }
     ensures some { 0 < result }
     ensures within { result ≤ length lines.now }
 {
-    match lines.iter().position(|byte| *byte == b'\n') {
+    match end_place(lines) {
         Some(place) => place + 1,
         None => lines.len(),
     }
