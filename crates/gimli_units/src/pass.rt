@@ -15,11 +15,12 @@ ghost use Rattle.std.specs.Prelude.{Ok, true, false};
 
 use crate::UnitOffset;
 use crate::attribute::parse_attribute;
-use crate::form::{uleb128_block, uleb128_offset};
+use crate::form::{address, allow_section_offset, sized_block, uleb128_block, uleb128_offset};
 use gimli_base::{
     Abbreviation, AttributeSpecification, DW_AT_sibling, DW_FORM_GNU_addr_index,
-    DW_FORM_GNU_str_index, DW_FORM_addrx, DW_FORM_exprloc, DW_FORM_loclistx, DW_FORM_ref_udata,
-    DW_FORM_rnglistx, DW_FORM_sdata, DW_FORM_string, DW_FORM_strx, DW_FORM_udata, Encoding, Reader,
+    DW_FORM_GNU_str_index, DW_FORM_addr, DW_FORM_addrx, DW_FORM_block1, DW_FORM_data8,
+    DW_FORM_exprloc, DW_FORM_loclistx, DW_FORM_ref_sig8, DW_FORM_ref_udata, DW_FORM_rnglistx,
+    DW_FORM_sdata, DW_FORM_string, DW_FORM_strx, DW_FORM_udata, Encoding, Format, Reader,
     ReaderOffset, Result,
 };
 use std::alloc::Allocator;
@@ -202,6 +203,47 @@ fn pass_apart<R: Reader>(
     Ok(())
 }
 
+// Passes a value of eight bytes, which offsets of 32 bits may not hold, or a short block, in one of
+// the forms that compilers write; with any other form it answers false, and nothing is passed. Where
+// it is refused, the input is left anywhere.
+#[inline(always)]
+#[tactic(auto, unfolding(crate::specs::Form::direct_at, gimli_base::specs::Reading::sized_offset_at))]
+fn pass_eight<R: Reader>(
+    input: &mut R,
+    encoding: Encoding,
+    specification: &AttributeSpecification,
+) -> Result<bool>
+    ensures kept { result ≡ Ok false → R.view input.new ≡ R.view input.old }
+    ensures direct { (result ≡ Ok false → ⊥) → specification.now.form.0 ≡ 0x16 → ⊥ }
+    ensures value { (result ≡ Ok false → ⊥) → let s = specification.now in
+        read_of (answer_leaving (tt {0}) result) (R.view input.new)
+        ≡ map_read (λ _. tt)
+        (direct_at R.Offset.limit encoding s.name.0 s.constant s.form.0 (R.view input.old)) }
+{
+    match specification.form() {
+        DW_FORM_addr => {
+            let _ = address(input, encoding.address_size)?;
+        }
+        DW_FORM_data8 => {
+            if encoding.format == Format::Dwarf64
+                && allow_section_offset(specification.name(), encoding.version)
+            {
+                let _ = input.read_sized_offset(8)?;
+            } else {
+                let _ = input.read_u64()?;
+            }
+        }
+        DW_FORM_ref_sig8 => {
+            let _ = input.read_u64()?;
+        }
+        DW_FORM_block1 => {
+            let _ = sized_block(input, 1)?;
+        }
+        _ => return Ok(false),
+    }
+    Ok(true)
+}
+
 // Reads a value that is not wanted; where it is refused, the input is left anywhere.
 #[inline(never)]
 fn read_over<R: Reader>(
@@ -213,6 +255,11 @@ fn read_over<R: Reader>(
         ≡ map_read (λ _. tt)
         (attribute_at R.Offset.limit encoding specification.now (R.view input.old)) }
 {
+    // (it says that the form implicit_const has a number)
+    let _ = specification.implicit_const_value();
+    if pass_eight(input, encoding, specification)? {
+        return Ok(());
+    }
     let _ = parse_attribute(input, encoding, *specification)?;
     Ok(())
 }
