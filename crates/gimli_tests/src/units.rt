@@ -4,6 +4,7 @@ mod attribute;
 mod counting;
 mod entry;
 mod header;
+mod heads;
 mod hostile;
 mod samples;
 mod section;
