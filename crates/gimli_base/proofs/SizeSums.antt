@@ -3,7 +3,6 @@ use Rattle.std.proofs.Common.{◌≡◌, ℕ, ◌+◌, ◌*◌, ◌/◌, ◌%◌
 use Rattle.std.proofs.Common.{Option, None, Some, refl, ◌∙◌, sym, ap, arith, length, length-append}
 use Rattle.std.proofs.Common.{inl, inr}
 use Rattle.std.specs.Prelude.{Bool, true, false, ◌==◌, ◌&&◌, if◌then◌else◌, nat_le, IfSome}
-use Rattle.std.specs.Prelude.{ℤ, is_some}
 use Rattle.std.proofs.lemmas.Bool.{leb-true}
 use Rattle.std.proofs.lemmas.Bool.Decides.{leb_tells}
 use Rattle.std.proofs.Math.Nat.{add-mul}
@@ -13,7 +12,7 @@ use Rattle.gimli_base.specs.declared.width.Width.{Width}
 use Rattle.gimli_base.specs.declared.width.Width.TheVariants.{Fixed, Address, Word, Reference}
 use Rattle.gimli_base.specs.declared.width.Width.TheVariants.{Unknown}
 use Rattle.std.proofs.lemmas.List.Elements.{All-append, All-cons, All-nil}
-use Rattle.gimli_base.specs.Abbreviations.{Specification, IsWellFormed, constant_of}
+use Rattle.gimli_base.specs.Abbreviations.{Specification, IsWellFormed}
 use Rattle.gimli_base.specs.Reading.{word_size_of}
 use Rattle.gimli_base.specs.Width.{attributes_size, known_sum, size_in, width_of, width_in}
 use Rattle.gimli_base.specs.Width.{form_size, widths}
@@ -270,14 +269,6 @@ sizes-push sizes ss s are formed few =
           ∙ sym (sizes_from-push no_sizes ss s);
       many = λ h. absurd (omega (arith, h, few));
     }
-
--- a number that is kept for the form implicit_const alone is well formed
-pub constant-formed : (form : ℕ) (n : ℤ) → is_some (constant_of form n) ≡ (form == 0x21)
-constant-formed form n = cases (form == 0x21)
-  where
-    cases : (b : Bool) → is_some (if b then Some n else None) ≡ b
-    cases true = refl
-    cases false = refl
 
 fixed_of-either : (b : Bool) (v w : Width) → fixed_of v ≤ 255 → fixed_of w ≤ 255
     → fixed_of (if b then v else w) ≤ 255

@@ -17,7 +17,7 @@ use Rattle.gimli_units.specs.Entry.{entry_at, null_entry}
 use Rattle.gimli_units.specs.RawPlace.{RawPlace, depth_read, depth_after, below_flag}
 use Rattle.gimli_units.specs.Head.{Head as RowHead, head_of}
 use Rattle.gimli_units.proofs.AttributeTurns.{after}
-use Rattle.gimli_walk.proofs.HeadRows.{EntryOf}
+use Rattle.gimli_units.proofs.HeadReads.{EntryOf}
 use Rattle.gimli_c.specs.declared.attrs.GimliAttr.{GimliAttr}
 use Rattle.gimli_c.specs.declared.reading.Head.{Head}
 use Rattle.gimli_c.specs.Attrs.{attr_of}

@@ -16,10 +16,10 @@ ghost use Rattle.gimli_units.specs.UnitRows.{unit_rows, start_view, IsHonestAt, 
 ghost use Rattle.gimli_units.specs.UnitRows.{StandsAt};
 ghost use Rattle.gimli_units.specs.FirstFalse.{first_false};
 ghost use Rattle.gimli_units.specs.FirstFalse.{IsLeastFalse};
-ghost use Rattle.gimli_headers.specs.OpenRows.{OpenRow, open_of, check_held, IsRowOf, Rise};
+ghost use Rattle.gimli_headers.specs.OpenRows.{OpenRow, check_held, IsRowOf, Rise};
 ghost use Rattle.gimli_headers.specs.OpenRows.{judgement};
 
-use gimli_base::{Abbreviations, Error, Reader, ReaderOffset, Result};
+use gimli_base::{Abbreviations, Reader, ReaderOffset, Result};
 use gimli_units::{EntriesRaw, UnitHeader, UnitOffset};
 use std::alloc::Allocator;
 
@@ -129,7 +129,8 @@ impl<Offset: ReaderOffset, A: Allocator> Check<Offset, A> {
         Ok(())
     }
 
-    // What is found at the end of the rows: no open entry is closed any more.
+    // What is found at the end of the rows, or where an entry is refused: no open entry is closed
+    // any more.
     fn finish(&self) -> Option<UnitOffset<Offset>>
         ensures { (end : ℕ) → option_map (λ o. Offset.number o.0) result
             ≡ judgement end (check_held Offset.number self.now) [] }
@@ -137,20 +138,6 @@ impl<Offset: ReaderOffset, A: Allocator> Check<Offset, A> {
         match self.open.first() {
             Some(entry) => Some(entry.offset),
             None => self.first,
-        }
-    }
-
-    // What is answered where an entry is refused: the rows before it are judged, unless memory was
-    // refused.
-    fn stop(&self, error: Error) -> Result<Option<UnitOffset<Offset>>>
-        ensures value { IfOk result (λ o. (error ≡ OutOfMemory → ⊥) ×
-            ((end : ℕ) → option_map (λ x. Offset.number x.0) o
-            ≡ judgement end (check_held Offset.number self.now) [])) }
-        ensures refusal { IfErr result (λ e. e ≡ OutOfMemory) }
-    {
-        match error {
-            Error::OutOfMemory => Err(Error::OutOfMemory),
-            _ => Ok(self.finish()),
         }
     }
 }
@@ -213,7 +200,7 @@ fn first_false_ahead<R: Reader, A: Allocator>(
                 };
                 go_behind(&mut check, &passed, entries.next_offset(), end)?;
             }
-            Err(error) => return check.stop(error),
+            Err(_) => return Ok(check.finish()),
         }
     }
     Ok(check.finish())

@@ -30,5 +30,6 @@ pub mod RowSteps
 pub mod RowChain
 pub mod EntryReads
 pub mod LeastFalse
+pub mod HeadReads
 pub mod PassedOn
 mod SeekTurns

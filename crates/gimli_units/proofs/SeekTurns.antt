@@ -129,9 +129,6 @@ pub record Passing (limit : ℕ) (sought : ℤ) (start here : CursorView) : Type
   pub sound : IsSound here
 
 module _ (limit : ℕ) (sought : ℤ) (start : CursorView) where
-  pub passing_start : IsSound start → Passing limit sought start start
-  passing_start s = record { count = 0; passed = refl; sound = s }
-
   -- one more is passed
   pub passing_on : (here : CursorView) (outcome : Result (Unit {0}) Error) (new : CursorView)
       → Passing limit sought start here → HasPassed limit sought here outcome new

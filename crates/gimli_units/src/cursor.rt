@@ -3,12 +3,11 @@
 ghost use Rattle.std.specs.Prelude.{◌≡◌, ◌+◌, ◌-◌, ◌<◌, ◌≤◌, ◌^◌, length, unsigned_abs, Ok, Err};
 ghost use Rattle.std.specs.Prelude.{Some, false, true, not, IfOk, IfErr, IfSome, IsOk, []};
 ghost use Rattle.std.specs.Prelude.{◌&&◌, int_le};
-ghost use Rattle.std.specs.Ordering.{int_eq};
 ghost use Rattle.std.specs.Option.{option_map};
 ghost use Rattle.gimli_base.specs.declared.error.Error.TheVariants.{OutOfMemory};
 ghost use Rattle.gimli_units.specs.Entry.{entry_of, is_null, null_entry};
 ghost use Rattle.gimli_units.specs.RawPlace.{next_offset_of};
-ghost use Rattle.gimli_units.specs.CursorPlace.{some_of, has_depth};
+ghost use Rattle.gimli_units.specs.CursorPlace.{some_of};
 ghost use Rattle.gimli_units.specs.CursorMoves.{CursorView, cursor_held, Goes, IsSound};
 ghost use Rattle.gimli_units.specs.CursorStart.{before_first};
 ghost use Rattle.gimli_units.specs.CursorLent.{HasReadOn, HasWalked, HasWalkedOver};
@@ -271,17 +270,6 @@ impl<'abbrev, R: Reader, A: Allocator> EntriesCursor<'abbrev, R, A> {
         self.entry.depth = depth;
     }
 
-    // Whether there is something to read, and it has another depth.
-    #[inline(always)]
-    fn is_before(&self, depth: isize) -> bool
-        ensures left { result ≡ true → length self.now.raw.rest.bytes ≡ 0 → ⊥ }
-        ensures other { result ≡ true → int_eq self.now.raw.depth depth ≡ false }
-        ensures same { result ≡ false → (length self.now.raw.rest.bytes ≡ 0 → ⊥)
-            → int_eq self.now.raw.depth depth ≡ true }
-    {
-        self.raw.is_before(depth)
-    }
-
     // Stands where entries were passed, without a current one.
     #[inline(always)]
     fn stand(
@@ -349,7 +337,7 @@ impl<'abbrev, R: Reader, A: Allocator> EntriesCursor<'abbrev, R, A> {
             self.new }
     {
         self.follow(depth);
-        if self.is_before(depth) {
+        if self.raw.is_before(depth) {
             self.pass_to(depth)?;
         }
         if self.read_next()? {

@@ -6,11 +6,9 @@ ghost use Rattle.std.specs.List.{position};
 ghost use Rattle.std.specs.Option.{option_map};
 ghost use Rattle.gimli_base.specs.Offset.{answer_of};
 ghost use Rattle.gimli_base.specs.Reading.{read_of, map_read, skip_at, is_size, text_at};
-ghost use Rattle.gimli_base.specs.Reading.{answer_leaving};
-ghost use Rattle.gimli_units.specs.Form.{direct_at};
 ghost use Rattle.gimli_units.specs.Kind.{unit_reference, sibling_of};
 ghost use Rattle.gimli_units.specs.Entry.{attribute_at, attributes_at};
-ghost use Rattle.gimli_units.specs.Sized.{ReadsAny, PassesTogether};
+ghost use Rattle.gimli_units.specs.Sized.{ReadsAny, PassesTogether, PassesByForm};
 ghost use Rattle.std.specs.Prelude.{Ok, true, false};
 
 use crate::UnitOffset;
@@ -135,12 +133,8 @@ fn pass_common<R: Reader>(
     encoding: Encoding,
     specification: &AttributeSpecification,
 ) -> Result<bool>
-    ensures kept { result ≡ Ok false → R.view input.new ≡ R.view input.old }
-    ensures direct { (result ≡ Ok false → ⊥) → specification.now.form.0 ≡ 0x16 → ⊥ }
-    ensures value { (result ≡ Ok false → ⊥) → let s = specification.now in
-        read_of (answer_leaving (tt {0}) result) (R.view input.new)
-        ≡ map_read (λ _. tt)
-        (direct_at R.Offset.limit encoding s.name.0 s.constant s.form.0 (R.view input.old)) }
+    ensures { PassesByForm R.Offset.limit encoding specification.now result (R.view input.old)
+        (R.view input.new) }
 {
     match specification.form() {
         DW_FORM_exprloc => {
@@ -203,9 +197,9 @@ fn pass_apart<R: Reader>(
     Ok(())
 }
 
-// Passes a value of eight bytes, which offsets of 32 bits may not hold, or a short block, in one of
-// the forms that compilers write; with any other form it answers false, and nothing is passed. Where
-// it is refused, the input is left anywhere.
+// Passes an address, a number or a signature of eight bytes, which offsets of 32 bits may not hold, or
+// a short block; with any other form it answers false, and nothing is passed. Where it is refused, the
+// input is left anywhere.
 #[inline(always)]
 #[tactic(auto, unfolding(crate::specs::Form::direct_at, gimli_base::specs::Reading::sized_offset_at))]
 fn pass_eight<R: Reader>(
@@ -213,12 +207,8 @@ fn pass_eight<R: Reader>(
     encoding: Encoding,
     specification: &AttributeSpecification,
 ) -> Result<bool>
-    ensures kept { result ≡ Ok false → R.view input.new ≡ R.view input.old }
-    ensures direct { (result ≡ Ok false → ⊥) → specification.now.form.0 ≡ 0x16 → ⊥ }
-    ensures value { (result ≡ Ok false → ⊥) → let s = specification.now in
-        read_of (answer_leaving (tt {0}) result) (R.view input.new)
-        ≡ map_read (λ _. tt)
-        (direct_at R.Offset.limit encoding s.name.0 s.constant s.form.0 (R.view input.old)) }
+    ensures { PassesByForm R.Offset.limit encoding specification.now result (R.view input.old)
+        (R.view input.new) }
 {
     match specification.form() {
         DW_FORM_addr => {

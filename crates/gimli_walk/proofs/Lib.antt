@@ -21,4 +21,3 @@ pub mod TreeTruth
 pub mod TreeTurned
 pub mod WordLines
 pub mod WrittenLines
-pub mod HeadRows

@@ -48,7 +48,7 @@ impl Gathered {
     fn has_room(&self) -> bool
         ensures { result ≡ true → length self.now + 48 ≤ 1024 }
     {
-        self.count <= ROOM - 48
+        self.count <= ROOM - LINE
     }
 
     // Adds a line, which ends with the first 48 bytes and begins at `begin`. As many bytes are copied

@@ -115,7 +115,7 @@ fn other_reference<R: Reader>(input: &mut R, form: DwForm) -> Result<R::Offset>
 }
 
 // The next offset of an entry in `.debug_info`; where it is refused, the input is left anywhere. In
-// version 2 it is read by a call that gets a reader of its own, as an address is.
+// version 2 it is read on a reader of its own, as an address is.
 #[inline(always)]
 #[tactic(auto, unfolding(gimli_base::specs::Reading::sized_offset_at))]
 fn section_reference<R: Reader>(input: &mut R, encoding: Encoding) -> Result<R::Offset>

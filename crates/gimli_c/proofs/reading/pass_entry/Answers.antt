@@ -1,5 +1,5 @@
 use Rattle.std.proofs.Common.{◌≡◌, rules, Err, None, Some}
-use Rattle.gimli_walk.proofs.HeadRows.{entry_of, refusal_of}
+use Rattle.gimli_units.proofs.HeadReads.{entry_of, refusal_of}
 use Rattle.gimli_c.proofs.Heads.{past_head}
 use Rattle.gimli_c.proofs.reading.pass_entry.Goals as goal
 

@@ -2,30 +2,26 @@ use Rattle.std.proofs.Common.{◌≡◌, ◌∷◌, ℤ, refl, sym, ap, ◌∙�
 use Rattle.std.specs.Option.{option_map, option_copied}
 use Rattle.std.proofs.lemmas.Int.{to_z-of_z}
 use Rattle.gimli_units.proofs.EntryReads.{entry_at-shorter}
-use Rattle.gimli_units.proofs.PassedOn.{entry_of_head, refusal_of_head}
+use Rattle.gimli_units.proofs.HeadReads.{entry_of_head, refusal_of_head}
 use Rattle.gimli_units.specs.RawPlace.{RawPlace}
 use Rattle.gimli_units.specs.Rows.{Row}
 use Rattle.gimli_units.specs.CursorMoves.{rows_of}
 use Rattle.gimli_headers.specs.OpenRows.{check_held, judgement, IsRowOf}
-use Rattle.gimli_headers.proofs.RowTurns.{if_ok, ended_rows, refused_rows, more_rows, turn_judged}
+use Rattle.gimli_headers.proofs.RowTurns.{ended_rows, refused_rows, more_rows, turn_judged}
 use Rattle.gimli_headers.proofs.RowTurns.{head_null, not_twice}
 use Rattle.std.specs.Prelude.{not}
 use Rattle.gimli_headers.proofs.siblings.first_false_ahead.Goals as goal
 
-pub returns-in-Err : goal.returns-in-Err
-returns-in-Err g c =
+pub returns-in-Err-clause-value : goal.returns-in-Err-clause-value
+returns-in-Err-clause-value g c =
     let limit = g.R.Offset.ReaderOffset.limit in
     let number = g.R.Offset.ReaderOffset.number in
     let p = c.rows.entries in
     let some : length p.rest.bytes ≡ 0 → ⊥ = λ none. let t = c.rows-test.ensures.1 none in cc in
-    record {
-      value = if_ok c.stop.result (λ o h.
-          let none = refused_rows limit p c.in-Err.error some
-          (refusal_of_head limit p c.in-Err.error c.in-Err.ensures.value) in
-          h.1 p.end ∙ ap (judgement p.end (check_held number c.rows.check)) (sym none)
-          ∙ c.rows.invariant.same) c.stop.ensures.value;
-      refusal = c.stop.ensures.refusal;
-    }
+    let none = refused_rows limit p c.in-Err.field-0 some
+    (refusal_of_head limit p c.in-Err.field-0 c.in-Err.ensures.value) in
+    c.finish.ensures p.end ∙ ap (judgement p.end (check_held number c.rows.check)) (sym none)
+    ∙ c.rows.invariant.same
 
 pub rows-smaller : goal.rows-smaller
 rows-smaller g c =
@@ -37,7 +33,7 @@ rows-smaller g c =
     let leads = option_map (λ x. number x.0) c.in-Ok.sibling in
     let h = entry_of_head limit p o leads q.rest q.depth c.in-Ok.ensures.value c.in-Ok.ensures.some
     c.in-Ok.ensures.depth in
-    entry_at-shorter _ _ _ _ _ _ h.reads
+    entry_at-shorter _ _ _ _ _ _ h.of.reads
 
 pub rows-preserved : goal.rows-preserved
 rows-preserved g c =
@@ -53,15 +49,15 @@ rows-preserved g c =
       offset = number c.next_offset-offset.result.0;
       next = number c.next_offset.result.0;
       depth = p.depth;
-      entry = h.entry;
+      entry = h.of.entry;
     } in
     let some : length p.rest.bytes ≡ 0 → ⊥ = search rules in
     let deep : to_z w64 (of_z w64 c.next_depth-depth.result) ≡ p.depth =
     to_z-of_z w64 _ (record { sfits = c.next_depth-depth.type_inv }) ∙ c.next_depth-depth.ensures in
     let next = c.in-Ok.ensures.same
-    ∙ ap (λ (d : ℤ). record p { rest = q.rest; depth = d }) h.behind in
+    ∙ ap (λ (d : ℤ). record p { rest = q.rest; depth = d }) h.of.behind in
     let more : (rows_of limit p).rows ≡ r ∷ (rows_of limit q).rows =
-    more_rows limit p q r some h.reads next c.next_offset-offset.ensures c.next_offset.ensures refl in
+    more_rows limit p q r some h.of.reads next c.next_offset-offset.ensures c.next_offset.ensures refl in
     let same_end : q.end ≡ p.end = ap (λ (x : RawPlace). x.end) c.in-Ok.ensures.same in
     let end : number c.args.end.0 ≡ p.end = c.requires ∙ sym c.rows.invariant.end in
     let is : IsRowOf number
@@ -73,7 +69,7 @@ rows-preserved g c =
           c.in-Ok.sibling;
     }) (number c.next_offset.result.0) r =
     record {
-      null = head_null c.in-Ok.declared h.entry c.in-Ok.ensures.some h.same
+      null = head_null c.in-Ok.declared h.of.entry c.in-Ok.ensures.some h.of.same
           ∙ ap not c.is_none.ensures ∙ not_twice c.is_none.result;
       offset = refl;
       next = refl;
@@ -84,7 +80,7 @@ rows-preserved g c =
       same = turn_judged (number c.args.end.0) p.end q.end (check_held number c.rows.check)
           (check_held number c.go_behind.new.check) r _ _ _ end same_end more
           (λ others. c.in_ok-go_behind-in-Ok.ensures.judged r others is) c.rows.invariant.same;
-      rise = rw h.behind (c.in_ok-go_behind-in-Ok.ensures.rise r is);
+      rise = rw h.of.behind (c.in_ok-go_behind-in-Ok.ensures.rise r is);
       end = same_end ∙ c.rows.invariant.end;
     }
 
@@ -94,6 +90,6 @@ returns-clause-value g c =
     let number = g.R.Offset.ReaderOffset.number in
     let p = c.rows.entries in
     let none : length p.rest.bytes ≡ 0 = c.rows-test.ensures.0 refl in
-    c.finish.ensures p.end
+    c.finish-2.ensures p.end
     ∙ ap (judgement p.end (check_held number c.rows.check)) (sym (ended_rows limit p none))
     ∙ c.rows.invariant.same

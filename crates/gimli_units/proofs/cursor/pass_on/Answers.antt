@@ -1,11 +1,12 @@
-use Rattle.std.proofs.Common.{◌≡◌, refl, length, ap, sym, ◌∙◌, arith, true, false, pos, w64, to_z}
+use Rattle.std.proofs.Common.{◌≡◌, refl, ap, sym, ◌∙◌, arith, true, false, pos, w64, to_z}
 use Rattle.std.proofs.Common.{of_z}
 use Rattle.std.specs.Option.{option_map, option_copied}
 use Rattle.std.proofs.lemmas.Int.{to_z-of_z}
 use Rattle.gimli_units.specs.CursorMoves.{CursorView}
 use Rattle.gimli_units.specs.CursorRead.{no_pass, without_entry}
 use Rattle.gimli_units.proofs.CursorSteps.{did_refuse}
-use Rattle.gimli_units.proofs.PassedOn.{passed_stays, passed_goes, head_shorter, refusal_of_head}
+use Rattle.gimli_units.proofs.HeadReads.{refusal_of_head}
+use Rattle.gimli_units.proofs.PassedOn.{passed_stays, passed_goes, head_shorter}
 use Rattle.gimli_units.proofs.cursor.pass_on.Goals as goal
 
 pub go_to-requires : goal.go_to-requires

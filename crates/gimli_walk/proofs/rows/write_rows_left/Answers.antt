@@ -4,7 +4,7 @@ use Rattle.std.specs.Io.KnownBytes.{append_known}
 use Rattle.std.proofs.lemmas.Int.{to_z-of_z}
 use Rattle.gimli_units.specs.Head.{Head}
 use Rattle.gimli_units.specs.RawPlace.{next_offset_of}
-use Rattle.gimli_walk.proofs.HeadRows.{entry_of, refusal_of, entry_shorter}
+use Rattle.gimli_units.proofs.HeadReads.{entry_of, refusal_of, entry_shorter}
 use Rattle.gimli_walk.proofs.GatheredLines.{gathered_then}
 use Rattle.gimli_walk.proofs.StoppedLines.{until_same}
 use Rattle.gimli_walk.proofs.RowLines.{place_text, rows_ended, rows_refused, rows_more}

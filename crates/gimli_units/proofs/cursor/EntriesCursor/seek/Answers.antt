@@ -75,7 +75,8 @@ returns-then-branch g c =
       | then-is_before+in_ok-pass_to w ↦
           let to = rw deep at w.in_ok-pass_to.ensures.passed in rw w.self-is to.there
       | else-is_before w ↦
-          rw w.self-is (rw deep at (c.is_before.ensures.same w.if-is_before.false))
+          let raw = ap (λ (x : CursorView). x.raw) c.self.view_is in
+          rw w.self-is (rw (deep, raw) at (c.is_before.ensures.same w.if-is_before.false))
     ] in
     let took : c.read_next.result ≡ Ok true = c.in_ok-read_next.was ∙ ap Ok c.if-branch.true in
     rw c.is_on_entry.ensures
