@@ -4,7 +4,12 @@ ghost use Rattle.std.proofs.Common.{ap};
 ghost use Rattle.std.specs.Prelude.{ℕ, ◌≡◌, ◌≢◌, ◌==◌, [], is_some, if◌then◌else◌, Some, None};
 ghost use Rattle.std.specs.Prelude.{Option, OnOk, IfErr, IsSome, unwrap_or, pos, List, ◌++◌, ◌∷◌};
 ghost use Rattle.std.specs.Prelude.{take, nat_le, IfOk, IfSome, length, ◌<◌, ◌^◌, true, false};
+ghost use Rattle.std.specs.Prelude.{cond};
 ghost use Rattle.std.specs.Option.{option_copied};
+ghost use Rattle.std.specs.Ordering.{nat_cmp};
+ghost use Rattle.std.specs.Map.{lookup};
+ghost use Rattle.std.specs.BTreeMap.{is_at};
+ghost use Rattle.gimli_base.specs.declared.error.Error.TheVariants.{OutOfMemory};
 ghost use Rattle.gimli_base.specs.declared.common.SectionId.TheVariants.{DebugAbbrev as AbbrevSection};
 ghost use Rattle.gimli_base.specs.Abbreviations.{
   Specification,
@@ -502,6 +507,23 @@ fn parse_declared<R: Reader, A: Allocator>(
     Ok((tag, has_children))
 }
 
+// Adds a declaration to those whose codes are not in order. It is a function of its own, as the place
+// of what the map hands back, larger than a declaration, is set to zero where its body begins.
+#[inline(always)]
+fn insert_other<A: Allocator + Copy>(
+    others: &mut BTreeMap<u64, Abbreviation<A>, A>,
+    code: u64,
+    declared: Abbreviation<A>,
+) -> Result<()>
+    ensures updates { OnOk result ((q : ℕ) → lookup (is_at (nat_cmp q)) others.new.entries
+        ≡ cond (is_at (nat_cmp code) q) (Some declared)
+        (lookup (is_at (nat_cmp q)) others.old.entries)) }
+    ensures refusal { IfErr result (λ e. e ≡ OutOfMemory) }
+{
+    others.insert(code, declared)?;
+    Ok(())
+}
+
 /// A table of abbreviations: a finite map of codes to declarations.
 #[derive(Drop)]
 #[derive_where(Debug)]
@@ -567,7 +589,7 @@ impl<A: Allocator + Copy> Abbreviations<A> {
             self.dense.push_reserved(declared);
             return Ok(());
         }
-        self.others.insert(code, declared)?;
+        insert_other(&mut self.others, code, declared)?;
         Ok(())
     }
 

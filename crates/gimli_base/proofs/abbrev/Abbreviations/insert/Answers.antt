@@ -22,7 +22,7 @@ pub returns-clause-ok : goal.returns-clause-ok
 returns-clause-ok g c =
     let code_is : c.declared.inside.code
     ≡ c.args.declared.code = ap (λ (d : Declaration). d.code) c.declared.view_is in
-    let updates = rw code_is at c.in_ok-insert.ensures.updates.0 in
+    let updates = rw code_is at c.in_ok-insert_other.ensures.updates in
     let none = rw (code_is, ← c.self.view_is) at
     (sym c.get.ensures ∙ none_of c.get.result c.if-is_some.ensures) in
     rw (← c.self.view_is)
