@@ -71,12 +71,7 @@ fn of_head_and_sibling<R: Reader>(mut raw: EntriesRaw<'_, R, Global>) -> Told {
 }
 
 // Reads an entry as a whole, and its head in both ways.
-fn tries_entry<R: Reader>(
-    rt: &impl Abort,
-    alloc: Global,
-    table: &Abbreviations<Global>,
-    entry: R,
-) {
+fn tries_entry<R: Reader>(rt: &impl Abort, alloc: Global, table: &Abbreviations<Global>, entry: R) {
     let raw = raw_over(entry, table);
     let (answer, offset, depth) = of_entry(raw.copy(), alloc);
     assert_eq!(rt; of_head_and_sibling(raw.copy()), (answer, offset, depth));
