@@ -8,14 +8,14 @@ use std::alloc::Global;
 use std::process::Abort;
 use std::test::Fail;
 
-// The forms of the standard, with codes beside them that are none, and those that stand apart.
+// The forms beyond those of the standard, and a code that is none.
 const APART: [u16; 6] = [0x1f01, 0x1f02, 0x1f20, 0x1f21, 0x3f01, 0x3f02];
 
 // What a read tells: tag, children flag and where the sibling is, or why it is refused; and the offset and
 // the depth of what is read next.
 type Told = (Result<(u16, bool, Option<u64>)>, u64, isize);
 
-// Where a reader stands after it was told this.
+// An answer, with where the reader stands after it.
 fn told<R: Reader>(
     answer: Result<(u16, bool, Option<u64>)>,
     raw: &EntriesRaw<'_, R, Global>,
