@@ -4,8 +4,9 @@
 //! `WholeSlice`.
 
 use crate::fold::mixed;
-use crate::input::{Random, vary_bytes};
+use crate::input::Random;
 use crate::lists::Lists;
+use crate::places::{Place, byte_at, push, push_any, push_name, push_number, push_tag, vary_bytes};
 use crate::{check, read};
 use gimli_base::{BigEndian, DebugAddr, EndianSlice, Reader, RunTimeEndian, WholeSlice};
 use gimli_lists::{DebugLoc, DebugLocLists, DebugRanges, DebugRngLists, LocationLists, RangeLists};
@@ -28,6 +29,12 @@ const TYPE_ENTRIES: u64 = 20;
 
 // The attributes of the broadest declaration, each without a byte.
 const BROAD: u64 = 1000;
+
+// One in so many of these has another name in each pass.
+const STEP: u64 = 16;
+
+// One in so many of the twenty numbers of an entry is another in each pass.
+const WIDE_STEP: u64 = 5;
 
 type Done = Result<(), AllocError>;
 
@@ -68,8 +75,8 @@ impl Kind {
 #[derive(Drop)]
 struct Bytes {
     bytes: Vec<u8>,
-    // the places of bytes that may be any
-    places: Vec<usize>,
+    // the places of bytes that are written anew
+    places: Vec<Place>,
 }
 
 impl Bytes {
@@ -87,7 +94,7 @@ impl Bytes {
 
     // A byte that may be any.
     fn free(&mut self, byte: u8) -> Done {
-        self.places.push(self.bytes.len())?;
+        push_any(&mut self.places, self.bytes.len())?;
         self.byte(byte)
     }
 
@@ -120,8 +127,16 @@ impl Bytes {
         self.byte(0)
     }
 
-    // A text in place.
+    // A LEB128 number with so many bytes more than it needs, whose first byte may be another.
+    fn free_number(&mut self, number: u64, padding: u64) -> Done {
+        let at = self.bytes.len();
+        self.number(number, padding)?;
+        push_number(&mut self.places, at, byte_at(&self.bytes, at), 0)
+    }
+
+    // A text in place, whose first letter may be another.
     fn text(&mut self, random: &mut Random) -> Done {
+        push(&mut self.places, self.bytes.len(), b'a', 25)?;
         let length = 4 + random.below(24);
         for _ in 0..length {
             self.byte(b'a' + (random.below(26) % 26) as u8)?;
@@ -141,8 +156,14 @@ impl Bytes {
     }
 }
 
-// Writes the name and the form of an attribute.
+// Writes the name, which may be another if nothing hangs on it, and the form of an attribute.
 fn declare(out: &mut Bytes, name: u64, form: u64) -> Done {
+    push_name(&mut out.places, out.bytes.len(), name)?;
+    declare_firmly(out, name, form)
+}
+
+// Writes the name, which stays, and the form of an attribute.
+fn declare_firmly(out: &mut Bytes, name: u64, form: u64) -> Done {
     out.number(name, 0)?;
     out.number(form, 0)
 }
@@ -154,6 +175,7 @@ fn declare_kind(out: &mut Bytes, code: u64, kind: Kind) -> Done {
         Kind::Scope => (0x39, 1),
         _ => (0x34, 0),
     };
+    push_tag(&mut out.places, out.bytes.len(), tag, false)?;
     out.number(tag, 0)?;
     out.byte(children)?;
     match kind {
@@ -184,11 +206,15 @@ fn declare_kind(out: &mut Bytes, code: u64, kind: Kind) -> Done {
         }
         Kind::Broad => {
             for number in 0..BROAD {
-                declare(out, 0x2400 + number, 0x19)?;
+                if number % STEP == 0 {
+                    declare(out, 0x2400 + number, 0x19)?;
+                } else {
+                    declare_firmly(out, 0x2400 + number, 0x19)?;
+                }
             }
         }
     }
-    declare(out, 0, 0)
+    declare_firmly(out, 0, 0)
 }
 
 // Writes a table of so many declarations, whose codes are the multiples of `step`, falling where
@@ -209,6 +235,18 @@ fn code_of(index: u64, count: u64, step: u64) -> u64 {
     }
 }
 
+// Writes so many bytes, of which the first may be any.
+fn write_block(out: &mut Bytes, length: u64, byte: u8) -> Done {
+    for index in 0..length {
+        if index == 0 {
+            out.free(byte)?;
+        } else {
+            out.byte(byte)?;
+        }
+    }
+    Ok(())
+}
+
 // Writes the values of an entry; the place of its sibling, if it has children.
 fn write_values(
     out: &mut Bytes,
@@ -220,12 +258,16 @@ fn write_values(
             out.text(random)?;
             let line = random.below(100_000);
             let padding = random.below(4);
-            out.number(line, padding)?;
+            out.free_number(line, padding)?;
         }
         Kind::Wide => {
-            for _ in 0..20u64 {
+            for number in 0..20u64 {
                 out.byte(1)?;
-                out.free(2)?;
+                if number % WIDE_STEP == 0 {
+                    out.free(2)?;
+                } else {
+                    out.byte(2)?;
+                }
             }
         }
         Kind::Scope => {
@@ -237,23 +279,21 @@ fn write_values(
         Kind::Located => {
             let length = 1 + random.below(8);
             out.number(length, 0)?;
-            for _ in 0..length {
-                out.free(0x91)?;
-            }
+            write_block(out, length, 0x91)?;
             let value = random.below(1_000_000);
             out.number(value, 0)?;
             let offset = 40 + random.below(200_000);
             out.number(offset, 1)?;
         }
         Kind::Odd => {
-            for _ in 0..16u64 {
-                out.free(7)?;
+            out.free(7)?;
+            out.word(random.next())?;
+            for _ in 0..7u64 {
+                out.byte(7)?;
             }
             let length = random.below(12);
             out.number(length, 0)?;
-            for _ in 0..length {
-                out.free(9)?;
-            }
+            write_block(out, length, 9)?;
             out.byte(0)?;
             out.byte(1)?;
             out.free(3)?;
@@ -314,7 +354,11 @@ fn write_unit(
     out.byte(8)?;
     out.word(table)?;
     if is_type {
-        out.word(random.next())?;
+        out.free(0x5a)?;
+        for _ in 0..3u64 {
+            out.byte((random.next() & 0xff) as u8)?;
+        }
+        out.bytes.extend_from_slice(&[0, 0, 0, 0])?;
         out.word(40)?;
     }
     let mut open = Vec::new(alloc);
@@ -339,7 +383,7 @@ fn write_unit(
 #[derive(Drop)]
 pub(crate) struct Awkward {
     info: Bytes,
-    abbrev: Vec<u8>,
+    abbrev: Bytes,
 }
 
 // The lists of no sections.
@@ -357,15 +401,24 @@ fn no_lists<R: Reader>(none: R) -> Lists<R> {
     }
 }
 
-// A checksum of all that is read of the sections.
-fn of_sections<R: Reader>(alloc: Global, info: R, abbrev: R, none: R) -> u64 {
+// The two jobs that read the sections.
+#[derive(Clone, Copy, Debug, PartialEq, Eq)]
+enum Part {
+    Read,
+    Check,
+}
+
+// A checksum of a job over the sections.
+fn of_sections<R: Reader>(alloc: Global, part: Part, info: R, abbrev: R, none: R) -> u64 {
     let lists = no_lists(none);
-    let all = read::checksum(alloc, info.copy(), abbrev.copy(), &lists);
-    mixed(all, check::checksum(alloc, info, abbrev, &lists))
+    match part {
+        Part::Read => read::checksum(alloc, info, abbrev, &lists),
+        Part::Check => check::checksum(alloc, info, abbrev, &lists),
+    }
 }
 
 impl Awkward {
-    /// Sections of so many copies, which a seed makes.
+    /// Sections of so many copies, which a seed makes. Each unit has a table of its own.
     pub(crate) fn made(
         alloc: Global,
         copies: u64,
@@ -376,47 +429,60 @@ impl Awkward {
         for _ in 0..copies {
             let large = abbrev.bytes.len() as u64;
             declare_table(&mut abbrev, CODES, 7)?;
-            let small = abbrev.bytes.len() as u64;
-            declare_table(&mut abbrev, TYPE_CODES, 1)?;
             let sizes = (CODES, 7, ENTRIES, NESTED);
             write_unit(alloc, &mut info, false, large, sizes, random)?;
             for _ in 0..TYPES {
+                let small = abbrev.bytes.len() as u64;
+                declare_table(&mut abbrev, TYPE_CODES, 1)?;
                 let sizes = (TYPE_CODES, 1, TYPE_ENTRIES, 0);
                 write_unit(alloc, &mut info, true, small, sizes, random)?;
             }
         }
-        Ok(Awkward {
-            info,
-            abbrev: abbrev.bytes,
-        })
+        Ok(Awkward { info, abbrev })
     }
 
-    /// Writes other bytes where they may be any.
-    pub(crate) fn vary(&mut self, random: &mut Random) {
+    // Writes other bytes into the sections.
+    fn vary(&mut self, random: &mut Random) {
         vary_bytes(&mut self.info.bytes, &self.info.places, random);
+        vary_bytes(&mut self.abbrev.bytes, &self.abbrev.places, random);
     }
 
     /// A checksum of all that is read of the sections, in an order that is known at run time, and by
-    /// `WholeSlice`.
-    pub(crate) fn checksum(&self, alloc: Global) -> u64 {
-        let info = &self.info.bytes;
-        let abbrev = &self.abbrev;
-        let sum = of_sections(
-            alloc,
-            EndianSlice::new(info, RunTimeEndian::Big),
-            EndianSlice::new(abbrev, RunTimeEndian::Big),
-            EndianSlice::new(&[], RunTimeEndian::Big),
-        );
-        let most = u32::MAX as usize;
-        if info.len() > most || abbrev.len() > most {
-            return sum;
+    /// `WholeSlice`. Other bytes are written before each.
+    pub(crate) fn pass(&mut self, alloc: Global, random: &mut Random) -> u64 {
+        let mut sum = 0u64;
+        for part in [Part::Read, Part::Check] {
+            self.vary(random);
+            sum = mixed(sum, self.by_slice(alloc, part));
+            self.vary(random);
+            sum = mixed(sum, self.by_whole_slice(alloc, part));
         }
-        let whole = of_sections(
+        sum
+    }
+
+    // A checksum of a job, in an order that is known at run time.
+    fn by_slice(&self, alloc: Global, part: Part) -> u64 {
+        of_sections(
             alloc,
-            WholeSlice::new(info, BigEndian),
-            WholeSlice::new(abbrev, BigEndian),
+            part,
+            EndianSlice::new(&self.info.bytes, RunTimeEndian::Big),
+            EndianSlice::new(&self.abbrev.bytes, RunTimeEndian::Big),
+            EndianSlice::new(&[], RunTimeEndian::Big),
+        )
+    }
+
+    // A checksum of a job by `WholeSlice`.
+    fn by_whole_slice(&self, alloc: Global, part: Part) -> u64 {
+        let most = u32::MAX as usize;
+        if self.info.bytes.len() > most || self.abbrev.bytes.len() > most {
+            return 0;
+        }
+        of_sections(
+            alloc,
+            part,
+            WholeSlice::new(&self.info.bytes, BigEndian),
+            WholeSlice::new(&self.abbrev.bytes, BigEndian),
             WholeSlice::new(&[], BigEndian),
-        );
-        mixed(sum, whole)
+        )
     }
 }

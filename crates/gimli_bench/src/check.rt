@@ -2,8 +2,8 @@
 //! and the entries of lists as they are written.
 
 use crate::fold::{mixed, refused};
-use crate::lists::{Bases, Lists};
-use crate::values::with_raw_values;
+use crate::lists::{Bases, Lists, SeenLists};
+use crate::values::{with_place, with_raw_values};
 use gimli_base::{Abbreviations, DebugAbbrev, Reader, ReaderOffset, Result};
 use gimli_headers::{DebugInfo, first_false_sibling};
 use gimli_units::{Attribute, EntriesRaw, UnitHeader};
@@ -16,16 +16,24 @@ fn with_next<R: Reader>(
     attributes: &mut Vec<Attribute<R>, Global>,
     lists: &Lists<R>,
     bases: &Bases<R::Offset>,
+    seen: &mut SeenLists,
 ) -> Result<u64> {
+    let place = with_place(
+        sum,
+        entries.next_offset().0.into_u64(),
+        entries.next_depth(),
+    );
     let Some(declared) = entries.read_abbreviation()? else {
-        return Ok(mixed(sum, 0));
+        return Ok(mixed(place, 0));
     };
     entries.read_attributes(declared.attributes(), attributes)?;
-    let mut all = with_raw_values(mixed(sum, u64::from(declared.tag().0)), attributes);
+    let tag = mixed(place, u64::from(declared.tag().0));
+    let flag = mixed(tag, u64::from(declared.has_children()));
+    let mut all = with_raw_values(flag, attributes);
     for attribute in attributes.iter() {
         // (the name makes an offset into a section one of a list)
         match attribute.offset_value() {
-            Some(_) => all = lists.with_raw(all, bases, &attribute.value()),
+            Some(_) => all = lists.with_raw(all, bases, &attribute.value(), seen),
             None => {}
         }
     }
@@ -39,6 +47,7 @@ fn with_entries<R: Reader>(
     unit: &UnitHeader<R>,
     table: &Abbreviations<Global>,
     lists: &Lists<R>,
+    seen: &mut SeenLists,
 ) -> Result<u64> {
     let mut attributes = Vec::new(alloc);
     let mut entries = unit.entries_raw(table, None)?;
@@ -48,7 +57,10 @@ fn with_entries<R: Reader>(
         if entries.is_empty() {
             break;
         }
-        all = with_next(all, &mut entries, &mut attributes, lists, &bases)?;
+        all = match with_next(all, &mut entries, &mut attributes, lists, &bases, seen) {
+            Ok(more) => more,
+            Err(error) => return Ok(refused(all, error)),
+        };
     }
     Ok(all)
 }
@@ -60,13 +72,15 @@ fn with_unit<R: Reader>(
     unit: &UnitHeader<R>,
     debug_abbrev: &DebugAbbrev<R>,
     lists: &Lists<R>,
+    seen: &mut SeenLists,
 ) -> Result<u64> {
     let table = unit.abbreviations(alloc, debug_abbrev)?;
-    let first = match first_false_sibling(alloc, unit, &table)? {
-        Some(offset) => mixed(sum, offset.0.into_u64()),
-        None => mixed(sum, 0),
+    let first = match first_false_sibling(alloc, unit, &table) {
+        Ok(Some(offset)) => mixed(sum, offset.0.into_u64()),
+        Ok(None) => mixed(sum, 0),
+        Err(error) => refused(sum, error),
     };
-    with_entries(alloc, first, unit, &table, lists)
+    with_entries(alloc, first, unit, &table, lists, seen)
 }
 
 /// A checksum of the checks of all units of a section.
@@ -74,11 +88,12 @@ pub(crate) fn checksum<R: Reader>(alloc: Global, info: R, abbrev: R, lists: &Lis
     let debug_info = DebugInfo::from(info);
     let debug_abbrev = DebugAbbrev::from(abbrev);
     let mut units = debug_info.units();
+    let mut seen = SeenLists::new(alloc);
     let mut sum = 0u64;
     for _ in 0..u64::MAX {
         match units.next() {
             Ok(Some(unit)) => {
-                sum = match with_unit(alloc, sum, &unit, &debug_abbrev, lists) {
+                sum = match with_unit(alloc, sum, &unit, &debug_abbrev, lists, &mut seen) {
                     Ok(all) => all,
                     Err(error) => refused(sum, error),
                 };

@@ -2,9 +2,18 @@
 
 ghost use Rattle.std.specs.Prelude.{◌<◌, ◌^◌};
 
+use crate::list_places::{
+    places_of_addresses, places_of_locations, places_of_pairs, places_of_ranges, places_of_sets,
+    places_of_tables,
+};
 use crate::lists::Lists;
+use crate::places::{
+    Copies, Place, Word, byte_at, push, push_any, push_expression, push_number, push_signed,
+};
+use crate::seen::Seen;
 use gimli_base::{
-    Abbreviations, DebugAbbrev, DebugAddr, EndianSlice, LittleEndian, Reader, ReaderOffset, Result,
+    Abbreviations, AttributeSpecification, DW_FORM_strx, DebugAbbrev, DebugAddr, EndianSlice,
+    LittleEndian, Reader, Result,
 };
 use gimli_headers::DebugInfo;
 use gimli_lists::{DebugLoc, DebugLocLists, DebugRanges, DebugRngLists, LocationLists, RangeLists};
@@ -44,185 +53,183 @@ impl Random {
     {
         if count == 0 { 0 } else { self.next() % count }
     }
-
-    /// The next byte.
-    #[inline]
-    pub(crate) fn byte(&mut self) -> u8 {
-        (self.next() / 0x100_0000) as u8
-    }
 }
 
-/// Writes other bytes at these places.
-pub(crate) fn vary_bytes(bytes: &mut [u8], places: &[usize], random: &mut Random) {
-    for place in places {
-        let place = *place;
-        if place < bytes.len() {
-            bytes[place] = random.byte();
-        }
-    }
+/// What a job asks for.
+#[derive(Clone, Copy, Debug)]
+pub(crate) struct Needs {
+    /// Entries by their tags, which stay then, and sets of ranges.
+    pub(crate) tags: bool,
+    /// Lists of ranges.
+    pub(crate) ranges: bool,
+    /// Lists of locations.
+    pub(crate) locations: bool,
 }
 
-/// The sections of a program, several copies of it one after the other, each with a table of its
-/// own, and the places of the bytes that are written anew before each pass.
+/// The sections of a program, several copies of it one after the other, each with a table and with
+/// lists of its own.
 #[derive(Drop)]
 pub(crate) struct Input {
-    pub(crate) info: Vec<u8>,
-    pub(crate) abbrev: Vec<u8>,
-    pub(crate) aranges: Vec<u8>,
-    ranges: Vec<u8>,
-    rnglists: Vec<u8>,
-    loc: Vec<u8>,
-    loclists: Vec<u8>,
-    addr: Vec<u8>,
-    // the lowest bytes of numbers in `info`, `aranges` and `addr`
-    in_info: Vec<usize>,
-    in_aranges: Vec<usize>,
-    in_addr: Vec<usize>,
-}
-
-// The bytes of a section, or none where there is no such file.
-fn section(rt: &HostRuntime, name: &str, kind: &str) -> io::Result<Vec<u8>> {
-    let file = format!(in rt.alloc(); "{name}.{kind}")?;
-    match fs::read(rt, &file) {
-        Ok(bytes) => Ok(bytes),
-        Err(_) => Ok(Vec::new(rt.alloc())),
-    }
-}
-
-// Copies of bytes, one after the other.
-fn repeated(alloc: Global, bytes: &[u8], copies: u64) -> io::Result<Vec<u8>> {
-    let mut all = Vec::new(alloc);
-    for _ in 0..copies {
-        all.extend_from_slice(bytes)?;
-    }
-    Ok(all)
-}
-
-// Copies of places in bytes that are repeated, each so many bytes after the one before.
-fn repeated_places(
-    alloc: Global,
-    places: &[usize],
-    length: usize,
-    copies: u64,
-) -> io::Result<Vec<usize>> {
-    let mut all = Vec::new(alloc);
-    let mut start = 0usize;
-    for _ in 0..copies {
-        for place in places {
-            all.push(start.wrapping_add(*place))?;
-        }
-        start = start.wrapping_add(length);
-    }
-    Ok(all)
-}
-
-// Adds to the word of 4 bytes at a place.
-fn add_to_word(bytes: &mut [u8], place: usize, added: usize) {
-    if place >= bytes.len() || bytes.len() - place < 4 {
-        return;
-    }
-    let old = [
-        bytes[place],
-        bytes[place + 1],
-        bytes[place + 2],
-        bytes[place + 3],
-    ];
-    let word = (u64::from(u32::from_le_bytes(old)).wrapping_add(added as u64) & 0xffff_ffff) as u32;
-    let [first, second, third, fourth] = word.to_le_bytes();
-    bytes[place] = first;
-    bytes[place + 1] = second;
-    bytes[place + 2] = third;
-    bytes[place + 3] = fourth;
-}
-
-// Adds the number of the copy, times a length, to the words at these places of each copy.
-fn set_words(bytes: &mut [u8], places: &[usize], size: usize, length: usize, copies: u64) {
-    let mut start = 0usize;
-    let mut added = 0usize;
-    for _ in 0..copies {
-        for place in places {
-            add_to_word(bytes, start.wrapping_add(*place), added);
-        }
-        start = start.wrapping_add(size);
-        added = added.wrapping_add(length);
-    }
+    pub(crate) info: Copies,
+    pub(crate) abbrev: Copies,
+    pub(crate) aranges: Copies,
+    ranges: Copies,
+    rnglists: Copies,
+    loc: Copies,
+    loclists: Copies,
+    addr: Copies,
 }
 
 type Slice<'a> = EndianSlice<'a, LittleEndian>;
 
-// Whether the first byte of a value may be any other: it is that of a number which no list, no
-// reference and no structure of the unit hangs on.
-fn may_change<R: Reader>(value: &AttributeValue<R>) -> bool {
+// The sizes of the sections that others lead to.
+#[derive(Clone, Copy)]
+struct Sizes {
+    abbrev: usize,
+    ranges: usize,
+    rnglists: usize,
+    loc: usize,
+    loclists: usize,
+    addr: usize,
+}
+
+// What is found in `.debug_info`: places, words that lead to other sections, and where lists of
+// locations of version 4 begin.
+#[derive(Drop)]
+struct Found {
+    places: Vec<Place>,
+    words: Vec<Word>,
+    starts: Vec<usize>,
+}
+
+// So many places of an entry are written anew, and those of its addresses.
+const MOST: usize = 2;
+
+fn is_address(value: &AttributeValue<Slice<'_>>) -> bool {
+    match value {
+        AttributeValue::Addr(_) => true,
+        _ => false,
+    }
+}
+
+// Adds the place in a value that lies between two places, if it has one: in a number, a text, a block
+// or an expression on which no list, no reference and no structure of the unit hangs.
+fn push_value(
+    places: &mut Vec<Place>,
+    bytes: &[u8],
+    begin: usize,
+    end: usize,
+    specification: AttributeSpecification,
+    value: &AttributeValue<Slice<'_>>,
+) -> std::result::Result<(), AllocError> {
     match value {
         AttributeValue::Data1(_)
         | AttributeValue::Data2(_)
         | AttributeValue::Data4(_)
         | AttributeValue::Data8(_)
+        | AttributeValue::Data16(_)
         | AttributeValue::Addr(_)
         | AttributeValue::DebugStrRef(_)
-        | AttributeValue::DebugLineStrRef(_)
-        | AttributeValue::DebugStrOffsetsIndex(_) => true,
-        _ => false,
+        | AttributeValue::DebugLineStrRef(_) => push_any(places, begin),
+        AttributeValue::DebugStrOffsetsIndex(_) if specification.form() != DW_FORM_strx => {
+            push_any(places, begin)
+        }
+        AttributeValue::Udata(_) => push_number(places, begin, byte_at(bytes, begin), 0),
+        AttributeValue::Sdata(_) => push_signed(places, begin, byte_at(bytes, begin)),
+        AttributeValue::String(text) if text.len() > 0 => push(places, begin, b'a', 25),
+        AttributeValue::Block(block) if block.len() > 0 => {
+            push_any(places, end.wrapping_sub(block.len()))
+        }
+        AttributeValue::Exprloc(expression) => {
+            let length = expression.0.len();
+            push_expression(places, bytes, end.wrapping_sub(length), length)?;
+            Ok(())
+        }
+        _ => Ok(()),
     }
 }
 
-// The places of such bytes in the entry that is next.
-fn places_of_entry(
+// Adds the word of a value that leads to another section.
+fn push_word(
+    found: &mut Found,
+    sizes: Sizes,
+    is_old: bool,
+    at: usize,
+    value: &AttributeValue<Slice<'_>>,
+) -> std::result::Result<(), AllocError> {
+    let size = match value {
+        AttributeValue::RangeListsRef(_) => { if is_old { sizes.ranges } else { sizes.rnglists } }
+        AttributeValue::LocationListsRef(offset) => {
+            if is_old {
+                found.starts.push(offset.0)?;
+                sizes.loc
+            } else {
+                sizes.loclists
+            }
+        }
+        AttributeValue::DebugRngListsBase(_) => sizes.rnglists,
+        AttributeValue::DebugLocListsBase(_) => sizes.loclists,
+        AttributeValue::DebugAddrBase(_) => sizes.addr,
+        _ => return Ok(()),
+    };
+    found.words.push(Word { at, size })?;
+    Ok(())
+}
+
+// Adds what is found in the entry that is next.
+fn find_in_entry(
     entries: &mut EntriesRaw<'_, Slice<'_>, Global>,
-    start: usize,
-    places: &mut Vec<usize>,
+    info: &[u8],
+    unit: &UnitHeader<Slice<'_>>,
+    sizes: Sizes,
+    found: &mut Found,
 ) -> Result<()> {
     let Some(declared) = entries.read_abbreviation()? else {
         return Ok(());
     };
+    let start = unit.offset().0;
+    let most = found.places.len().wrapping_add(MOST);
     for specification in declared.attributes() {
-        let place = start.wrapping_add(entries.next_offset().0);
+        let begin = start.wrapping_add(entries.next_offset().0);
         let attribute = entries.read_attribute(*specification)?;
-        if specification.size(entries_encoding()).is_some() && may_change(&attribute.raw_value()) {
-            places.push(place)?;
+        let end = start.wrapping_add(entries.next_offset().0);
+        if begin == end {
+            continue;
         }
+        let value = attribute.raw_value();
+        if found.places.len() < most || is_address(&value) {
+            push_value(&mut found.places, info, begin, end, *specification, &value)?;
+        }
+        push_word(found, sizes, unit.version() < 5, begin, &attribute.value())?;
     }
     Ok(())
 }
 
-// An encoding, by which a width is known or not: which one it is makes no difference.
-fn entries_encoding() -> gimli_base::Encoding {
-    gimli_base::Encoding {
-        address_size: 8,
-        format: gimli_base::Format::Dwarf32,
-        version: 5,
-    }
-}
-
-// The places in the entries of a unit.
-fn places_of_unit(
-    alloc: Global,
+// Adds what is found in the entries of a unit.
+fn find_in_unit(
+    info: &[u8],
     unit: &UnitHeader<Slice<'_>>,
     table: &Abbreviations<Global>,
-    places: &mut Vec<usize>,
+    sizes: Sizes,
+    found: &mut Found,
 ) -> Result<()> {
-    let _ = alloc;
-    let Ok(mut entries) = unit.entries_raw(table, None) else {
-        return Ok(());
-    };
-    let start = unit.offset().0;
+    let mut entries = unit.entries_raw(table, None)?;
     for _ in 0..u64::MAX {
         if entries.is_empty() {
             break;
         }
-        places_of_entry(&mut entries, start, places)?;
+        find_in_entry(&mut entries, info, unit, sizes, found)?;
     }
     Ok(())
 }
 
-// The places in all entries, and those of the words in headers that name a table.
-fn places_of_info(
-    alloc: Global,
-    info: &[u8],
-    abbrev: &[u8],
-    places: &mut Vec<usize>,
-    words: &mut Vec<usize>,
-) -> Result<()> {
+// What is found in all units, and the words in their headers that name a table.
+fn find(alloc: Global, info: &[u8], abbrev: &[u8], sizes: Sizes) -> Result<Found> {
+    let mut found = Found {
+        places: Vec::new(alloc),
+        words: Vec::new(alloc),
+        starts: Vec::new(alloc),
+    };
     let debug_info = DebugInfo::new(info, LittleEndian);
     let debug_abbrev = DebugAbbrev::new(abbrev, LittleEndian);
     let mut units = debug_info.units();
@@ -231,87 +238,151 @@ fn places_of_info(
             break;
         };
         let word = if unit.version() < 5 { 6 } else { 8 };
-        words.push(unit.offset().0.wrapping_add(word))?;
+        found.words.push(Word {
+            at: unit.offset().0.wrapping_add(word),
+            size: sizes.abbrev,
+        })?;
         let table = unit.abbreviations(alloc, &debug_abbrev)?;
-        places_of_unit(alloc, &unit, &table, places)?;
+        find_in_unit(info, &unit, &table, sizes, &mut found)?;
     }
-    Ok(())
+    Ok(found)
 }
 
-// The places of the lowest bytes of words of 8 bytes that are no 0, from a place on and so many bytes apart.
-fn places_of_words(
-    alloc: Global,
-    bytes: &[u8],
-    start: usize,
-    step: usize,
-) -> std::result::Result<Vec<usize>, AllocError> {
-    let mut places = Vec::new(alloc);
-    let mut place = start;
-    for _ in 0..bytes.len() {
-        if place >= bytes.len() || bytes.len() - place < 8 {
-            break;
-        }
-        if bytes[place] != 0 || bytes[place + 1] != 0 || bytes[place + 2] != 0 {
-            places.push(place)?;
-        }
-        place = place.wrapping_add(step);
+// The bytes of the sections of a program; those that are not needed have none.
+#[derive(Drop)]
+struct Sections {
+    info: Vec<u8>,
+    abbrev: Vec<u8>,
+    aranges: Vec<u8>,
+    ranges: Vec<u8>,
+    rnglists: Vec<u8>,
+    loc: Vec<u8>,
+    loclists: Vec<u8>,
+    addr: Vec<u8>,
+}
+
+// The bytes of a section, or none where there is no such file or it is not needed.
+fn section(rt: &HostRuntime, name: &str, kind: &str, is_needed: bool) -> io::Result<Vec<u8>> {
+    if !is_needed {
+        return Ok(Vec::new(rt.alloc()));
     }
-    Ok(places)
+    let file = format!(in rt.alloc(); "{name}.{kind}")?;
+    match fs::read(rt, &file) {
+        Ok(bytes) => Ok(bytes),
+        Err(_) => Ok(Vec::new(rt.alloc())),
+    }
+}
+
+impl Sections {
+    fn load(rt: &HostRuntime, name: &str, needs: Needs) -> io::Result<Sections> {
+        Ok(Sections {
+            info: section(rt, name, "info", true)?,
+            abbrev: section(rt, name, "abbrev", true)?,
+            aranges: section(rt, name, "aranges", needs.tags)?,
+            ranges: section(rt, name, "ranges", needs.ranges)?,
+            rnglists: section(rt, name, "rnglists", needs.ranges)?,
+            loc: section(rt, name, "loc", needs.locations)?,
+            loclists: section(rt, name, "loclists", needs.locations)?,
+            addr: section(rt, name, "addr", needs.ranges || needs.locations)?,
+        })
+    }
+
+    // Copies of the sections, and the places in them.
+    fn copied(&self, alloc: Global, copies: u64, needs: Needs) -> Result<Input> {
+        let sizes = Sizes {
+            abbrev: self.abbrev.len(),
+            ranges: self.ranges.len(),
+            rnglists: self.rnglists.len(),
+            loc: self.loc.len(),
+            loclists: self.loclists.len(),
+            addr: self.addr.len(),
+        };
+        let Found {
+            places,
+            words,
+            starts,
+        } = find(alloc, &self.info, &self.abbrev, sizes)?;
+        let mut in_abbrev = Vec::new(alloc);
+        places_of_tables(&self.abbrev, needs.tags, &mut in_abbrev)?;
+        let mut in_ranges = Vec::new(alloc);
+        places_of_ranges(&self.ranges, &mut in_ranges)?;
+        let mut in_rnglists = Vec::new(alloc);
+        places_of_sets(&self.rnglists, false, &mut in_rnglists)?;
+        let in_loc = self.places_of_loc(alloc, &starts)?;
+        let mut in_loclists = Vec::new(alloc);
+        places_of_sets(&self.loclists, true, &mut in_loclists)?;
+        // (a section of ranges has one set here, which leads to the first unit)
+        let set = [Word {
+            at: 6,
+            size: self.info.len(),
+        }];
+        let mut in_aranges = Vec::new(alloc);
+        places_of_pairs(&self.aranges, &mut in_aranges)?;
+        let mut in_addr = Vec::new(alloc);
+        places_of_addresses(&self.addr, &mut in_addr)?;
+        Ok(Input {
+            info: Copies::made(alloc, &self.info, copies, &words, places)?,
+            abbrev: Copies::made(alloc, &self.abbrev, copies, &[], in_abbrev)?,
+            aranges: Copies::made(alloc, &self.aranges, copies, &set, in_aranges)?,
+            ranges: Copies::made(alloc, &self.ranges, copies, &[], in_ranges)?,
+            rnglists: Copies::made(alloc, &self.rnglists, copies, &[], in_rnglists)?,
+            loc: Copies::made(alloc, &self.loc, copies, &[], in_loc)?,
+            loclists: Copies::made(alloc, &self.loclists, copies, &[], in_loclists)?,
+            addr: Copies::made(alloc, &self.addr, copies, &[], in_addr)?,
+        })
+    }
+
+    // The places in the lists of `.debug_loc`; a list may be named more than once.
+    fn places_of_loc(&self, alloc: Global, starts: &[usize]) -> Result<Vec<Place>> {
+        let mut places = Vec::new(alloc);
+        let mut seen = Seen::new(alloc);
+        for start in starts {
+            if !self.loc.is_empty() && seen.is_new(*start as u64) {
+                places_of_locations(&self.loc, *start, &mut places)?;
+            }
+        }
+        Ok(places)
+    }
 }
 
 impl Input {
-    /// The sections of a program, with so many copies of its units, tables and sets of ranges.
-    pub(crate) fn load(rt: &HostRuntime, name: &str, copies: u64) -> io::Result<Input> {
-        let alloc = rt.alloc();
-        let info = section(rt, name, "info")?;
-        let abbrev = section(rt, name, "abbrev")?;
-        let aranges = section(rt, name, "aranges")?;
-        let addr = section(rt, name, "addr")?;
-        let mut places = Vec::new(alloc);
-        let mut words = Vec::new(alloc);
-        if places_of_info(alloc, &info, &abbrev, &mut places, &mut words).is_err() {
-            return Err(io::Error::from(io::ErrorKind::InvalidData));
+    /// The sections of a program that a job needs, with so many copies.
+    pub(crate) fn load(
+        rt: &HostRuntime,
+        name: &str,
+        copies: u64,
+        needs: Needs,
+    ) -> io::Result<Input> {
+        match Sections::load(rt, name, needs)?.copied(rt.alloc(), copies, needs) {
+            Ok(input) => Ok(input),
+            Err(_) => Err(io::Error::from(io::ErrorKind::InvalidData)),
         }
-        let mut all_info = repeated(alloc, &info, copies)?;
-        set_words(&mut all_info, &words, info.len(), abbrev.len(), copies);
-        let mut all_aranges = repeated(alloc, &aranges, copies)?;
-        set_words(&mut all_aranges, &[6], aranges.len(), info.len(), copies);
-        // (a section of ranges has one set here, whose pairs begin at 16)
-        let in_aranges = places_of_words(alloc, &aranges, 16, 16)?;
-        Ok(Input {
-            in_info: repeated_places(alloc, &places, info.len(), copies)?,
-            in_aranges: repeated_places(alloc, &in_aranges, aranges.len(), copies)?,
-            in_addr: places_of_words(alloc, &addr, 8, 8)?,
-            info: all_info,
-            abbrev: repeated(alloc, &abbrev, copies)?,
-            aranges: all_aranges,
-            ranges: section(rt, name, "ranges")?,
-            rnglists: section(rt, name, "rnglists")?,
-            loc: section(rt, name, "loc")?,
-            loclists: section(rt, name, "loclists")?,
-            addr,
-        })
     }
 
     /// Writes other values into the sections.
     pub(crate) fn vary(&mut self, random: &mut Random) {
-        vary_bytes(&mut self.info, &self.in_info, random);
-        vary_bytes(&mut self.aranges, &self.in_aranges, random);
-        vary_bytes(&mut self.addr, &self.in_addr, random);
+        self.info.vary(random);
+        self.abbrev.vary(random);
+        self.aranges.vary(random);
+        self.ranges.vary(random);
+        self.rnglists.vary(random);
+        self.loc.vary(random);
+        self.loclists.vary(random);
+        self.addr.vary(random);
     }
 
     /// The lists of the program.
     pub(crate) fn lists(&self) -> Lists<Slice<'_>> {
         Lists {
             ranges: RangeLists::new(
-                DebugRanges::new(&self.ranges, LittleEndian),
-                DebugRngLists::new(&self.rnglists, LittleEndian),
+                DebugRanges::new(&self.ranges.bytes, LittleEndian),
+                DebugRngLists::new(&self.rnglists.bytes, LittleEndian),
             ),
             locations: LocationLists::new(
-                DebugLoc::new(&self.loc, LittleEndian),
-                DebugLocLists::new(&self.loclists, LittleEndian),
+                DebugLoc::new(&self.loc.bytes, LittleEndian),
+                DebugLocLists::new(&self.loclists.bytes, LittleEndian),
             ),
-            addresses: DebugAddr::from(EndianSlice::new(&self.addr, LittleEndian)),
+            addresses: DebugAddr::from(EndianSlice::new(&self.addr.bytes, LittleEndian)),
         }
     }
 }

@@ -1,12 +1,15 @@
 //! The ranges and the locations of entries.
 
-use crate::fold::{mixed, refused};
+use crate::fold::{mixed, refused, with_ends};
+use crate::seen::Seen;
 use gimli_base::{
     DW_AT_addr_base, DW_AT_loclists_base, DW_AT_low_pc, DW_AT_rnglists_base, DebugAddr,
     DebugAddrBase, DebugLocListsBase, DebugRngListsBase, Encoding, LocationListsOffset,
     RangeListsOffset, Reader, ReaderOffset, Result,
 };
-use gimli_lists::{LocListIter, LocationLists, RangeLists, RngListIter};
+use gimli_lists::{
+    LocListIter, LocationLists, RangeLists, RawLocListEntry, RawRngListEntry, RngListIter,
+};
 use gimli_units::{AttributeValue, DebuggingInformationEntry};
 use std::alloc::Global;
 
@@ -16,6 +19,23 @@ pub(crate) struct Lists<R> {
     pub(crate) ranges: RangeLists<R>,
     pub(crate) locations: LocationLists<R>,
     pub(crate) addresses: DebugAddr<R>,
+}
+
+/// The offsets of the lists that were read in a pass.
+#[derive(Drop)]
+pub(crate) struct SeenLists {
+    ranges: Seen,
+    locations: Seen,
+}
+
+impl SeenLists {
+    /// None.
+    pub(crate) fn new(alloc: Global) -> Self {
+        SeenLists {
+            ranges: Seen::new(alloc),
+            locations: Seen::new(alloc),
+        }
+    }
 }
 
 /// Where a unit's addresses and lists begin, as its root says.
@@ -93,14 +113,14 @@ impl<R: Reader> Lists<R> {
         &self,
         bases: &Bases<R::Offset>,
         value: &AttributeValue<R>,
-    ) -> Option<RangeListsOffset<R::Offset>> {
+    ) -> Result<Option<RangeListsOffset<R::Offset>>> {
         match value {
-            AttributeValue::RangeListsRef(offset) => Some(RangeListsOffset(offset.0)),
-            AttributeValue::DebugRngListsIndex(index) => self
-                .ranges
-                .get_offset(bases.encoding, bases.rnglists, *index)
-                .ok(),
-            _ => None,
+            AttributeValue::RangeListsRef(offset) => Ok(Some(RangeListsOffset(offset.0))),
+            AttributeValue::DebugRngListsIndex(index) => {
+                let ranges = &self.ranges;
+                Ok(Some(ranges.get_offset(bases.encoding, bases.rnglists, *index)?))
+            }
+            _ => Ok(None),
         }
     }
 
@@ -109,73 +129,105 @@ impl<R: Reader> Lists<R> {
         &self,
         bases: &Bases<R::Offset>,
         value: &AttributeValue<R>,
-    ) -> Option<LocationListsOffset<R::Offset>> {
+    ) -> Result<Option<LocationListsOffset<R::Offset>>> {
         match value {
-            AttributeValue::LocationListsRef(offset) => Some(*offset),
-            AttributeValue::DebugLocListsIndex(index) => self
-                .locations
-                .get_offset(bases.encoding, bases.loclists, *index)
-                .ok(),
-            _ => None,
+            AttributeValue::LocationListsRef(offset) => Ok(Some(*offset)),
+            AttributeValue::DebugLocListsIndex(index) => {
+                let locations = &self.locations;
+                Ok(Some(locations.get_offset(bases.encoding, bases.loclists, *index)?))
+            }
+            _ => Ok(None),
         }
     }
 
-    /// A checksum with the ranges or the locations that a value names.
+    /// A checksum with the ranges or the locations that a value names, if their list is new.
     pub(crate) fn with_value(
         &self,
         sum: u64,
         bases: &Bases<R::Offset>,
         value: &AttributeValue<R>,
+        seen: &mut SeenLists,
     ) -> u64 {
-        let mut encoding = bases.encoding;
-        encoding.address_size = 8;
-        if let Some(offset) = self.range_list(bases, value) {
-            let ranges = &self.ranges;
-            return match ranges.ranges(
-                offset,
-                encoding,
-                bases.low_pc,
-                &self.addresses,
-                bases.addr,
-            ) {
-                Ok(mut list) => with_ranges(sum, &mut list),
-                Err(error) => refused(sum, error),
-            };
+        match self.with_resolved(sum, bases, value, seen) {
+            Ok(all) => all,
+            Err(error) => refused(sum, error),
         }
-        if let Some(offset) = self.location_list(bases, value) {
-            let locations = &self.locations;
-            return match locations.locations(
-                offset,
-                encoding,
-                bases.low_pc,
-                &self.addresses,
-                bases.addr,
-            ) {
-                Ok(mut list) => with_locations(sum, &mut list),
-                Err(error) => refused(sum, error),
-            };
-        }
-        sum
     }
 
-    /// A checksum with the entries, as they are written, of the list that a value names.
+    // The same, or the refusal of an offset.
+    fn with_resolved(
+        &self,
+        sum: u64,
+        bases: &Bases<R::Offset>,
+        value: &AttributeValue<R>,
+        seen: &mut SeenLists,
+    ) -> Result<u64> {
+        let mut encoding = bases.encoding;
+        encoding.address_size = 8;
+        let addresses = &self.addresses;
+        if let Some(offset) = self.range_list(bases, value)? {
+            if seen.ranges.is_new(offset.0.into_u64()) {
+                let ranges = &self.ranges;
+                let mut list = ranges.ranges(
+                    offset,
+                    encoding,
+                    bases.low_pc,
+                    addresses,
+                    bases.addr,
+                )?;
+                return Ok(with_ranges(sum, &mut list));
+            }
+        }
+        if let Some(offset) = self.location_list(bases, value)? {
+            if seen.locations.is_new(offset.0.into_u64()) {
+                let locations = &self.locations;
+                let mut list = locations.locations(
+                    offset,
+                    encoding,
+                    bases.low_pc,
+                    addresses,
+                    bases.addr,
+                )?;
+                return Ok(with_locations(sum, &mut list));
+            }
+        }
+        Ok(sum)
+    }
+
+    /// A checksum with the entries, as they are written, of the list that a value names, if the list
+    /// is new.
     pub(crate) fn with_raw(
         &self,
         sum: u64,
         bases: &Bases<R::Offset>,
         value: &AttributeValue<R>,
+        seen: &mut SeenLists,
     ) -> u64 {
-        if let Some(offset) = self.range_list(bases, value) {
-            return self
-                .with_raw_ranges(sum, bases.encoding, offset)
-                .unwrap_or(sum);
+        match self.with_written(sum, bases, value, seen) {
+            Ok(all) => all,
+            Err(error) => refused(sum, error),
         }
-        if let Some(offset) = self.location_list(bases, value) {
-            return self
-                .with_raw_locations(sum, bases.encoding, offset)
-                .unwrap_or(sum);
+    }
+
+    // The same, or the refusal of an offset.
+    fn with_written(
+        &self,
+        sum: u64,
+        bases: &Bases<R::Offset>,
+        value: &AttributeValue<R>,
+        seen: &mut SeenLists,
+    ) -> Result<u64> {
+        if let Some(offset) = self.range_list(bases, value)? {
+            if seen.ranges.is_new(offset.0.into_u64()) {
+                return self.with_raw_ranges(sum, bases.encoding, offset);
+            }
         }
-        sum
+        if let Some(offset) = self.location_list(bases, value)? {
+            if seen.locations.is_new(offset.0.into_u64()) {
+                return self.with_raw_locations(sum, bases.encoding, offset);
+            }
+        }
+        Ok(sum)
     }
 
     // The same of a list of ranges.
@@ -188,9 +240,10 @@ impl<R: Reader> Lists<R> {
         let mut list = self.ranges.raw_ranges(offset, encoding)?;
         let mut all = sum;
         for _ in 0..u64::MAX {
-            match list.next()? {
-                Some(_) => all = mixed(all, 1),
-                None => break,
+            match list.next() {
+                Ok(Some(entry)) => all = with_range_entry(all, &entry),
+                Ok(None) => break,
+                Err(error) => return Ok(refused(all, error)),
             }
         }
         Ok(all)
@@ -206,13 +259,62 @@ impl<R: Reader> Lists<R> {
         let mut list = self.locations.raw_locations(offset, encoding)?;
         let mut all = sum;
         for _ in 0..u64::MAX {
-            match list.next()? {
-                Some(_) => all = mixed(all, 1),
-                None => break,
+            match list.next() {
+                Ok(Some(entry)) => all = with_location_entry(all, &entry),
+                Ok(None) => break,
+                Err(error) => return Ok(refused(all, error)),
             }
         }
         Ok(all)
     }
+}
+
+// A checksum with the kind of an entry and its two numbers.
+fn with_numbers(sum: u64, kind: u64, first: u64, second: u64) -> u64 {
+    mixed(mixed(mixed(sum, kind), first), second)
+}
+
+// A checksum with an entry of a list of ranges, as it is written.
+fn with_range_entry<O: ReaderOffset>(sum: u64, entry: &RawRngListEntry<O>) -> u64 {
+    let (kind, first, second) = match entry {
+        RawRngListEntry::AddressOrOffsetPair { begin, end } => (1, *begin, *end),
+        RawRngListEntry::BaseAddress { addr } => (2, *addr, 0),
+        RawRngListEntry::BaseAddressx { addr } => (3, addr.0.into_u64(), 0),
+        RawRngListEntry::StartxEndx { begin, end } => (4, begin.0.into_u64(), end.0.into_u64()),
+        RawRngListEntry::StartxLength { begin, length } => (5, begin.0.into_u64(), *length),
+        RawRngListEntry::OffsetPair { begin, end } => (6, *begin, *end),
+        RawRngListEntry::StartEnd { begin, end } => (7, *begin, *end),
+        RawRngListEntry::StartLength { begin, length } => (8, *begin, *length),
+    };
+    with_numbers(sum, kind, first, second)
+}
+
+// A checksum with an entry of a list of locations, as it is written.
+fn with_location_entry<R: Reader>(sum: u64, entry: &RawLocListEntry<R>) -> u64 {
+    let (kind, first, second, expr) = match entry {
+        RawLocListEntry::AddressOrOffsetPair { begin, end, expr } => (1, *begin, *end, expr),
+        RawLocListEntry::BaseAddress { addr } => return with_numbers(sum, 2, *addr, 0),
+        RawLocListEntry::BaseAddressx { addr } => {
+            return with_numbers(sum, 3, addr.0.into_u64(), 0);
+        }
+        RawLocListEntry::StartxEndx { begin, end, expr } => {
+            (4, begin.0.into_u64(), end.0.into_u64(), expr)
+        }
+        RawLocListEntry::StartxLength {
+            begin,
+            length,
+            expr,
+        } => (5, begin.0.into_u64(), *length, expr),
+        RawLocListEntry::OffsetPair { begin, end, expr } => (6, *begin, *end, expr),
+        RawLocListEntry::DefaultLocation { expr } => (7, 0, 0, expr),
+        RawLocListEntry::StartEnd { begin, end, expr } => (8, *begin, *end, expr),
+        RawLocListEntry::StartLength {
+            begin,
+            length,
+            expr,
+        } => (9, *begin, *length, expr),
+    };
+    with_ends(with_numbers(sum, kind, first, second), &expr.0)
 }
 
 // A checksum with the ranges of a list.
@@ -237,7 +339,7 @@ fn with_locations<R: Reader>(sum: u64, locations: &mut LocListIter<R>) -> u64 {
         match locations.next() {
             Ok(Some(entry)) => {
                 let range = mixed(mixed(all, entry.range.begin), entry.range.end);
-                all = mixed(range, entry.expr.0.len().into_u64());
+                all = with_ends(range, &entry.expr.0);
             }
             Ok(None) => break,
             Err(error) => return refused(all, error),

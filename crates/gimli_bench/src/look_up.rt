@@ -3,7 +3,7 @@
 
 use crate::fold::{mixed, refused};
 use crate::input::{Input, Random};
-use crate::lists::{Bases, Lists};
+use crate::lists::{Bases, Lists, SeenLists};
 use crate::values::with_entry;
 use gimli_base::{
     Abbreviations, DW_AT_high_pc, DW_AT_low_pc, DW_AT_ranges, DW_TAG_class_type, DW_TAG_namespace,
@@ -22,8 +22,9 @@ fn with_function<R: Reader>(
     lists: &Lists<R>,
     bases: &Bases<R::Offset>,
     entry: &DebuggingInformationEntry<R, Global>,
+    seen: &mut SeenLists,
 ) -> u64 {
-    let mut all = with_entry(sum, entry);
+    let mut all = sum;
     if let Some(value) = entry.attr_value(DW_AT_low_pc) {
         if let Some(address) = lists.address(bases, &value) {
             all = mixed(all, address);
@@ -33,54 +34,62 @@ fn with_function<R: Reader>(
         }
     }
     if let Some(value) = entry.attr_value(DW_AT_ranges) {
-        all = lists.with_value(all, bases, &value);
+        all = lists.with_value(all, bases, &value, seen);
     }
     all
 }
 
-// A checksum with an entry that is passed, or that of a function.
+// A checksum with an entry and, if it is a function, where its code lies.
 fn with_child<R: Reader>(
     sum: u64,
     lists: &Lists<R>,
     bases: &Bases<R::Offset>,
     entry: &DebuggingInformationEntry<R, Global>,
+    seen: &mut SeenLists,
 ) -> u64 {
+    let all = with_entry(sum, entry);
     if entry.tag() == DW_TAG_subprogram {
-        with_function(sum, lists, bases, entry)
+        with_function(all, lists, bases, entry, seen)
     } else {
-        mixed(sum, u64::from(entry.tag().0))
+        all
     }
 }
 
-// A checksum with the root of a unit and its children, from sibling to sibling.
+// A checksum with the root of a unit and its children, from sibling to sibling, and where the unit's
+// addresses and lists begin.
 fn with_children<R: Reader>(
     alloc: Global,
     sum: u64,
     unit: &UnitHeader<R>,
     table: &Abbreviations<Global>,
     lists: &Lists<R>,
-) -> Result<u64> {
+    seen: &mut SeenLists,
+) -> Result<(u64, Bases<R::Offset>)> {
     let mut cursor = unit.entries(alloc, table);
     let mut bases = Bases::none(unit.encoding());
     let mut all = sum;
     match cursor.next_dfs()? {
         Some(root) => {
             bases = lists.bases(unit.encoding(), root);
-            all = with_function(all, lists, &bases, root);
+            all = with_function(with_entry(all, root), lists, &bases, root, seen);
         }
-        None => return Ok(all),
+        None => return Ok((all, bases)),
     }
     match cursor.next_dfs()? {
-        Some(child) => all = with_child(all, lists, &bases, child),
-        None => return Ok(all),
+        Some(child) => all = with_child(all, lists, &bases, child, seen),
+        None => return Ok((all, bases)),
     }
     for _ in 0..u64::MAX {
-        match cursor.next_sibling()? {
-            Some(child) => all = with_child(all, lists, &bases, child),
-            None => break,
+        match cursor.next_sibling() {
+            Ok(Some(child)) => all = with_child(all, lists, &bases, child, seen),
+            Ok(None) => break,
+            Err(error) => {
+                all = refused(all, error);
+                break;
+            }
         }
     }
-    Ok(all)
+    Ok((mixed(all, cursor.reads() as u64), bases))
 }
 
 // Whether functions are looked for among the children.
@@ -91,15 +100,17 @@ fn is_scope(tag: DwTag) -> bool {
     }
 }
 
-// A checksum with all functions in namespaces and types, by a tree of which the rest is passed.
+// A checksum with all functions in namespaces and types, by a tree of which the rest is passed. Where
+// the code of the root's own functions lies was asked before.
 fn with_scopes<R: Reader>(
     alloc: Global,
     sum: u64,
     unit: &UnitHeader<R>,
     table: &Abbreviations<Global>,
     lists: &Lists<R>,
+    bases: &Bases<R::Offset>,
+    seen: &mut SeenLists,
 ) -> Result<u64> {
-    let bases = Bases::none(unit.encoding());
     let mut walker = unit.entries_tree(alloc, table, None)?.walk(alloc);
     walker.root()?;
     walker.enter()?;
@@ -108,20 +119,32 @@ fn with_scopes<R: Reader>(
         if walker.list_count() == 0 {
             break;
         }
-        if !walker.next()? {
-            walker.leave();
-            continue;
+        match walker.next() {
+            Ok(true) => {}
+            Ok(false) => {
+                walker.leave();
+                continue;
+            }
+            Err(error) => {
+                all = refused(all, error);
+                break;
+            }
         }
+        let is_inner = walker.list_count() > 1;
         let mut scope = false;
         if let Some(entry) = walker.entry() {
-            all = with_child(all, lists, &bases, entry);
+            all = if is_inner {
+                with_child(all, lists, bases, entry, seen)
+            } else {
+                with_entry(all, entry)
+            };
             scope = is_scope(entry.tag());
         }
         if scope {
             walker.enter()?;
         }
     }
-    Ok(all)
+    Ok(mixed(all, walker.reads() as u64))
 }
 
 // A checksum with the functions of a unit.
@@ -131,10 +154,11 @@ fn with_unit<R: Reader>(
     unit: &UnitHeader<R>,
     debug_abbrev: &DebugAbbrev<R>,
     lists: &Lists<R>,
+    seen: &mut SeenLists,
 ) -> Result<u64> {
     let table = unit.abbreviations(alloc, debug_abbrev)?;
-    let all = with_children(alloc, sum, unit, &table, lists)?;
-    with_scopes(alloc, all, unit, &table, lists)
+    let (all, bases) = with_children(alloc, sum, unit, &table, lists, seen)?;
+    with_scopes(alloc, all, unit, &table, lists, &bases, seen)
 }
 
 // A checksum with the ranges of a set.
@@ -151,6 +175,11 @@ fn with_set<R: Reader>(sum: u64, set: &ArangeHeader<R>) -> u64 {
     all
 }
 
+// The units of so many addresses are looked for, each in a part of its own of all addresses.
+const LOOKED_FOR: u64 = 16;
+
+const PART: u64 = 0x2000;
+
 // A checksum with all sets, and with the units of some addresses.
 fn with_aranges<R: Reader>(
     sum: u64,
@@ -165,8 +194,8 @@ fn with_aranges<R: Reader>(
             None => break,
         }
     }
-    for _ in 0..16 {
-        let address = 0x1000 + random.below(0x20000);
+    for part in 0..LOOKED_FOR {
+        let address = 0x1000 + part * PART + random.below(PART);
         all = match unit_of_address(aranges, address)? {
             Some(offset) => mixed(all, offset.0.into_u64()),
             None => mixed(all, 1),
@@ -177,15 +206,16 @@ fn with_aranges<R: Reader>(
 
 /// A checksum of the functions of all units and their ranges, and of the units of addresses.
 pub(crate) fn checksum(alloc: Global, input: &Input, random: &mut Random) -> u64 {
-    let info = DebugInfo::new(&input.info, LittleEndian);
-    let abbrev = DebugAbbrev::new(&input.abbrev, LittleEndian);
+    let info = DebugInfo::new(&input.info.bytes, LittleEndian);
+    let abbrev = DebugAbbrev::new(&input.abbrev.bytes, LittleEndian);
     let lists = input.lists();
+    let mut seen = SeenLists::new(alloc);
     let mut units = info.units();
     let mut sum = 0u64;
     for _ in 0..u64::MAX {
         match units.next() {
             Ok(Some(unit)) => {
-                sum = match with_unit(alloc, sum, &unit, &abbrev, &lists) {
+                sum = match with_unit(alloc, sum, &unit, &abbrev, &lists, &mut seen) {
                     Ok(all) => all,
                     Err(error) => refused(sum, error),
                 };
@@ -194,7 +224,7 @@ pub(crate) fn checksum(alloc: Global, input: &Input, random: &mut Random) -> u64
             Err(error) => sum = refused(sum, error),
         }
     }
-    let aranges = DebugAranges::new(&input.aranges, LittleEndian);
+    let aranges = DebugAranges::new(&input.aranges.bytes, LittleEndian);
     match with_aranges(sum, &aranges, random) {
         Ok(all) => all,
         Err(error) => refused(sum, error),

@@ -3,22 +3,25 @@
 //!
 //! The words: a job (or `all`), how many copies of each program are read, how many times, a number that makes
 //! the inputs others of the same kind, and the names of programs, whose sections are the files
-//! `NAME.info`, `NAME.abbrev` and so on. Before each pass other values are written into the
-//! sections, so that no bytes are read twice.
+//! `NAME.info`, `NAME.abbrev` and so on. Before each pass other values are written into entries,
+//! tables and lists.
 #![tactic(auto)]
 
 mod awkward;
 mod check;
 mod fold;
 mod input;
+mod list_places;
 mod lists;
 mod look_up;
+mod places;
 mod read;
+mod seen;
 mod values;
 
 use crate::awkward::Awkward;
 use crate::fold::{folded, mixed};
-use crate::input::{Input, Random};
+use crate::input::{Input, Needs, Random};
 use gimli_base::{EndianSlice, LittleEndian};
 use gimli_walk::dump_text;
 use std::alloc::Global;
@@ -53,10 +56,31 @@ fn jobs_of(word: &str) -> &'static [Job] {
     }
 }
 
+// What a job asks for.
+fn needs_of(job: Job) -> Needs {
+    match job {
+        Job::LookUp => Needs {
+            tags: true,
+            ranges: true,
+            locations: false,
+        },
+        Job::Read | Job::Check => Needs {
+            tags: false,
+            ranges: true,
+            locations: true,
+        },
+        Job::List | Job::Awkward => Needs {
+            tags: false,
+            ranges: false,
+            locations: false,
+        },
+    }
+}
+
 // The lines of a dump, as a number.
 fn list(alloc: Global, input: &Input, text: &mut Vec<u8>) -> u64 {
     text.clear();
-    match dump_text(alloc, &input.info, &input.abbrev, text) {
+    match dump_text(alloc, &input.info.bytes, &input.abbrev.bytes, text) {
         Ok(status) => mixed(folded(text), u64::from(status)),
         Err(_) => 3,
     }
@@ -68,14 +92,14 @@ fn pass(alloc: Global, job: Job, input: &Input, text: &mut Vec<u8>, random: &mut
         Job::LookUp => look_up::checksum(alloc, input, random),
         Job::Read => read::checksum(
             alloc,
-            EndianSlice::new(&input.info, LittleEndian),
-            EndianSlice::new(&input.abbrev, LittleEndian),
+            EndianSlice::new(&input.info.bytes, LittleEndian),
+            EndianSlice::new(&input.abbrev.bytes, LittleEndian),
             &input.lists(),
         ),
         Job::Check => check::checksum(
             alloc,
-            EndianSlice::new(&input.info, LittleEndian),
-            EndianSlice::new(&input.abbrev, LittleEndian),
+            EndianSlice::new(&input.info.bytes, LittleEndian),
+            EndianSlice::new(&input.abbrev.bytes, LittleEndian),
             &input.lists(),
         ),
         Job::List | Job::Awkward => list(alloc, input, text),
@@ -94,7 +118,7 @@ fn passes(
     let alloc = rt.alloc();
     let mut inputs = Vec::new(alloc);
     for name in names {
-        inputs.push(Input::load(rt, name, copies)?)?;
+        inputs.push(Input::load(rt, name, copies, needs_of(job))?)?;
     }
     let mut text = Vec::new(alloc);
     let mut sum = 0u64;
@@ -118,8 +142,7 @@ fn awkward_passes(
     let mut sections = Awkward::made(alloc, copies, random)?;
     let mut sum = 0u64;
     for _ in 0..count {
-        sections.vary(random);
-        sum = mixed(sum, sections.checksum(alloc));
+        sum = mixed(sum, sections.pass(alloc, random));
     }
     Ok(sum)
 }

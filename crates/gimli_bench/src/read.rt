@@ -2,9 +2,10 @@
 //! and locations that attributes name.
 
 use crate::fold::{mixed, refused};
-use crate::lists::{Bases, Lists};
-use crate::values::{number_of, with_entry};
-use gimli_base::{Abbreviations, DebugAbbrev, Reader, Result};
+use crate::lists::{Bases, Lists, SeenLists};
+use crate::seen::Seen;
+use crate::values::{with_entry, with_name, with_value};
+use gimli_base::{Abbreviations, DebugAbbrev, Reader, ReaderOffset, Result};
 use gimli_headers::DebugInfo;
 use gimli_units::{AttributeValue, DebuggingInformationEntry, UnitHeader, UnitOffset};
 use std::alloc::Global;
@@ -12,70 +13,99 @@ use std::alloc::Global;
 // One reference in so many is followed.
 const FOLLOWED: usize = 8;
 
-// A checksum with an entry and its values; references that are to be followed are added to a list.
+// What is found in entries: the references of the unit, those of them that were followed, and the
+// lists of all units that were read.
+#[derive(Drop)]
+struct Found<Offset> {
+    references: Vec<UnitOffset<Offset>>,
+    followed: Seen,
+    lists: SeenLists,
+}
+
+// A checksum with an entry and its values; its references are added to those found.
 fn with_values<R: Reader>(
     sum: u64,
     entry: &DebuggingInformationEntry<R, Global>,
     lists: &Lists<R>,
     bases: &Bases<R::Offset>,
-    references: &mut Vec<UnitOffset<R::Offset>>,
+    found: &mut Found<R::Offset>,
 ) -> Result<u64> {
     let mut all = with_entry(sum, entry);
     for attribute in entry.attrs() {
         let value = attribute.value();
-        all = mixed(mixed(all, u64::from(attribute.name().0)), number_of(&value));
+        all = with_value(with_name(all, attribute), &value);
         match &value {
-            AttributeValue::UnitRef(offset) => references.push(*offset)?,
+            AttributeValue::UnitRef(offset) => found.references.push(*offset)?,
             AttributeValue::RangeListsRef(_)
             | AttributeValue::DebugRngListsIndex(_)
             | AttributeValue::LocationListsRef(_)
-            | AttributeValue::DebugLocListsIndex(_) => all = lists.with_value(all, bases, &value),
+            | AttributeValue::DebugLocListsIndex(_) => {
+                all = lists.with_value(all, bases, &value, &mut found.lists);
+            }
             _ => {}
         }
     }
     Ok(all)
 }
 
-// A checksum with all entries of a unit and their values; their references are added to a list.
+// A checksum with all entries of a unit and their values; their references are added to those found.
 fn with_entries<R: Reader>(
     alloc: Global,
     sum: u64,
     unit: &UnitHeader<R>,
     table: &Abbreviations<Global>,
     lists: &Lists<R>,
-    references: &mut Vec<UnitOffset<R::Offset>>,
+    found: &mut Found<R::Offset>,
 ) -> Result<u64> {
     let mut cursor = unit.entries(alloc, table);
     let mut bases = Bases::none(unit.encoding());
     let mut all = sum;
     if let Some(root) = cursor.next_dfs()? {
         bases = lists.bases(unit.encoding(), root);
-        all = with_values(all, root, lists, &bases, references)?;
+        all = with_values(all, root, lists, &bases, found)?;
     }
     for _ in 0..u64::MAX {
-        match cursor.next_dfs()? {
-            Some(entry) => all = with_values(all, entry, lists, &bases, references)?,
-            None => break,
+        match cursor.next_dfs() {
+            Ok(Some(entry)) => all = with_values(all, entry, lists, &bases, found)?,
+            Ok(None) => break,
+            Err(error) => {
+                all = refused(all, error);
+                break;
+            }
         }
     }
-    Ok(all)
+    Ok(mixed(all, cursor.reads() as u64))
 }
 
-// A checksum with the entries that references lead to.
+// The first of some references that was not followed yet.
+fn next_to_follow<O: ReaderOffset>(
+    references: &[UnitOffset<O>],
+    followed: &mut Seen,
+) -> Option<UnitOffset<O>> {
+    for offset in references {
+        if followed.is_new(offset.0.into_u64()) {
+            return Some(*offset);
+        }
+    }
+    None
+}
+
+// A checksum with the entries that references lead to, none of them twice.
 fn with_references<R: Reader>(
     alloc: Global,
     sum: u64,
     unit: &UnitHeader<R>,
     table: &Abbreviations<Global>,
-    references: &[UnitOffset<R::Offset>],
+    found: &mut Found<R::Offset>,
 ) -> u64 {
+    found.followed.clear();
     let mut all = sum;
-    for offset in references.iter().step_by(FOLLOWED) {
-        all = match unit.entry(alloc, table, *offset) {
-            Ok(entry) => mixed(
-                mixed(all, u64::from(entry.tag().0)),
-                entry.attrs().len() as u64,
-            ),
+    for references in found.references.chunks(FOLLOWED) {
+        let Some(offset) = next_to_follow(references, &mut found.followed) else {
+            continue;
+        };
+        all = match unit.entry(alloc, table, offset) {
+            Ok(entry) => mixed(with_entry(all, &entry), entry.attrs().len() as u64),
             Err(error) => refused(all, error),
         };
     }
@@ -97,16 +127,23 @@ fn with_tree<R: Reader>(
         if walker.list_count() == 0 {
             break;
         }
-        if !walker.next()? {
-            walker.leave();
-            continue;
+        match walker.next() {
+            Ok(true) => {}
+            Ok(false) => {
+                walker.leave();
+                continue;
+            }
+            Err(error) => {
+                all = refused(all, error);
+                break;
+            }
         }
         if let Some(entry) = walker.entry() {
             all = with_entry(all, entry);
         }
         walker.enter()?;
     }
-    Ok(all)
+    Ok(mixed(all, walker.reads() as u64))
 }
 
 // A checksum with a unit.
@@ -116,11 +153,12 @@ fn with_unit<R: Reader>(
     unit: &UnitHeader<R>,
     debug_abbrev: &DebugAbbrev<R>,
     lists: &Lists<R>,
+    found: &mut Found<R::Offset>,
 ) -> Result<u64> {
     let table = unit.abbreviations(alloc, debug_abbrev)?;
-    let mut references = Vec::new(alloc);
-    let entries = with_entries(alloc, sum, unit, &table, lists, &mut references)?;
-    let all = with_references(alloc, entries, unit, &table, &references);
+    found.references.clear();
+    let entries = with_entries(alloc, sum, unit, &table, lists, found)?;
+    let all = with_references(alloc, entries, unit, &table, found);
     with_tree(alloc, all, unit, &table)
 }
 
@@ -128,12 +166,17 @@ fn with_unit<R: Reader>(
 pub(crate) fn checksum<R: Reader>(alloc: Global, info: R, abbrev: R, lists: &Lists<R>) -> u64 {
     let debug_info = DebugInfo::from(info);
     let debug_abbrev = DebugAbbrev::from(abbrev);
+    let mut found = Found {
+        references: Vec::new(alloc),
+        followed: Seen::new(alloc),
+        lists: SeenLists::new(alloc),
+    };
     let mut units = debug_info.units();
     let mut sum = 0u64;
     for _ in 0..u64::MAX {
         match units.next() {
             Ok(Some(unit)) => {
-                sum = match with_unit(alloc, sum, &unit, &debug_abbrev, lists) {
+                sum = match with_unit(alloc, sum, &unit, &debug_abbrev, lists, &mut found) {
                     Ok(all) => all,
                     Err(error) => refused(sum, error),
                 };
