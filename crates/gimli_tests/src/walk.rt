@@ -5,3 +5,4 @@ mod faults;
 mod gathered;
 mod large;
 mod walks;
+mod writers;

@@ -7,7 +7,6 @@ pub mod Declared
 mod DigitsOnto
 pub mod Dumps
 pub mod Found
-mod GatheredLines
 pub mod Roots
 pub mod RowLines
 mod RowText

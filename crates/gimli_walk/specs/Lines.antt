@@ -1,7 +1,6 @@
 -- The lines that a walk writes (DWARF 5, 2.3).
 use Rattle.std.specs.Prelude.{◌≡◌, ℕ, Bool, true, false, ℤ, List, [], ◌∷◌, ◌++◌, codes, Option}
-use Rattle.std.specs.Prelude.{Some, None, ◌+◌, ◌==◌, length}
-use Rattle.std.specs.List.{concat, position}
+use Rattle.std.specs.List.{concat}
 use Rattle.std.specs.Io.KnownBytes.{Appends}
 use Rattle.std.specs.Fmt.{digits, signed_decimal, decimal}
 use Rattle.gimli_base.specs.declared.error.Error.TheVariants.{OutOfMemory}
@@ -27,10 +26,6 @@ row_line offset depth tag has_children =
     ++ (32
     ∷ (signed_decimal depth
     ++ (32 ∷ (hexadecimal tag ++ (32 ∷ (decimal (bit has_children) ++ 10 ∷ []))))))
-
--- how many bytes the first line has, its end among them, or what there is of it
-abbrev pub first_line : List ℕ → ℕ
-first_line bytes = elim (position (λ b. b == 10) bytes) [ Some n ↦ n + 1 | None ↦ length bytes ]
 
 abbrev pub end_line : List ℕ
 end_line = codes "end\n"

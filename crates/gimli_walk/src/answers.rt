@@ -50,9 +50,13 @@ fn write_answer<R: Reader, A: Allocator, W: Write>(
     write_outcome(out, outcome)?;
     let offset = cursor.offset().0.into_u64();
     let depth = cursor.depth();
+    let mut line = [b' '; 48];
     match cursor.current() {
-        Some(entry) => write_row(out, offset, depth, entry.tag().0, entry.has_children()),
-        None => write_row(out, offset, depth, 0, false),
+        Some(entry) => {
+            let tag = entry.tag();
+            write_row(out, &mut line, offset, depth, tag.0, entry.has_children())
+        }
+        None => write_row(out, &mut line, offset, depth, 0, false),
     }
 }
 

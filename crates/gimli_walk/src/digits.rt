@@ -14,9 +14,9 @@ fn glyph(digit: u64) -> u8
 
 /// Writes a byte just before `end`, and answers where it stands.
 #[inline(always)]
-pub(crate) fn put_byte(byte: u8, end: usize, line: &mut [u8; 96]) -> usize
+pub(crate) fn put_byte(byte: u8, end: usize, line: &mut [u8; 48]) -> usize
     requires room { 1 ≤ end }
-    requires within { end ≤ 96 }
+    requires within { end ≤ 48 }
     ensures room { end ≡ result + 1 }
     ensures value { drop result line.new ≡ byte ∷ drop end line.old }
 {
@@ -26,9 +26,9 @@ pub(crate) fn put_byte(byte: u8, end: usize, line: &mut [u8; 96]) -> usize
 
 // Writes the last two hexadecimal digits of a number, also where they are zeros.
 #[inline(always)]
-fn put_two(number: u64, end: usize, line: &mut [u8; 96]) -> usize
+fn put_two(number: u64, end: usize, line: &mut [u8; 48]) -> usize
     requires room { 2 ≤ end }
-    requires within { end ≤ 96 }
+    requires within { end ≤ 48 }
     ensures room { end ≡ result + 2 }
     ensures value { drop result line.new ≡ digit_glyph false (number / 16 % 16)
         ∷ digit_glyph false (number % 16) ∷ drop end line.old }
@@ -40,10 +40,10 @@ fn put_two(number: u64, end: usize, line: &mut [u8; 96]) -> usize
 // Writes a number below 256 in hexadecimal. Both digits are written, and the number begins behind
 // the first one where that is a zero.
 #[inline(always)]
-fn put_pair(number: u64, end: usize, line: &mut [u8; 96]) -> usize
+fn put_pair(number: u64, end: usize, line: &mut [u8; 48]) -> usize
     requires small { number < 256 }
     requires room { 2 ≤ end }
-    requires within { end ≤ 96 }
+    requires within { end ≤ 48 }
     ensures room { end ≤ result + 2 }
     ensures before { result ≤ end }
     ensures value { drop result line.new ≡ digits 16 false number ++ drop end line.old }
@@ -55,9 +55,9 @@ fn put_pair(number: u64, end: usize, line: &mut [u8; 96]) -> usize
 /// Writes a number in hexadecimal so that its last digit stands just before `end`, and answers
 /// where its first one stands.
 #[inline(always)]
-pub(crate) fn put_hexadecimal(number: u64, end: usize, line: &mut [u8; 96]) -> usize
+pub(crate) fn put_hexadecimal(number: u64, end: usize, line: &mut [u8; 48]) -> usize
     requires room { 17 ≤ end }
-    requires within { end ≤ 96 }
+    requires within { end ≤ 48 }
     ensures before { result ≤ end }
     ensures value { drop result line.new ≡ digits 16 false number ++ drop end line.old }
 {
@@ -72,9 +72,9 @@ pub(crate) fn put_hexadecimal(number: u64, end: usize, line: &mut [u8; 96]) -> u
 
 /// Writes a number of 16 bits in the same way, in at most four digits.
 #[inline(always)]
-pub(crate) fn put_short(number: u16, end: usize, line: &mut [u8; 96]) -> usize
+pub(crate) fn put_short(number: u16, end: usize, line: &mut [u8; 48]) -> usize
     requires room { 4 ≤ end }
-    requires within { end ≤ 96 }
+    requires within { end ≤ 48 }
     ensures room { end ≤ result + 4 }
     ensures before { result ≤ end }
     ensures value { drop result line.new ≡ digits 16 false number ++ drop end line.old }
@@ -89,9 +89,9 @@ pub(crate) fn put_short(number: u16, end: usize, line: &mut [u8; 96]) -> usize
 }
 
 // Writes a number in decimal.
-fn put_decimal(number: u64, end: usize, line: &mut [u8; 96]) -> usize
+fn put_decimal(number: u64, end: usize, line: &mut [u8; 48]) -> usize
     requires room { 20 ≤ end }
-    requires within { end ≤ 96 }
+    requires within { end ≤ 48 }
     ensures room { end ≤ result + 20 }
     ensures before { result ≤ end }
     ensures value { drop result line.new ≡ digits 10 false number ++ drop end line.old }
@@ -107,9 +107,9 @@ fn put_decimal(number: u64, end: usize, line: &mut [u8; 96]) -> usize
 
 // Writes a number of any length with its sign, in decimal.
 #[inline(never)]
-fn put_long_signed(number: isize, end: usize, line: &mut [u8; 96]) -> usize
+fn put_long_signed(number: isize, end: usize, line: &mut [u8; 48]) -> usize
     requires room { 21 ≤ end }
-    requires within { end ≤ 96 }
+    requires within { end ≤ 48 }
     ensures room { end ≤ result + 21 }
     ensures before { result ≤ end }
     ensures value { drop result line.new ≡ signed_decimal number ++ drop end line.old }
@@ -125,9 +125,9 @@ fn put_long_signed(number: isize, end: usize, line: &mut [u8; 96]) -> usize
 
 /// Writes a number with its sign in the same way, in decimal. One of a single digit takes no loop.
 #[inline(always)]
-pub(crate) fn put_signed(number: isize, end: usize, line: &mut [u8; 96]) -> usize
+pub(crate) fn put_signed(number: isize, end: usize, line: &mut [u8; 48]) -> usize
     requires room { 21 ≤ end }
-    requires within { end ≤ 96 }
+    requires within { end ≤ 48 }
     ensures room { end ≤ result + 21 }
     ensures before { result ≤ end }
     ensures value { drop result line.new ≡ signed_decimal number ++ drop end line.old }

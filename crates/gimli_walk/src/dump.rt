@@ -37,8 +37,7 @@ use std::result::Result as StdResult;
 /// section, and where that header is refused, all lines are written.
 ///
 /// Refusal: `WriteFault`, where `out` refuses a write. Nothing more is written then, and nothing is
-/// said of what was written before. Lines of rows are handed over together; where `out` does not
-/// take them so, that is no refusal, and they are handed over one by one.
+/// said of what was written before.
 pub fn dump_text<A: Allocator + Copy, W: Write>(
     alloc: A,
     info: &[u8],

@@ -9,7 +9,6 @@ mod cursor;
 mod digits;
 mod dump;
 mod find;
-mod gathered;
 mod letters;
 mod lines;
 mod locations;

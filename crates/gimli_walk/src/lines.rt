@@ -1,6 +1,6 @@
 //! The lines of a walk.
 
-ghost use Rattle.std.specs.Prelude.{◌≡◌, ◌-◌, ◌≤◌, OnOk, take, drop};
+ghost use Rattle.std.specs.Prelude.{◌≡◌, ◌≤◌, OnOk, drop};
 ghost use Rattle.std.specs.Io.KnownBytes.{Appends};
 ghost use Rattle.gimli_base.specs.Refusal.{number_of};
 ghost use Rattle.gimli_walk.specs.declared.lines.Stop.TheVariants.{Write as WriteStop};
@@ -32,20 +32,12 @@ impl From<WriteFault> for Stop {
     }
 }
 
-/// Puts the line of a row at the end of the first 48 bytes of a buffer, and answers where it begins.
-/// It has at most 45 bytes: 16 digits, a sign and 19 digits, 4 digits, the flag, three spaces and
-/// the end.
+// Puts the line of a row at the end of a buffer, and answers where it begins. It has at most 45
+// bytes: 16 digits, a sign and 19 digits, 4 digits, the flag, three spaces and the end.
 #[inline(always)]
-pub(crate) fn put_row(
-    offset: u64,
-    depth: isize,
-    tag: u16,
-    has_children: bool,
-    line: &mut [u8; 96],
-) -> usize
+fn put_row(offset: u64, depth: isize, tag: u16, has_children: bool, line: &mut [u8; 48]) -> usize
     ensures within { result ≤ 48 }
-    ensures value { take (48 - result) (drop result line.new)
-        ≡ row_line offset depth tag has_children }
+    ensures value { drop result line.new ≡ row_line offset depth tag has_children }
 {
     let flag = u8::from(has_children);
     let end = put_byte(b'\n', 48, line);
@@ -59,9 +51,10 @@ pub(crate) fn put_row(
 }
 
 /// Writes the line of a row: its offset and tag in hexadecimal, its depth, and whether children
-/// follow. It is put together in a buffer and written at once.
+/// follow. It is put together in `line`, whatever stands there, and written at once.
 pub(crate) fn write_row<W: Write>(
     out: &mut W,
+    line: &mut [u8; 48],
     offset: u64,
     depth: isize,
     tag: u16,
@@ -71,10 +64,9 @@ pub(crate) fn write_row<W: Write>(
         (Appends (W.contents out.old) (W.contents out.new)
         (row_line offset depth tag has_children)) }
 {
-    let mut line = [b' '; 96];
-    let begin = put_row(offset, depth, tag, has_children, &mut line);
-    let text: &[u8] = &line;
-    out.write_all(&text[begin..48]).map_err(|_| WriteFault)
+    let begin = put_row(offset, depth, tag, has_children, line);
+    let text: &[u8] = line;
+    out.write_all(&text[begin..]).map_err(|_| WriteFault)
 }
 
 /// Writes the line after the last row.

@@ -12,8 +12,7 @@ ghost use Rattle.gimli_walk.specs.Lines.{Text};
 ghost use Rattle.gimli_walk.specs.Text.{Wrote, WroteAll, rows_text, unit_text};
 ghost use Rattle.gimli_walk.specs.Stops.{WroteUntil};
 
-use crate::gathered::Gathered;
-use crate::lines::{Stop, WriteFault, write_end, write_error, write_error_at};
+use crate::lines::{Stop, WriteFault, write_end, write_error, write_error_at, write_row};
 use gimli_base::{Abbreviation, Abbreviations, Error, Reader, ReaderOffset};
 use gimli_units::{EntriesRaw, UnitHeader};
 use std::alloc::Allocator;
@@ -35,8 +34,7 @@ fn head_parts<A: Allocator>(declared: Option<&Abbreviation<A>>) -> (u16, bool)
 }
 
 // Writes the lines of the rows that are left, and answers the status of their text. Of an entry only
-// the head is read, so that no memory is taken. Lines are gathered, and all have gone out at the
-// end.
+// the head is read, so that no memory is taken.
 fn write_rows_left<R: Reader, A: Allocator, W: Write>(
     entries: &mut EntriesRaw<'_, R, A>,
     out: &mut W,
@@ -46,24 +44,21 @@ fn write_rows_left<R: Reader, A: Allocator, W: Write>(
         let text = rows_text (ahead_at read entries.old.end entries.old.depth entries.old.rest) in
         WroteUntil (W.contents out.old) (W.contents out.new) text result }
 {
-    let mut lines = Gathered::new();
-    let mut line = [b' '; 96];
+    let mut line = [b' '; 48];
     'rows: while !entries.is_empty() {
         let offset = entries.next_offset().0.into_u64();
         let depth = entries.next_depth();
         match entries.read_head() {
             Ok(declared) => {
                 let (tag, has_children) = head_parts(declared);
-                lines.write_row(out, &mut line, offset, depth, tag, has_children)?;
+                write_row(out, &mut line, offset, depth, tag, has_children)?;
             }
             Err(error) => {
-                lines.send(out)?;
                 write_error_at(out, error, offset)?;
                 return Ok(1);
             }
         }
     }
-    lines.send(out)?;
     write_end(out)?;
     Ok(0)
 }

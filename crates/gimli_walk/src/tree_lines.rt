@@ -37,8 +37,10 @@ fn write_node<R: Reader, A: Allocator, W: Write>(
 {
     out.write_all(b"node ").map_err(|_| WriteFault)?;
     let offset = entry.offset().0.into_u64();
+    let mut line = [b' '; 48];
     write_row(
         out,
+        &mut line,
         offset,
         entry.depth(),
         entry.tag().0,

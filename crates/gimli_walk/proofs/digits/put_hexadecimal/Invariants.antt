@@ -4,7 +4,7 @@ use Rattle.gimli_walk.proofs.digits.put_hexadecimal.Given as goal
 
 abbrev pub invariant-pairs : goal.invariant-pairs
 invariant-pairs l =
-    (l.at ≤ l.end) × (l.end < l.at + 16) × (length l.line ≡ 96)
+    (l.at ≤ l.end) × (l.end < l.at + 16) × (length l.line ≡ 48)
     × (l.rest < 16 ^ (l.at + 16 - l.end))
     × (digits 16 false l.rest ++ drop l.at l.line
     ≡ digits 16 false l.number ++ drop l.end l.fn.line)

@@ -1,11 +1,9 @@
 use Rattle.std.proofs.Common.{◌≡◌, refl, rules, length, ap, ◌∙◌, ℤ, w64, to_z, of_z, Ok}
 use Rattle.std.specs.Option.{option_copied}
-use Rattle.std.specs.Io.KnownBytes.{append_known}
 use Rattle.std.proofs.lemmas.Int.{to_z-of_z}
 use Rattle.gimli_units.specs.Head.{Head}
 use Rattle.gimli_units.specs.RawPlace.{next_offset_of}
 use Rattle.gimli_units.proofs.HeadReads.{entry_of, refusal_of, entry_shorter}
-use Rattle.gimli_walk.proofs.GatheredLines.{gathered_then}
 use Rattle.gimli_walk.proofs.StoppedLines.{until_same}
 use Rattle.gimli_walk.proofs.RowLines.{place_text, rows_ended, rows_refused, rows_more}
 use Rattle.gimli_walk.proofs.rows.write_rows_left.Goals as goal
@@ -14,16 +12,14 @@ pub returns-in-Err : goal.returns-in-Err
 returns-in-Err g c =
     let limit = g.R.Offset.ReaderOffset.limit in
     let out = g.W.Write.contents c.rows.out in
-    let sent = g.W.Write.contents c.send.new.out in
     let new = g.W.Write.contents c.write_error_at.new.out in
     let p = c.rows.entries in
     let some : length p.rest.bytes ≡ 0 → ⊥ = search rules in
     let offset : c.into_u64-offset.result ≡ next_offset_of p = search rules in
     c.rows.invariant new (Ok 1)
-    (rows_refused limit (append_known out c.rows.lines) new p c.in-Err.error some
+    (rows_refused limit out new p c.in-Err.error some
     (refusal_of limit p c.in-Err.error c.in-Err.ensures.value)
-    (gathered_then out sent new c.rows.lines _ c.in_ok-send-in-Err.ensures.sent
-    (rw offset at c.in_ok-write_error_at-in-Err.ensures)))
+    (rw offset at c.in_ok-write_error_at-in-Err.ensures))
 
 pub rows-smaller : goal.rows-smaller
 rows-smaller g c =
@@ -53,19 +49,15 @@ rows-preserved g c = λ final written rest.
     let flag = c.head_parts-tag.ensures.flag ∙ ap (λ (x : Head). x.has_children) h.same in
     let line = rw (offset, back, depth, tag, flag) at c.in_ok-write_row-in-Ok.ensures in
     c.rows.invariant final written
-    (rows_more limit _
-    (append_known (g.W.Write.contents c.write_row.new.out) c.write_row.new.self) final p h.entry
-    q.rest written some h.reads line
+    (rows_more limit _ (g.W.Write.contents c.write_row.new.out) final p h.entry q.rest written some
+    h.reads line
     (until_same _ final _ _ written (ap (place_text limit) next) rest))
 
 pub returns : goal.returns
 returns g c =
     let limit = g.R.Offset.ReaderOffset.limit in
     let out = g.W.Write.contents c.rows.out in
-    let sent = g.W.Write.contents c.send-2.new.out in
     let new = g.W.Write.contents c.write_end.new.out in
     let none : length c.rows.entries.rest.bytes ≡ 0 = c.rows-test.ensures.0 refl in
     c.rows.invariant new (Ok 0)
-    (rows_ended limit (append_known out c.rows.lines) new c.rows.entries none
-    (gathered_then out sent new c.rows.lines _ c.in_ok-send.ensures.sent
-    c.in_ok-write_end.ensures))
+    (rows_ended limit out new c.rows.entries none c.in_ok-write_end.ensures)
