@@ -7,11 +7,12 @@ use Rattle.gimli_base.specs.declared.error.Error.{Error}
 use Rattle.gimli_base.specs.View.{View}
 use Rattle.gimli_base.specs.Reading.{Reads, eof}
 use Rattle.gimli_base.specs.Chain.{then_others, chain_within, chain}
-use Rattle.gimli_base.specs.Items.{Items, item_of_read, items_at, all_items, before, items_within}
-use Rattle.gimli_base.specs.Items.{ItemsSoFar}
+use Rattle.gimli_base.specs.Items.{Items, item_of_read, items_at, all_items}
 use Rattle.gimli_base.specs.View.{IsLater}
 use Rattle.gimli_base.proofs.Later.{LeavesLater, IsLater-trans, ok_leaves_later}
 use Rattle.gimli_base.proofs.Later.{err_leaves_later}
+-- what stands between two turns: the items so far, and those that are left
+pub use Rattle.gimli_base.specs.Items.{before, items_within, ItemsSoFar}
 
 pub items_begin : {A : Type 0} → (next : View → Reads (Option A)) (v : View)
     → ItemsSoFar next (items_at next v) [] v

@@ -2,9 +2,11 @@
 
 mod attribute;
 mod counting;
+mod declarations;
 mod entry;
 mod header;
 mod heads;
 mod hostile;
 mod samples;
 mod section;
+mod siblings;

@@ -24,6 +24,10 @@ with_first : {A : Type 0} → (a : A) (xs : List A) (r : Reads (List A))
 with_first a xs (Ok p) = ap (λ ys. Ok (ys, p.1)) (sym (append_assoc xs (a ∷ []) p.0))
 with_first a xs (Err e) = refl
 
+pub with_none : {A : Type 0} → (r : Reads (List A)) → r ≡ after [] r
+with_none (Ok p) = refl
+with_none (Err e) = refl
+
 -- a turn of the loop: the first i attributes are xs
 module _ (limit : ℕ) (encoding : Encoding) (ss : List Specification) (i : ℕ) (all v : View)
     (xs : List Attr)

@@ -7,9 +7,9 @@ use Rattle.gimli_base.specs.declared.error.Error.{Error}
 use Rattle.gimli_base.specs.View.{View}
 use Rattle.gimli_base.specs.Reading.{Reads, map_read}
 use Rattle.gimli_base.specs.Table.{codes_of}
-use Rattle.gimli_base.specs.Abbreviations.{Declaration}
-use Rattle.gimli_units.specs.Entry.{Entry}
-use Rattle.gimli_units.specs.Head.{Head, head, head_of, led_head, head_and_sibling}
+use Rattle.gimli_base.specs.Abbreviations.{Declaration, Map}
+use Rattle.gimli_units.specs.Entry.{Entry, abbreviation_at}
+use Rattle.gimli_units.specs.Head.{Head, head, head_of, led_head, head_and_sibling, IsDeclaredAt}
 use Rattle.gimli_units.specs.Kind.{kind_of}
 use Rattle.gimli_units.specs.Honest.{target}
 use Rattle.gimli_units.specs.RawPlace.{RawPlace, depth_read, depth_after}
@@ -104,3 +104,8 @@ refusal_of_head limit p x read = cases (next_of limit p p.rest) read
     cases : (r : Reads Entry) → Err x ≡ map_read head_and_sibling r → Err x ≡ r
     cases (Ok y) h = absurd (cc)
     cases (Err e) h = let same : x ≡ e = cc in ap Err same
+
+-- what was read of a code is the declaration that stands there
+pub declared_here : (declared : Map) (v w : View) (o : Option Declaration)
+    → Ok (o, w) ≡ abbreviation_at declared v → IsDeclaredAt declared v o
+declared_here declared v w o h = (w, h)

@@ -24,6 +24,8 @@ mod SkipTurns
 mod SizedReads
 mod ReadTurns
 mod SumReads
+mod RunReads
+mod RunTurns
 mod SiblingReads
 pub mod WalkerSteps
 pub mod RowSteps

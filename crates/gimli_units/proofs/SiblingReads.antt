@@ -2,12 +2,10 @@
 use Rattle.std.specs.Prelude.{◌≡◌, ℕ, suc, ◌+◌, ◌≤◌, ◌==◌, not, nat_lt, Bool, true, false, length}
 use Rattle.std.specs.Prelude.{if◌then◌else◌, List, [], ◌∷◌, take, drop, Option, Some, None, Ok, Err}
 use Rattle.std.specs.List.{position, position_or_len}
-use Rattle.std.proofs.Common.{refl, sym, ap, ◌∙◌, ◌-◌, arith, get_or, length-drop}
+use Rattle.std.proofs.Common.{refl, sym, ap, ◌∙◌, arith}
 use Rattle.std.proofs.lemmas.Bool.{ltb-false}
-use Rattle.std.proofs.lemmas.List.{drop_more, drop_all, take_all}
-use Rattle.std.proofs.lemmas.List.Quantifiers.{position-Some}
+use Rattle.std.proofs.lemmas.List.{drop_all, take_all}
 use Rattle.gimli_base.specs.declared.common.Encoding.{Encoding}
-use Rattle.gimli_base.specs.declared.error.Error.{Error}
 use Rattle.gimli_base.specs.View.{View}
 use Rattle.gimli_base.specs.Reading.{Reads, ◌>>=◌, map_read}
 use Rattle.gimli_base.specs.Abbreviations.{Specification}
@@ -87,14 +85,14 @@ after_two : (r : Passed) (f : View → Passed) (g : View → Reads (Option ℕ))
 after_two (Ok p) f g = refl
 after_two (Err e) f g = refl
 
--- those after the first n + 1, as a slice has them
-abbrev pub behind_it : List Specification → ℕ → List Specification
-behind_it ss n = take (length ss - (n + 1)) (drop (n + 1) ss)
-
-is_behind : (ss : List Specification) (n : ℕ) → behind_it ss n ≡ drop (n + 1) ss
-is_behind ss n =
-    let long : length (drop (n + 1) ss) ≡ length ss - (n + 1) = length-drop (n + 1) ss in
-    take_all (length ss - (n + 1)) (drop (n + 1) ss) (omega (arith, long))
+-- an attribute that is no reference to a sibling, and others
+pub sibling_after : (limit : ℕ) (e : Encoding) (s : Specification) (ss : List Specification) (v : View)
+    → is_sibling s ≡ false
+    → sibling_at limit e (s ∷ ss) v
+    ≡ (left_by (attribute_at limit e s v) >>= λ p. sibling_at limit e ss p.1)
+sibling_after limit e s ss v is =
+    one s false is limit e ss v
+    ∙ after_left (attribute_at limit e s v) (sibling_at limit e ss) (sibling_at limit e ss) (λ _. refl)
 
 module _ (limit : ℕ) (e : Encoding) where
   -- n attributes are passed, and the first reference is sought among the others
@@ -159,78 +157,15 @@ module _ (limit : ℕ) (e : Encoding) where
       follow (Ok q) = refl
       follow (Err x) = refl
 
-  one_there : (ss : List Specification) (v : View) (n : ℕ) (d : Specification)
-      → position is_sibling ss ≡ Some n → d ≡ get_or ss n d
-      → sibling_at limit e ss v
-      ≡ (left_by (attributes_at limit e (take n ss) v)
-      >>= λ p. map_read (λ a. unit_reference a.value) (attribute_at limit e d p.1)
-      >>= λ q. left_by (attributes_at limit e (drop (n + 1) ss) q.1) >>= λ w. Ok (q.0, w.1))
-  one_there ss v n d is item =
-      let place = position-Some is_sibling ss n d is in
-      let here : is_sibling d ≡ true = ap is_sibling item ∙ place.1 in
-      let m : ℕ = position_or_len is_sibling ss in
-      let same : m ≡ n = found (nat_lt m (length ss)) is in
-      let rest : drop n ss ≡ d ∷ drop (n + 1) ss
-      = drop_more ss n d place.0 ∙ ap (λ x. x ∷ drop (n + 1) ss) (sym item) in
-      passed_before ss v ∙ ap (λ k. sought k ss v) same
-      ∙ ap (λ fs. left_by (attributes_at limit e (take n ss) v)
-      >>= λ p. sibling_at limit e fs p.1) rest
-      ∙ each (left_by (attributes_at limit e (take n ss) v)) (sibling_at limit e (d ∷ drop (n + 1) ss))
-      (λ u. map_read (λ a. unit_reference a.value) (attribute_at limit e d u)
-      >>= λ q. left_by (attributes_at limit e (drop (n + 1) ss) q.1) >>= λ w. Ok (q.0, w.1))
-      (λ u. one d true here limit e (drop (n + 1) ss) u
-      ∙ referred (attribute_at limit e d u) (attributes_at limit e (drop (n + 1) ss)))
-    where
-      found : (t : Bool)
-          → ◌≡◌ {A = Option ℕ} (if t then Some (position_or_len is_sibling ss) else None) (Some n)
-          → position_or_len is_sibling ss ≡ n
-      found true h = cc
-      found false h = absurd (cc)
-
-      each : (r : Passed) (f g : View → Reads (Option ℕ)) → ((u : View) → f u ≡ g u)
-          → (r >>= λ p. f p.1) ≡ (r >>= λ p. g p.1)
-      each (Ok p) f g same = same p.1
-      each (Err x) f g same = refl
+  -- a reference to a sibling, and others, which are passed
+  pub sibling_there : (s : Specification) (ss : List Specification) (v : View) → is_sibling s ≡ true
+      → sibling_at limit e (s ∷ ss) v
+      ≡ (map_read (λ a. unit_reference a.value) (attribute_at limit e s v)
+      >>= λ q. left_by (attributes_at limit e ss q.1) >>= λ w. Ok (q.0, w.1))
+  sibling_there s ss v is =
+      one s true is limit e ss v ∙ referred (attribute_at limit e s v) (attributes_at limit e ss)
 
   pub no_reference : (ss : List Specification) (v w : View) (x : Unit {0})
       → None ≡ position is_sibling ss → Ok (x, w) ≡ left_by (attributes_at limit e ss v)
       → Ok (None, w) ≡ sibling_at limit e ss v
   no_reference ss v w x is h = sym (none_there ss v (sym is) ∙ rw (← h) refl)
-
-  pub refused_before : (ss : List Specification) (v : View) (n : ℕ) (r : Error)
-      → Some n ≡ position is_sibling ss
-      → Err r ≡ left_by (attributes_at limit e (take n ss) v) → Err r ≡ sibling_at limit e ss v
-  refused_before ss v n r is h =
-      let same : position_or_len is_sibling ss ≡ n = found (nat_lt (position_or_len is_sibling ss) (length ss)) (sym is) in
-      sym (passed_before ss v ∙ ap (λ k. sought k ss v) same ∙ rw (← h) refl)
-    where
-      found : (t : Bool)
-          → ◌≡◌ {A = Option ℕ} (if t then Some (position_or_len is_sibling ss) else None) (Some n)
-          → position_or_len is_sibling ss ≡ n
-      found true h = cc
-      found false h = absurd (cc)
-
-  -- where the reference stands
-  module _ (ss : List Specification) (v : View) (n : ℕ) (d : Specification)
-      (is : Some n ≡ position is_sibling ss) (item : d ≡ get_or ss n d) (x : Unit {0}) (u : View)
-      (before : Ok (x, u) ≡ left_by (attributes_at limit e (take n ss) v)) where
-    pub refused_there : (r : Error)
-        → Err r ≡ map_read (λ a. unit_reference a.value) (attribute_at limit e d u)
-        → Err r ≡ sibling_at limit e ss v
-    refused_there r h = sym (one_there ss v n d (sym is) item ∙ rw (← before) (rw (← h) refl))
-
-    pub refused_behind : (r : Error) (o : Option ℕ) (w : View)
-        → Ok (o, w) ≡ map_read (λ a. unit_reference a.value) (attribute_at limit e d u)
-        → Err r ≡ left_by (attributes_at limit e (behind_it ss n) w)
-        → Err r ≡ sibling_at limit e ss v
-    refused_behind r o w h k =
-        let l = k ∙ ap (λ fs. left_by (attributes_at limit e fs w)) (is_behind ss n) in
-        sym (one_there ss v n d (sym is) item ∙ rw (← before) (rw (← h) (rw (← l) refl)))
-
-    pub reference_there : (o : Option ℕ) (w z : View) (y : Unit {0})
-        → Ok (o, w) ≡ map_read (λ a. unit_reference a.value) (attribute_at limit e d u)
-        → Ok (y, z) ≡ left_by (attributes_at limit e (behind_it ss n) w)
-        → Ok (o, z) ≡ sibling_at limit e ss v
-    reference_there o w z y h k =
-        let l = k ∙ ap (λ fs. left_by (attributes_at limit e fs w)) (is_behind ss n) in
-        sym (one_there ss v n d (sym is) item ∙ rw (← before) (rw (← h) (rw (← l) refl)))

@@ -50,12 +50,6 @@ left_by_made f (Err e) = refl
 abbrev pub AreBytes : ℕ → View → Type 0
 AreBytes n v = n ≤ 8 → n ≤ length v.bytes → All (λ b. b < 256) (take n v.bytes)
 
-pub so_many : (n m : ℕ) (xs : List ℕ) → m ≡ n
-    → (n ≤ length xs → All (λ b. b < 256) (take n xs)) → m ≤ 8 → m ≤ length xs
-    → All (λ b. b < 256) (take m xs)
-so_many n m xs is h few le =
-    subst (λ k. All (λ b. b < 256) (take k xs)) (sym is) (h (omega (arith, is, le)))
-
 -- a number of n bytes is below 256 ^ n
 abbrev Below : List ℕ → Type 0
 Below xs = AllByRecursion (λ b. b < 256) xs

@@ -5,11 +5,15 @@ ghost use Rattle.std.specs.Prelude.{◌≡◌, ◌≤◌, ◌<◌, ◌==◌, ℕ
 ghost use Rattle.std.specs.List.{position};
 ghost use Rattle.std.specs.Option.{option_map};
 ghost use Rattle.gimli_base.specs.Offset.{answer_of};
-ghost use Rattle.gimli_base.specs.Reading.{read_of, map_read, skip_at, is_size, text_at};
+ghost use Rattle.gimli_base.specs.Reading.{read_of, map_read, is_size, text_at};
+ghost use Rattle.gimli_base.specs.View.{cut};
+ghost use Rattle.gimli_base.specs.Width.{form_size};
+ghost use Rattle.gimli_base.specs.Abbreviations.{IsWellFormed};
 ghost use Rattle.gimli_units.specs.Kind.{unit_reference, sibling_of};
 ghost use Rattle.gimli_units.specs.Entry.{attribute_at, attributes_at};
-ghost use Rattle.gimli_units.specs.Sized.{ReadsAny, PassesTogether, PassesByForm};
-ghost use Rattle.std.specs.Prelude.{Ok, true, false};
+ghost use Rattle.gimli_units.specs.Sized.{ReadsAny, PassesByForm, IsRoom, PassesAsOne, GoesOn};
+ghost use Rattle.gimli_units.specs.Sized.{IsThere};
+ghost use Rattle.std.specs.Prelude.{Ok, Some, ◌&&◌};
 
 use crate::UnitOffset;
 use crate::attribute::parse_attribute;
@@ -45,35 +49,59 @@ fn next_are_bytes<R: Reader, const N: usize>(input: &R)
     }
 }
 
-// The same of so many bytes as an offset may have.
+// How many bytes of values are passed together at most, where so many are left: as many as are looked
+// at together.
 #[inline(always)]
-fn so_many_are_bytes<R: Reader>(input: &R, count: u8)
-    ensures { let bytes = (R.view input.now).bytes in
-        count ≤ 8 → count ≤ length bytes → All (λ b. b < 256) (take count bytes) }
+fn room(left: u64) -> u64
+    ensures within { result ≤ left }
+    ensures step { IsRoom result }
 {
-    match count {
-        0 => next_are_bytes::<R, 0>(input),
-        1 => next_are_bytes::<R, 1>(input),
-        2 => next_are_bytes::<R, 2>(input),
-        3 => next_are_bytes::<R, 3>(input),
-        4 => next_are_bytes::<R, 4>(input),
-        5 => next_are_bytes::<R, 5>(input),
-        6 => next_are_bytes::<R, 6>(input),
-        7 => next_are_bytes::<R, 7>(input),
-        8 => next_are_bytes::<R, 8>(input),
-        _ => {}
+    if left >= 64 {
+        64
+    } else if left >= 32 {
+        32
+    } else if left >= 16 {
+        16
+    } else if left >= 8 {
+        8
+    } else {
+        0
     }
 }
 
-// Passes so many bytes; no offset that they make up is refused, since they are below 256.
+// The next bytes are below 256, of which there are no more than there is room for. They are looked at
+// by one read, which may take bytes after them as well; none are read where there are none.
 #[inline(always)]
-fn pass_bytes<R: Reader>(input: &mut R, count: u8) -> Result<()>
-    ensures value { read_of result (R.view input.new) ≡ skip_at count (R.view input.old) }
-    ensures bytes { let bytes = (R.view input.old).bytes in
-        count ≤ 8 → count ≤ length bytes → All (λ b. b < 256) (take count bytes) }
+fn so_many_are_bytes<R: Reader>(input: &R, size: u64)
+    ensures { let bytes = (R.view input.now).bytes in
+        (room : ℕ) → IsRoom room → size ≤ room → room ≤ length bytes →
+        All (λ b. b < 256) (take size bytes) }
 {
-    so_many_are_bytes(input, count);
-    input.skip(R::Offset::from_u8(count))
+    if size > 32 {
+        next_are_bytes::<R, 64>(input)
+    } else if size > 16 {
+        next_are_bytes::<R, 32>(input)
+    } else if size > 8 {
+        next_are_bytes::<R, 16>(input)
+    } else if size > 0 {
+        next_are_bytes::<R, 8>(input)
+    }
+}
+
+// Passes so many bytes of values together, for which there is room.
+#[inline(always)]
+fn pass_bytes<R: Reader>(input: &mut R, size: u64)
+    requires within { size ≤ 64 }
+    requires there { size ≤ length (R.view input.old).bytes }
+    ensures left { R.view input.new ≡ cut size (R.view input.old) }
+    ensures bytes { let bytes = (R.view input.old).bytes in
+        (room : ℕ) → IsRoom room → size ≤ room → room ≤ length bytes →
+        All (λ b. b < 256) (take size bytes) }
+{
+    so_many_are_bytes(input, size);
+    if size > 0 {
+        let _ = input.skip(R::Offset::from_u8(size as u8));
+    }
 }
 
 // Whether addresses of so many bytes can be read.
@@ -254,8 +282,99 @@ fn read_over<R: Reader>(
     Ok(())
 }
 
+// Whether a specification is a reference to a sibling, where one is sought.
+#[inline(always)]
+fn is_led(leads: bool, specification: &AttributeSpecification) -> bool
+    ensures { result ≡ (leads && specification.now.name.0 == 1) }
+{
+    leads && specification.name() == DW_AT_sibling
+}
+
+// The width of a value, where it is known and below `above`.
+#[inline(always)]
+fn width_below(
+    encoding: Encoding,
+    specification: &AttributeSpecification,
+    above: u16,
+) -> Option<u64>
+    ensures known { IfSome result (λ n. Some n ≡ form_size encoding specification.now.form.0) }
+    ensures below { IfSome result (λ n. n < above) }
+    ensures formed { IfSome result (λ _. IsWellFormed specification.now) }
+{
+    let width = specification.size(encoding)?;
+    // (it says that the form implicit_const has a number)
+    let _ = specification.implicit_const_value();
+    if (width as u16) < above {
+        Some(u64::from(width))
+    } else {
+        None
+    }
+}
+
+// The first values of a declaration, which are passed together: how many there are, and how many bytes
+// they have.
+#[derive(Clone, Copy)]
+struct Run {
+    count: usize,
+    size: u64,
+}
+
+// The first values that have known widths of which reading refuses none, and no more bytes together
+// than there is room for. Where `leads` is set, they end before a reference to a sibling.
+#[inline(always)]
+fn run_of<R: Reader>(
+    encoding: Encoding,
+    specifications: &[AttributeSpecification],
+    above: u16,
+    room: u64,
+    leads: bool,
+) -> Run
+    requires { (n : ℕ) → n < above → ReadsAny R.Offset.limit encoding n }
+    ensures within { result.count ≤ length specifications.now }
+    ensures room { result.size ≤ room }
+    ensures passed { PassesAsOne R.Offset.limit encoding leads specifications.now result.count
+        result.size }
+{
+    let mut run = Run { count: 0, size: 0 };
+    'run: for specification in specifications {
+        if is_led(leads, specification) {
+            break;
+        }
+        let Some(width) = width_below(encoding, specification, above) else {
+            break;
+        };
+        if width > room - run.size {
+            break;
+        }
+        run.count += 1;
+        run.size += width;
+    }
+    run
+}
+
+// Passes the first values of these specifications together, and answers the specifications behind
+// them.
+#[inline(always)]
+fn pass_run<'s, R: Reader>(
+    input: &mut R,
+    encoding: Encoding,
+    specifications: &'s [AttributeSpecification],
+    above: u16,
+    leads: bool,
+) -> &'s [AttributeSpecification]
+    requires { (n : ℕ) → n < above → ReadsAny R.Offset.limit encoding n }
+    ensures within { length result.now ≤ length specifications.now }
+    ensures passed { GoesOn R.Offset.limit encoding leads specifications.now result.now
+        (R.view input.old) (R.view input.new) }
+{
+    let room = room(input.len().into_u64());
+    let run = run_of::<R>(encoding, specifications, above, room, leads);
+    pass_bytes(input, run.size);
+    &specifications[run.count..]
+}
+
 /// Passes what `parse_attributes` reads, with the same refusals; where one is refused, the input is
-/// left anywhere.
+/// left anywhere. Values of known widths are passed together.
 #[inline(always)]
 pub(crate) fn pass_as_read<R: Reader>(
     input: &mut R,
@@ -267,36 +386,33 @@ pub(crate) fn pass_as_read<R: Reader>(
         (attributes_at R.Offset.limit encoding specifications.now (R.view input.old)) }
 {
     let above = above_any::<R>(encoding);
-    'specifications: for specification in specifications {
-        if let Some(size) = specification.size(encoding)
-            && (size as u16) < above
-        {
-            // (it says that the form implicit_const has a number)
-            let _ = specification.implicit_const_value();
-            pass_bytes(input, size)?;
-            continue;
-        }
+    let mut left = specifications;
+    'runs: loop {
+        left = pass_run(input, encoding, left, above, false);
+        let Some((specification, behind)) = left.split_first() else {
+            return Ok(());
+        };
         pass_value(input, encoding, specification)?;
+        left = behind;
     }
-    Ok(())
 }
 
-// How many bytes of attributes are passed together at most: so many are looked at.
-const TOGETHER: u64 = 64;
-
-// Passes so many bytes of attributes of known sizes together, where reading refuses no value that is
-// there; where it answers false, nothing is passed.
+// Whether reading refuses none of the values of a declaration, since their bytes are there, and how
+// many bytes they have.
 #[inline(always)]
-fn pass_together<R: Reader>(input: &mut R, encoding: Encoding, size: u64) -> bool
-    ensures passed { result ≡ true →
-        PassesTogether R.Offset.limit encoding size (R.view input.old) (R.view input.new) }
-    ensures kept { result ≡ false → R.view input.new ≡ R.view input.old }
+fn size_there<R: Reader, A: Allocator>(
+    input: &R,
+    encoding: Encoding,
+    declared: &Abbreviation<A>,
+) -> Option<u64>
+    ensures { IfSome result
+        (λ n. IsThere R.Offset.limit encoding declared.now.attributes n (R.view input.now)) }
 {
-    if size > TOGETHER || input.len().into_u64() < TOGETHER || above_any::<R>(encoding) < 256 {
-        return false;
+    let size = declared.attributes_size(encoding)?;
+    if size > room(input.len().into_u64()) || above_any::<R>(encoding) < 256 {
+        return None;
     }
-    next_are_bytes::<R, 64>(input);
-    input.skip(R::Offset::from_u8(size as u8)).is_ok()
+    Some(size)
 }
 
 /// Passes what reading the attributes of a declaration's entry reads, with the same refusals; where
@@ -312,19 +428,19 @@ pub(crate) fn pass_declared<R: Reader, A: Allocator>(
         ≡ map_read (λ _. tt)
         (attributes_at R.Offset.limit encoding declared.now.attributes (R.view input.old)) }
 {
-    if let Some(size) = declared.attributes_size(encoding) {
-        if pass_together(input, encoding, size) {
-            return Ok(());
+    match size_there(input, encoding, declared) {
+        Some(size) => {
+            pass_bytes(input, size);
+            Ok(())
         }
+        None => pass_as_read(input, encoding, declared.attributes()),
     }
-    pass_as_read(input, encoding, declared.attributes())
 }
 
 // Which specification is the first reference to a sibling, if one is.
 #[inline(always)]
 fn place_of_sibling(specifications: &[AttributeSpecification]) -> Option<usize>
-    ensures exact { result ≡ position (λ s. s.name.0 == 1) specifications.now }
-    ensures within { IfSome result (λ n. n < length specifications.now) }
+    ensures { result ≡ position (λ s. s.name.0 == 1) specifications.now }
 {
     specifications
         .iter()
@@ -368,6 +484,9 @@ fn read_reference<R: Reader>(
 
 /// Passes what `parse_attributes` reads, with the same refusals, and answers where the first
 /// reference to a sibling leads; where one is refused, the input is left anywhere.
+///
+/// Before a value is read, no work grows with the declaration: all of it is looked at only where
+/// reading refuses none of its values.
 #[inline(always)]
 pub(crate) fn pass_but_sibling<R: Reader, A: Allocator>(
     input: &mut R,
@@ -380,16 +499,40 @@ pub(crate) fn pass_but_sibling<R: Reader, A: Allocator>(
         (attributes_at R.Offset.limit encoding declared.now.attributes (R.view input.old)) }
 {
     let specifications = declared.attributes();
-    match place_of_sibling(specifications) {
-        Some(place) => {
-            pass_as_read(input, encoding, &specifications[..place])?;
-            let reference = reference_of(input, encoding, &specifications[place])?;
-            pass_as_read(input, encoding, &specifications[place + 1..])?;
-            Ok(reference)
-        }
-        None => {
-            pass_declared(input, encoding, declared)?;
+    match size_there(input, encoding, declared) {
+        Some(size) if place_of_sibling(specifications).is_none() => {
+            pass_bytes(input, size);
             Ok(None)
         }
+        _ => pass_up_to_sibling(input, encoding, specifications),
+    }
+}
+
+// The same, value by value.
+#[inline(always)]
+fn pass_up_to_sibling<R: Reader>(
+    input: &mut R,
+    encoding: Encoding,
+    specifications: &[AttributeSpecification],
+) -> Result<Option<UnitOffset<R::Offset>>>
+    ensures { read_of (answer_of (option_map (λ o. R.Offset.number o.0)) result)
+        (R.view input.new)
+        ≡ map_read sibling_of
+        (attributes_at R.Offset.limit encoding specifications.now (R.view input.old)) }
+{
+    let above = above_any::<R>(encoding);
+    let mut left = specifications;
+    'runs: loop {
+        left = pass_run(input, encoding, left, above, true);
+        let Some((specification, behind)) = left.split_first() else {
+            return Ok(None);
+        };
+        if is_led(true, specification) {
+            let reference = reference_of(input, encoding, specification)?;
+            pass_as_read(input, encoding, behind)?;
+            return Ok(reference);
+        }
+        pass_value(input, encoding, specification)?;
+        left = behind;
     }
 }

@@ -15,6 +15,7 @@ ghost use Rattle.gimli_units.specs.Value.{map_attribute};
 ghost use Rattle.gimli_units.specs.Entry.{attribute_at, attributes_at, abbreviation_at, entry_at};
 ghost use Rattle.gimli_units.specs.Entry.{entry_of, null_entry, is_null, takes_memory};
 ghost use Rattle.gimli_units.specs.Head.{head, head_of, led_head, head_and_sibling};
+ghost use Rattle.gimli_units.specs.Head.{IsDeclaredAt, sibling_below};
 ghost use Rattle.gimli_units.specs.Passing.{pass_all, without_place, NamesPlaceOf};
 ghost use Rattle.gimli_units.specs.RawPlace.{RawPlace, next_offset_of, below_flag, depth_read};
 ghost use Rattle.gimli_units.specs.RawPlace.{depth_after};
@@ -162,12 +163,8 @@ impl<'abbrev, R: Reader, A: Allocator> EntriesRaw<'abbrev, R, A> {
         let Some(count) = offset.0.checked_sub(self.next_offset().0) else {
             return;
         };
-        let mut rest = self.input.copy();
-        match rest.skip(count) {
-            Ok(()) => {
-                self.input = rest;
-                self.depth = new_depth;
-            }
+        match self.input.skip(count) {
+            Ok(()) => self.depth = new_depth,
             Err(_) => {}
         }
     }
@@ -307,6 +304,8 @@ impl<'abbrev, R: Reader, A: Allocator> EntriesRaw<'abbrev, R, A> {
         ensures value { let declared = codes_of self.old.abbreviations in
             read_of (answer_of (λ r. head_of (option_copied r)) result) self.new.rest
             ≡ map_read head (entry_at R.Offset.limit self.old.encoding declared self.old.rest) }
+        ensures declared { let declared = codes_of self.old.abbreviations in
+            IfOk result (λ r. IsDeclaredAt declared self.old.rest (option_copied r)) }
         ensures some { IfOk result (λ r. IfSome (option_copied r) (λ d. d.tag.0 ≢ 0)) }
         ensures depth { IfOk result
             (λ r. self.new.depth ≡ depth_read (option_copied r) self.old.depth) }
@@ -345,11 +344,60 @@ impl<'abbrev, R: Reader, A: Allocator> EntriesRaw<'abbrev, R, A> {
             self.new.rest
             ≡ map_read head_and_sibling
             (entry_at R.Offset.limit self.old.encoding declared self.old.rest) }
+        ensures declared { let declared = codes_of self.old.abbreviations in
+            IfOk result (λ r. IsDeclaredAt declared self.old.rest (option_copied r.0)) }
         ensures some { IfOk result (λ r. IfSome (option_copied r.0) (λ d. d.tag.0 ≢ 0)) }
         ensures depth { IfOk result
             (λ r. self.new.depth ≡ depth_read (option_copied r.0) self.old.depth) }
         ensures same { self.new ≡ record self.old { rest = self.new.rest; depth = self.new.depth } }
         ensures kept { OnErr result (self.new ≡ self.old) }
+    {
+        let mut rest = self.input.copy();
+        let Some(declared) = parse_abbreviation(&mut rest, self.abbreviations)? else {
+            self.go_behind_null(rest);
+            return Ok((None, None));
+        };
+        // (it says that the tag is not 0)
+        let _ = declared.tag();
+        let sibling = self.pass_behind(rest, declared)?;
+        Ok((Some(declared), sibling))
+    }
+
+    // The same as `read_head_and_sibling`, where a list of attributes that a cursor keeps gets room
+    // for those of the entry, as `read_entry` makes it. Refusals: `OutOfMemory` too.
+    #[inline(always)]
+    #[tactic(auto, unfolding(crate::specs::Entry::entry_at))]
+    pub(crate) fn pass_entry(
+        &mut self,
+        attrs: &mut Vec<Attribute<R>, A>,
+    ) -> Result<
+        (
+            Option<&'abbrev Abbreviation<A>>,
+            Option<UnitOffset<R::Offset>>,
+        ),
+    >
+        requires { attrs.old.items ≡ [] }
+        ensures value { let declared = codes_of self.old.abbreviations in
+            UnlessMemory result (read_of (answer_of (λ r.
+            led_head (option_copied r.0) (option_map (λ o. R.Offset.number o.0) r.1)) result)
+            self.new.rest
+            ≡ map_read head_and_sibling
+            (entry_at R.Offset.limit self.old.encoding declared self.old.rest)) }
+        ensures without_memory { let declared = codes_of self.old.abbreviations in
+            takes_memory (abbreviation_at declared self.old.rest) ≡ false
+            → read_of (answer_of (λ r.
+            led_head (option_copied r.0) (option_map (λ o. R.Offset.number o.0) r.1)) result)
+            self.new.rest
+            ≡ map_read head_and_sibling
+            (entry_at R.Offset.limit self.old.encoding declared self.old.rest) }
+        ensures declared { let declared = codes_of self.old.abbreviations in
+            IfOk result (λ r. IsDeclaredAt declared self.old.rest (option_copied r.0)) }
+        ensures some { IfOk result (λ r. IfSome (option_copied r.0) (λ d. d.tag.0 ≢ 0)) }
+        ensures depth { IfOk result
+            (λ r. self.new.depth ≡ depth_read (option_copied r.0) self.old.depth) }
+        ensures same { self.new ≡ record self.old { rest = self.new.rest; depth = self.new.depth } }
+        ensures kept { OnErr result (self.new ≡ self.old) }
+        ensures none { attrs.new.items ≡ [] }
     {
         let mut rest = self.input.copy();
         let Some(abbreviation) = parse_abbreviation(&mut rest, self.abbreviations)? else {
@@ -358,14 +406,37 @@ impl<'abbrev, R: Reader, A: Allocator> EntriesRaw<'abbrev, R, A> {
         };
         // (it says that the tag is not 0)
         let _ = abbreviation.tag();
+        attrs.reserve(abbreviation.attributes().len())?;
+        let sibling = self.pass_behind(rest, abbreviation)?;
+        Ok((Some(abbreviation), sibling))
+    }
+
+    // Passes the attributes of an entry, which begin in `rest`, and goes behind it. Answers where its
+    // sibling is, if it has children and says so.
+    #[inline(always)]
+    fn pass_behind(
+        &mut self,
+        mut rest: R,
+        abbreviation: &Abbreviation<A>,
+    ) -> Result<Option<UnitOffset<R::Offset>>>
+        requires shorter { length (R.view rest).bytes < length self.old.rest.bytes }
+        ensures value { read_of (answer_of (option_map (λ o. R.Offset.number o.0)) result)
+            self.new.rest
+            ≡ map_read (sibling_below abbreviation.now.has_children)
+            (attributes_at R.Offset.limit self.old.encoding abbreviation.now.attributes (R.view rest)) }
+        ensures depth { OnOk result
+            (self.new.depth ≡ below_flag abbreviation.now.has_children self.old.depth) }
+        ensures same { self.new ≡ record self.old { rest = self.new.rest; depth = self.new.depth } }
+        ensures kept { OnErr result (self.new ≡ self.old) }
+    {
         if abbreviation.has_children() {
             let sibling = pass_but_sibling(&mut rest, self.encoding, abbreviation)?;
             self.go_behind_entry(rest, true);
-            return Ok((Some(abbreviation), sibling));
+            return Ok(sibling);
         }
         pass_declared(&mut rest, self.encoding, abbreviation)?;
         self.go_behind_entry(rest, false);
-        Ok((Some(abbreviation), None))
+        Ok(None)
     }
 
     /// Reads the attribute of a specification.

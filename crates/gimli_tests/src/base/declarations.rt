@@ -1,6 +1,9 @@
-use crate::samples::{encoding, table_of};
-use gimli_base::{Abbreviation, AttributeSpecification, DwAt, DwForm, Encoding};
+use crate::samples::table_of;
+use gimli_base::{
+    Abbreviation, Abbreviations, AttributeSpecification, DwAt, DwForm, Encoding, Format,
+};
 use std::alloc::Global;
+use std::process::Abort;
 use std::test::Fail;
 
 // Codes 1 to 3: two bytes, the size of an address and none; these and a number in LEB128; no attribute.
@@ -17,6 +20,28 @@ fn are_equal_where_all_parts_are(rt: HostRuntime) {
     assert!(rt; made == same && made != other);
 }
 
+// The encodings: version 4 and version 5, with the narrowest and the widest addresses and offsets; and
+// version 2, whose ref_addr is as wide as an address, with others.
+const ENCODINGS: [(Format, u16, u8); 4] = [
+    (Format::Dwarf32, 4, 4),
+    (Format::Dwarf64, 5, 8),
+    (Format::Dwarf32, 2, 8),
+    (Format::Dwarf64, 2, 4),
+];
+
+// The bytes of values under each of these encodings, where they are known.
+type Widths = [Option<u64>; 4];
+
+// The forms addr, strp, ref_addr, data16, flag_present and udata, and the bytes of a value of each.
+const FORMS: [(u8, Widths); 6] = [
+    (0x01, [Some(4), Some(8), Some(8), Some(4)]),
+    (0x0e, [Some(4), Some(8), Some(4), Some(8)]),
+    (0x10, [Some(4), Some(8), Some(8), Some(4)]),
+    (0x1e, [Some(16), Some(16), Some(16), Some(16)]),
+    (0x19, [Some(0), Some(0), Some(0), Some(0)]),
+    (0x0f, [None, None, None, None]),
+];
+
 // The sizes of a declaration's attributes together, if each is known.
 fn sum_of(declared: &Abbreviation<Global>, encoding: Encoding) -> Option<u64> {
     let mut sum = 0u64;
@@ -26,19 +51,55 @@ fn sum_of(declared: &Abbreviation<Global>, encoding: Encoding) -> Option<u64> {
     Some(sum)
 }
 
+// Tries the declaration of a code, whose attributes have so many times these bytes together. Of more than
+// 65,535 attributes the bytes need not be known.
+fn tries_sizes(
+    rt: &impl Abort,
+    table: &Abbreviations<Global>,
+    code: u64,
+    (widths, times): (Widths, u32),
+) {
+    let declared = table.get(code).expect(rt, "declared");
+    let may_be_unknown = declared.attributes().len() > 65_535;
+    for ((format, version, address_size), width) in ENCODINGS.into_iter().zip(widths) {
+        let given = Encoding {
+            format,
+            version,
+            address_size,
+        };
+        let size = width.map(|width| width.saturating_mul(u64::from(times)));
+        let answer = declared.attributes_size(given);
+        assert!(rt; answer == size || may_be_unknown && answer.is_none());
+        assert_eq!(rt; sum_of(declared, given), size);
+    }
+}
+
+// The table of one declaration, with the code 1 and so many attributes of a form.
+fn table_with(alloc: Global, form: u8, count: u32) -> Result<Abbreviations<Global>, Fail> {
+    let mut bytes = Vec::from_slice(alloc, &[0x01, 0x34, 0x00])?;
+    for _ in 0..count {
+        bytes.extend_from_slice(&[0x3a, form])?;
+    }
+    bytes.extend_from_slice(&[0x00, 0x00, 0x00])?;
+    Ok(table_of(alloc, bytes.as_slice())?)
+}
+
 #[test]
 fn attributes_have_the_sum_of_their_sizes(rt: HostRuntime) -> Result<(), Fail> {
     let table = table_of(rt.alloc(), &TABLE)?;
-    for (code, address_size, size) in [
-        (1, 8, Some(10)),
-        (1, 4, Some(6)),
-        (2, 8, None),
-        (3, 8, Some(0)),
-    ] {
-        let declared = table.get(code).expect(&rt, "declared");
-        let given = encoding(4, address_size);
-        assert_eq!(rt; declared.attributes_size(given), size);
-        assert_eq!(rt; sum_of(declared, given), size);
+    tries_sizes(&rt, &table, 1, ([Some(6), Some(10), Some(10), Some(6)], 1));
+    tries_sizes(&rt, &table, 2, ([None, None, None, None], 1));
+    tries_sizes(&rt, &table, 3, ([Some(0), Some(0), Some(0), Some(0)], 1));
+    Ok(())
+}
+
+#[test]
+fn many_attributes_have_the_sum_of_their_sizes(rt: HostRuntime) -> Result<(), Fail> {
+    for (form, widths) in FORMS {
+        for count in [12, 13, 14, 65_535, 65_536] {
+            let table = table_with(rt.alloc(), form, count)?;
+            tries_sizes(&rt, &table, 1, (widths, count));
+        }
     }
     Ok(())
 }

@@ -2,7 +2,8 @@
 
 use crate::samples::encoding;
 use gimli_base::{
-    Abbreviations, AttributeSpecification, DwAt, DwForm, Reader, ReaderOffset, Result,
+    Abbreviations, AttributeSpecification, DwAt, DwForm, Encoding, Format, Reader, ReaderOffset,
+    Result,
 };
 use gimli_units::{Attribute, EntriesRaw, UnitOffset};
 use std::alloc::Global;
@@ -21,8 +22,26 @@ pub(crate) fn raw_over<'abbrev, R: Reader>(
     input: R,
     table: &'abbrev Abbreviations<Global>,
 ) -> EntriesRaw<'abbrev, R, Global> {
+    raw_in(encoding(4, 4), input, table)
+}
+
+/// The same under any encoding.
+pub(crate) fn raw_in<'abbrev, R: Reader>(
+    given: Encoding,
+    input: R,
+    table: &'abbrev Abbreviations<Global>,
+) -> EntriesRaw<'abbrev, R, Global> {
     let zero = UnitOffset(R::Offset::from_u8(0));
-    EntriesRaw::new(input, encoding(4, 4), table, zero)
+    EntriesRaw::new(input, given, table, zero)
+}
+
+/// A format, a version, and a number of bytes of an address.
+pub(crate) fn encoding_of((format, version, address_size): (Format, u16, u8)) -> Encoding {
+    Encoding {
+        format,
+        version,
+        address_size,
+    }
 }
 
 /// Reads an attribute.

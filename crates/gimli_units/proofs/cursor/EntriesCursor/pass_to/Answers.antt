@@ -18,8 +18,8 @@ stand-requires g c =
     let new : CursorView = passed_over here c.pass_on.new.raw in
     let follows : c.self.inside.follows ≡ c.args.self.now.follows =
     ap (λ (x : CursorView). x.follows) c.self.view_is in
-    let passed = rw follows at c.pass_on.ensures here in
-    rw (c.passing.invariant.kept, deep, c.next_offset-offset.ensures)
+    let passed = rw follows at c.pass_on.ensures.passed here in
+    rw (follows, deep, c.next_offset-offset.ensures)
     (sound_pass limit _ here c.pass_on.result new c.passing.invariant.passing.sound
     passed)
 
@@ -35,9 +35,9 @@ returns-in-Err-clause-refused g c =
     let new : CursorView = passed_over here c.pass_on.new.raw in
     let follows : c.self.inside.follows ≡ c.args.self.now.follows =
     ap (λ (x : CursorView). x.follows) c.self.view_is in
-    let passed = rw follows at c.pass_on.ensures here in
+    let passed = rw follows at c.pass_on.ensures.passed here in
     let same = to_z-of_z w64 c.args.sought c.ranges.sought in
-    rw (c.stand.ensures, c.passing.invariant.kept, deep, c.next_offset-offset.ensures)
+    rw (c.stand.ensures, follows, deep, c.next_offset-offset.ensures)
     (passing_out limit c.args.sought c.args.self.now here c.pass_on.result new
     (rw same at c.passing.invariant.passing) (rw same at passed) c.in-Err.refusal
     c.in-Err.is)
@@ -54,7 +54,7 @@ passing-smaller g c =
     let new : CursorView = passed_over here c.pass_on.new.raw in
     let follows : c.self.inside.follows ≡ c.args.self.now.follows =
     ap (λ (x : CursorView). x.follows) c.self.view_is in
-    let passed = rw follows at c.pass_on.ensures here in
+    let passed = rw follows at c.pass_on.ensures.passed here in
     passing_shorter limit _ c.args.self.now here c.pass_on.result new
     c.passing.invariant.passing.sound passed c.in-Ok.is
 
@@ -70,9 +70,9 @@ passing-preserved g c =
     let new : CursorView = passed_over here c.pass_on.new.raw in
     let follows : c.self.inside.follows ≡ c.args.self.now.follows =
     ap (λ (x : CursorView). x.follows) c.self.view_is in
-    let passed = rw follows at c.pass_on.ensures here in
+    let passed = rw follows at c.pass_on.ensures.passed here in
     record {
-      kept = c.passing.invariant.kept;
+      none = c.pass_on.ensures.none;
       passing =
           rw (deep, c.next_offset-offset.ensures)
           (passing_on limit _ c.args.self.now here c.pass_on.result new
@@ -88,6 +88,8 @@ returns-clause-passed g c =
     let here : CursorView =
     without_entry c.passing.raw (n c.passing.offset.0) (to_z w64 c.passing.depth-bits) c.args.self.now.follows
     c.passing.reads in
-    rw (c.stand-2.ensures, c.passing.invariant.kept)
+    let follows : c.self.inside.follows ≡ c.args.self.now.follows =
+    ap (λ (x : CursorView). x.follows) c.self.view_is in
+    rw (c.stand-2.ensures, follows)
     (passing_to limit c.args.sought c.args.self.now here (rw same at c.passing.invariant.passing)
     (rw same at c.is_before.ensures.same c.passing-test.false))

@@ -1,8 +1,9 @@
-use Rattle.std.proofs.Common.{arith, length, ap}
+use Rattle.std.proofs.Common.{arith, length, ap, rules}
 use Rattle.gimli_base.specs.View.{View}
 use Rattle.gimli_base.proofs.Later.{IsLater-length, made_leaves_later}
 use Rattle.gimli_units.specs.RawPlace.{RawPlace}
 use Rattle.gimli_units.proofs.EntryReads.{abbreviation_at-later, attributes_at-later}
+use Rattle.gimli_units.proofs.HeadReads.{declared_here}
 use Rattle.gimli_units.proofs.raw.EntriesRaw.read_head.Goals as goal
 
 pub go_behind_null-requires : goal.go_behind_null-requires
@@ -23,3 +24,13 @@ go_behind_entry-requires g c =
     let same = ap (λ (v : View). length v.bytes) c.copy-rest.ensures in
     let left = ap (λ (p : RawPlace). length p.rest.bytes) c.self.view_is in
     omega (arith, shorter, passed, same, left)
+
+pub returns-in_default-clause-declared : goal.returns-in_default-clause-declared
+returns-in_default-clause-declared g c =
+    let there = declared_here _ _ _ _ c.in_ok-declared.ensures in
+    search rules
+
+pub returns-clause-declared : goal.returns-clause-declared
+returns-clause-declared g c =
+    let there = declared_here _ _ _ _ c.in_ok-declared.ensures in
+    search rules

@@ -1,0 +1,33 @@
+use Rattle.std.proofs.Common.{arith, length, ap, rules}
+use Rattle.gimli_base.specs.View.{View}
+use Rattle.gimli_base.proofs.Later.{IsLater-length}
+use Rattle.gimli_units.specs.RawPlace.{RawPlace}
+use Rattle.gimli_units.proofs.EntryReads.{abbreviation_at-later}
+use Rattle.gimli_units.proofs.HeadReads.{declared_here}
+use Rattle.gimli_units.proofs.raw.EntriesRaw.pass_entry.Goals as goal
+
+pub go_behind_null-requires : goal.go_behind_null-requires
+go_behind_null-requires g c =
+    let shorter = IsLater-length 1 _ _
+    (abbreviation_at-later _ _ _ _ c.in_ok-abbreviation.ensures) in
+    let same = ap (λ (v : View). length v.bytes) c.copy-rest.ensures in
+    let left = ap (λ (p : RawPlace). length p.rest.bytes) c.self.view_is in
+    omega (arith, shorter, same, left)
+
+pub pass_behind-requires : goal.pass_behind-requires
+pass_behind-requires g c =
+    let shorter = IsLater-length 1 _ _
+    (abbreviation_at-later _ _ _ _ c.in_ok-abbreviation.ensures) in
+    let same = ap (λ (v : View). length v.bytes) c.copy-rest.ensures in
+    let left = ap (λ (p : RawPlace). length p.rest.bytes) c.self.view_is in
+    record { shorter = omega (arith, shorter, same, left) }
+
+pub returns-in_default-clause-declared : goal.returns-in_default-clause-declared
+returns-in_default-clause-declared g c =
+    let there = declared_here _ _ _ _ c.in_ok-abbreviation.ensures in
+    search rules
+
+pub returns-clause-declared : goal.returns-clause-declared
+returns-clause-declared g c =
+    let there = declared_here _ _ _ _ c.in_ok-abbreviation.ensures in
+    search rules
