@@ -292,11 +292,10 @@ impl<'abbrev, R: Reader, A: Allocator> EntriesCursor<'abbrev, R, A> {
         self.reads = reads;
     }
 
-    // Passes entries up to the first of a depth, or to the end of the bytes. It is never laid into a
-    // search, of which most have nothing to pass.
+    // Passes entries up to the first of a depth, or to the end of the bytes.
     //
     // What the cursor knows of its place is kept in registers, and written when all are passed.
-    #[inline(never)]
+    #[inline(always)]
     fn pass_to(&mut self, sought: isize) -> Result<()>
         requires sound { IsSound self.old }
         requires none { self.old.entry ≡ null_entry }

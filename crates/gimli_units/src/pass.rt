@@ -17,12 +17,12 @@ ghost use Rattle.std.specs.Prelude.{Ok, Some, ◌&&◌};
 
 use crate::UnitOffset;
 use crate::attribute::parse_attribute;
-use crate::form::{address, allow_section_offset, sized_block, uleb128_block, uleb128_offset};
+use crate::form::{uleb128_block, uleb128_offset};
 use gimli_base::{
     Abbreviation, AttributeSpecification, DW_AT_sibling, DW_FORM_GNU_addr_index,
-    DW_FORM_GNU_str_index, DW_FORM_addr, DW_FORM_addrx, DW_FORM_block1, DW_FORM_data8,
-    DW_FORM_exprloc, DW_FORM_loclistx, DW_FORM_ref_sig8, DW_FORM_ref_udata, DW_FORM_rnglistx,
-    DW_FORM_sdata, DW_FORM_string, DW_FORM_strx, DW_FORM_udata, Encoding, Format, Reader,
+    DW_FORM_GNU_str_index, DW_FORM_addrx,
+    DW_FORM_exprloc, DW_FORM_loclistx, DW_FORM_ref_udata, DW_FORM_rnglistx,
+    DW_FORM_sdata, DW_FORM_string, DW_FORM_strx, DW_FORM_udata, Encoding, Reader,
     ReaderOffset, Result,
 };
 use std::alloc::Allocator;
@@ -225,43 +225,6 @@ fn pass_apart<R: Reader>(
     Ok(())
 }
 
-// Passes an address, a number or a signature of eight bytes, which offsets of 32 bits may not hold, or
-// a short block; with any other form it answers false, and nothing is passed. Where it is refused, the
-// input is left anywhere.
-#[inline(always)]
-#[tactic(auto, unfolding(crate::specs::Form::direct_at, gimli_base::specs::Reading::sized_offset_at))]
-fn pass_eight<R: Reader>(
-    input: &mut R,
-    encoding: Encoding,
-    specification: &AttributeSpecification,
-) -> Result<bool>
-    ensures { PassesByForm R.Offset.limit encoding specification.now result (R.view input.old)
-        (R.view input.new) }
-{
-    match specification.form() {
-        DW_FORM_addr => {
-            let _ = address(input, encoding.address_size)?;
-        }
-        DW_FORM_data8 => {
-            if encoding.format == Format::Dwarf64
-                && allow_section_offset(specification.name(), encoding.version)
-            {
-                let _ = input.read_sized_offset(8)?;
-            } else {
-                let _ = input.read_u64()?;
-            }
-        }
-        DW_FORM_ref_sig8 => {
-            let _ = input.read_u64()?;
-        }
-        DW_FORM_block1 => {
-            let _ = sized_block(input, 1)?;
-        }
-        _ => return Ok(false),
-    }
-    Ok(true)
-}
-
 // Reads a value that is not wanted; where it is refused, the input is left anywhere.
 #[inline(never)]
 fn read_over<R: Reader>(
@@ -273,11 +236,6 @@ fn read_over<R: Reader>(
         ≡ map_read (λ _. tt)
         (attribute_at R.Offset.limit encoding specification.now (R.view input.old)) }
 {
-    // (it says that the form implicit_const has a number)
-    let _ = specification.implicit_const_value();
-    if pass_eight(input, encoding, specification)? {
-        return Ok(());
-    }
     let _ = parse_attribute(input, encoding, *specification)?;
     Ok(())
 }
