@@ -265,7 +265,7 @@ fn parse_listed<R: Reader, A: Allocator>(
 // to read a declaration, and more in a list of their own.
 #[derive(Drop)]
 struct Attributes<A: Allocator> {
-    // of all of them; they lie beside the tag
+    // of all of them
     sizes: Sizes,
     // above `FEW` where they are in the list
     count: u32,

@@ -329,7 +329,7 @@ impl<'abbrev, R: Reader, A: Allocator> EntriesCursor<'abbrev, R, A> {
     // are followed. At the end of the input the pair becomes `offset` and that depth.
     //
     // The attributes of an entry of another depth are passed, but for the reference: only an entry
-    // that may be answered is read as a whole. Memory is asked for at each, as if it was.
+    // that may be answered is read as a whole. Memory is asked for at each, as if it was read.
     pub(crate) fn seek(&mut self, offset: UnitOffset<R::Offset>, depth: isize) -> Result<bool>
         requires sound { IsSound self.old }
         requires shallow { unsigned_abs depth < 2 ^ 63 }

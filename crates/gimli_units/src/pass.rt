@@ -20,9 +20,8 @@ use crate::attribute::parse_attribute;
 use crate::form::{uleb128_block, uleb128_offset};
 use gimli_base::{
     Abbreviation, AttributeSpecification, DW_AT_sibling, DW_FORM_GNU_addr_index,
-    DW_FORM_GNU_str_index, DW_FORM_addrx,
-    DW_FORM_exprloc, DW_FORM_loclistx, DW_FORM_ref_udata, DW_FORM_rnglistx,
-    DW_FORM_sdata, DW_FORM_string, DW_FORM_strx, DW_FORM_udata, Encoding, Reader,
+    DW_FORM_GNU_str_index, DW_FORM_addrx, DW_FORM_exprloc, DW_FORM_loclistx, DW_FORM_ref_udata,
+    DW_FORM_rnglistx, DW_FORM_sdata, DW_FORM_string, DW_FORM_strx, DW_FORM_udata, Encoding, Reader,
     ReaderOffset, Result,
 };
 use std::alloc::Allocator;
