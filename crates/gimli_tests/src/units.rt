@@ -10,3 +10,4 @@ mod hostile;
 mod samples;
 mod section;
 mod siblings;
+mod told;

@@ -39,7 +39,7 @@ fn unit_bytes(alloc: Global, count: u16, entries: &[u8], last: u8) -> Result<Vec
     Ok(info)
 }
 
-// The line of a row, put together by `writeln!`.
+// The line of a row, put together by `write!`.
 fn line_of<R: Reader>(
     alloc: Global,
     entry: &DebuggingInformationEntry<R, Global>,
@@ -171,6 +171,11 @@ fn tries_refused(rt: &impl Abort, alloc: Global, info: &[u8], number: u64) {
         "where the request {number} is refused"
     );
     assert!(rt; text == apart, "where the request {number} is refused");
+    assert_eq!(rt;
+        text.capacity(),
+        apart.capacity(),
+        "where the request {number} is refused"
+    );
 }
 
 // Two writers, the second with room for so many bytes.
