@@ -1,6 +1,6 @@
 #!/usr/bin/env python3
 """hostile.py [--some N] PROGRAM: gives the rows of the tables of tests
-(crates/*_vectors/data/*.txt) to the C program hostile, which calls the library, and compares its
+(crates/gimli_vectors/data/*.txt) to the C program hostile, which calls the library, and compares its
 answers with those that the rows have.
 
 With --some about N of the cases are taken, from all tables. What a row says of calls that the
@@ -26,7 +26,7 @@ TYPES = {"compile": 1, "compilation": 1, "type": 2, "partial": 3, "skeleton": 4,
 # Rows of tables
 
 def read_bytes(text, names):
-    """The bytes of a section, as crates/test_tables says."""
+    """The bytes of a section, as crates/gimli_vectors says."""
     out = b""
     for word in text.split():
         if word.startswith("$"):
@@ -40,12 +40,12 @@ def read_bytes(text, names):
 
 
 class Row:
-    """A case of a table: its order, its words, the place of the first section, the sections and
-    the lines of its answer for offsets of 64 bits.
+    """A case of a table: whose calls the table names, its order, its words, the place of the first
+    section, the sections and the lines of its answer for offsets of 64 bits.
     """
 
-    def __init__(self, where, big, words, sections, answer):
-        self.where, self.big, self.sections, self.answer = where, big, sections, answer
+    def __init__(self, where, calls, big, words, sections, answer):
+        self.where, self.calls, self.big, self.sections, self.answer = where, calls, big, sections, answer
         self.words = [it for it in words if not it.startswith("@")]
         self.place = next((int(it[1:]) for it in words if it.startswith("@")), 0)
 
@@ -66,9 +66,12 @@ def expanded(line):
 
 
 def rows_of(path):
-    names = {}
+    names, calls = {}, "reads"
     for number, text in enumerate(path.read_text().splitlines(), 1):
         if not text or text.startswith("#"):
+            continue
+        if text.startswith("calls of "):
+            calls = text[len("calls of "):]
             continue
         named = re.match(r"(\w+) := ?(.*)", text)
         if named:
@@ -83,7 +86,7 @@ def rows_of(path):
                 orders = [False, True] if words.pop(0) == "each" else [True]
             lines = [it.strip() for it in answer.split(" | ")[0].strip().split("; ")]
             for big in orders:
-                yield Row(f"{path.name}:{number}", big, words, [read_bytes(it, names) for it in sections], lines)
+                yield Row(f"{path.name}:{number}", calls, big, words, [read_bytes(it, names) for it in sections], lines)
 
 
 # Cases for the program, each a line, with what is said of the lines of its answer
@@ -193,7 +196,7 @@ def words_cases(row):
     call, *files = [*row.words[1:], ""]
     files = [it for it in files if it]
     if call == "find" and files[0] in sections and re.fullmatch("[0-9a-f]{1,16}", files[1] if len(files) == 2 else ""):
-        row = Row(row.where, row.big, row.words, [sections[files[0]]], row.answer)
+        row = Row(row.where, row.calls, row.big, row.words, [sections[files[0]]], row.answer)
         yield find_case(row, int(files[1], 16), row.answer[0])
     elif len(files) >= 2 and all(it in sections for it in files[:2]):
         check = {"rows": rows_check, "dump": dump_check, "check": check_check}.get(call if len(files) == 2 else "")
@@ -468,7 +471,7 @@ def entries_check(row, offset):
 
 
 def header_check(row):
-    """Each unit of a section, up to the one that is refused, as gimli_vectors tells them."""
+    """Each unit of a section, up to the one that is refused, as the calls of reads tell them."""
     def check(answer):
         units, lines = answer.units(), [it for it in row.answer if it]
         refused = re.match(r"refused (\d+)", lines[-1]) if lines else None
@@ -556,7 +559,7 @@ def items_check(row, items, place):
 
 
 def lists_cases(row):
-    """`ranges`, `locations` and the like of gimli_vectors; with no base address the entries alone."""
+    """`ranges`, `locations` and the like of the calls of reads; with no base address the entries alone."""
     locations, dwo = "locations" in row.call, row.call.endswith("_dwo")
     numbers = [int(it, 0) for it in row.words[1:]]
     encoding, (base, table, offset) = numbers[:3], numbers[3:6] if len(numbers) > 4 else [0, 0, numbers[3]]
@@ -568,7 +571,7 @@ def lists_cases(row):
 
 
 def runs_cases(row):
-    """`ranges` and `locations` of gimli_walk_vectors: the table of addresses begins at 0, and
+    """`ranges` and `locations` of the calls of walks: the table of addresses begins at 0, and
     numbers are hexadecimal.
     """
     locations, dwo = "locations" in row.call, row.call.endswith("_dwo")
@@ -629,13 +632,13 @@ def walk_cases(row):
 
 
 def file_cases(row):
-    folder = ROOT / "crates/gimli_walk_vectors/data"
+    folder = ROOT / "crates/gimli_vectors/data"
     info, abbrev = ((folder / f"{row.words[2]}.{end}").read_bytes() for end in ("info", "abbrev"))
     if row.words[1] == "check":
         check = check_check(row)
     else:
         lines = (folder / f"{row.words[2]}.{row.words[1]}").read_text().split("\n")[:-1]
-        told = Row(row.where, row.big, row.words, [], lines + ["status 0"])
+        told = Row(row.where, row.calls, row.big, row.words, [], lines + ["status 0"])
         check = (rows_check if row.words[1] == "rows" else dump_check)(told)
     yield walk(row, info, abbrev), check
 
@@ -647,28 +650,27 @@ def section_cases(row):
 
 
 def cases_of(row):
-    calls = {"gimli_vectors": dict.fromkeys(("info", "types", "info_at", "cuts"), info_cases) | {"abbrev": abbreviation_cases}
+    calls = {"reads": dict.fromkeys(("info", "types", "info_at", "cuts"), info_cases) | {"abbrev": abbreviation_cases}
              | dict.fromkeys(("attribute", "inline", "debug", "texts", "names", "raw_names"), attribute_cases)
              | {"list": list_cases, "pass": list_cases, "entries": entries_cases, "entry": entries_cases, "find": walk_cases,
                 "abbreviations": walk_cases}
              | dict.fromkeys(("header", "range", "section_offset", "unit_offset", "tombstones", "lists_header"), section_cases)
              | dict.fromkeys(("ranges", "locations", "locations_dwo", "count_ranges"), lists_cases)
              | {"range_offset": offset_cases, "location_offset": offset_cases, "aranges": aranges_cases, "set": aranges_cases},
-             "gimli_walk_vectors": dict.fromkeys(("cursor", "plain", "cursor_at", "plain_at"), cursor_cases)
+             "walks": dict.fromkeys(("cursor", "plain", "cursor_at", "plain_at"), cursor_cases)
              | dict.fromkeys(("ranges", "locations", "locations_dwo"), runs_cases)
              | dict.fromkeys(("rows", "tree", "tree_at", "raw", "entries", "entry"), walk_cases)
              | {"words": words_cases, "file": file_cases, "units": section_cases, "type_units": section_cases},
-             "gimli_memory_vectors": dict.fromkeys(("cursor", "plain", "raw", "run_tree", "entry", "check", "run_cursor", "tree", "walker",
-                                                    "run_plain", "nodes", "clone", "units", "type_units", "clone_tree", "text"), walk_cases)}
-    case = calls[row.crate].get(row.call)
+             "memory": dict.fromkeys(("cursor", "plain", "raw", "run_tree", "entry", "check", "run_cursor", "tree", "walker",
+                                      "run_plain", "nodes", "clone", "units", "type_units", "clone_tree", "text"), walk_cases)}
+    case = calls[row.calls].get(row.call)
     return case(row) if case and (row.sections or row.call == "file") else ()
 
 
 def all_cases():
-    for path in sorted(ROOT.glob("crates/*_vectors/data/*.txt")):
+    for path in sorted(ROOT.glob("crates/gimli_vectors/data/*.txt")):
         for row in rows_of(path):
-            row.crate = path.parent.parent.name
-            if row.crate == "gimli_memory_vectors":
+            if row.calls == "memory":
                 row.answer = [""]
             for case, check in cases_of(row):
                 yield row.where, case, check

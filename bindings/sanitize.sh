@@ -7,7 +7,7 @@
 set -euo pipefail
 here=$(cd "$(dirname "$0")" && pwd)
 target=$here/target
-data=$here/../crates/gimli_walk_vectors/data
+data=$here/../crates/gimli_vectors/data
 export ASAN_OPTIONS=detect_leaks=0:exitcode=99 UBSAN_OPTIONS=exitcode=99
 mkdir -p "$target/checked"
 for program in rows attrs lists; do

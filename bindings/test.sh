@@ -4,7 +4,7 @@
 set -euo pipefail
 here=$(cd "$(dirname "$0")" && pwd)
 target=$here/target
-data=$here/../crates/gimli_walk_vectors/data
+data=$here/../crates/gimli_vectors/data
 "$target/lists"
 # gimli.pc is right where the tree moves, and the header is plain C99 and C++
 moved=$(mktemp -d)

@@ -12,8 +12,7 @@ struct File {
 }
 
 fn files() -> Vec<File> {
-    let here =
-        PathBuf::from(env!("CARGO_MANIFEST_DIR")).join("../../crates/gimli_walk_vectors/data");
+    let here = PathBuf::from(env!("CARGO_MANIFEST_DIR")).join("../../crates/gimli_vectors/data");
     let folder = env::var("VECTORS").map_or(here, PathBuf::from);
     let mut names: Vec<String> = fs::read_dir(&folder)
         .unwrap()

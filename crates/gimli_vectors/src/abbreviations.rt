@@ -2,6 +2,7 @@
 
 use crate::attributes::Raw;
 use crate::entries::{table_of, write_next};
+use crate::tables::{Call, Outcome, Stop, write_refusal};
 use crate::units::unit_of;
 use gimli_base::{
     Abbreviation, DebugAbbrev, DebugAbbrevOffset, Encoding, Format, Reader, ReaderOffset,
@@ -9,7 +10,6 @@ use gimli_base::{
 use gimli_units::{EntriesRaw, UnitOffset};
 use std::alloc::Global;
 use std::io::Write;
-use test_tables::{Call, Outcome, Stop, write_refusal};
 
 /// Writes the refusal of the table at an offset, or the declaration of each code that is asked for.
 pub(crate) fn write_abbreviations<R: Reader>(call: &Call<'_, R>, out: &mut Vec<u8>) -> Outcome {

@@ -2,6 +2,7 @@
 
 use crate::conversions::write_conversions;
 use crate::shown::{tell_unless, write_either};
+use crate::tables::{Call, Outcome, Stop, parse_number, write_refusal};
 use crate::values::write_value;
 use gimli_base::{
     Abbreviations, AttributeSpecification, DW_FORM_implicit_const, DebugAbbrev, DebugAbbrevOffset,
@@ -10,7 +11,6 @@ use gimli_base::{
 use gimli_units::{Attribute, EntriesRaw, UnitOffset};
 use std::alloc::Global;
 use std::io::Write;
-use test_tables::{Call, Outcome, Stop, parse_number, write_refusal};
 
 /// A reader of entries.
 pub(crate) type Raw<'abbrev, R> = EntriesRaw<'abbrev, R, Global>;

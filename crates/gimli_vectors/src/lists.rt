@@ -2,10 +2,10 @@
 
 use crate::items::write_items;
 use crate::sections::{location_lists, range_lists};
+use crate::tables::{Call, Outcome};
 use gimli_base::{DebugAddr, DebugAddrBase, LocationListsOffset, RangeListsOffset, Reader};
 use gimli_lists::{LocListIter, LocationLists, RangeLists, RngListIter};
 use std::io::Write;
-use test_tables::{Call, Outcome};
 
 // The sections of lists before version 5 and from it on: the first section of the case is that of the
 // version, and the other is empty.

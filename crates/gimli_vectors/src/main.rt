@@ -1,4 +1,5 @@
-//! Tries the tables of reads, numbers, abbreviations, units, entries, attributes and lists.
+//! Tries the tables of tests: reads, numbers, abbreviations, units, entries, attributes and lists; walks; and
+//! calls that memory is refused for.
 #![tactic(auto)]
 
 mod abbreviations;
@@ -8,9 +9,11 @@ mod attributes;
 mod constants;
 mod conversions;
 mod entries;
+mod heads;
 mod items;
 mod list_headers;
 mod lists;
+mod memory;
 mod names;
 mod numbers;
 mod offsets;
@@ -18,10 +21,12 @@ mod reads;
 mod refusals;
 mod sections;
 mod shown;
+mod tables;
 mod texts;
 mod together;
 mod units;
 mod values;
+mod walks;
 
 use crate::abbreviations::{write_abbreviations, write_codes, write_unit_table};
 use crate::addresses::{write_address, write_each_size, write_of_size, write_tombstones};
@@ -29,6 +34,7 @@ use crate::aranges::{write_aranges, write_set};
 use crate::attributes::write_attribute;
 use crate::constants::write_code;
 use crate::entries::{write_entries, write_entry, write_found};
+use crate::heads::write_heads;
 use crate::list_headers::{write_list_offset, write_lists_header};
 use crate::lists::{write_locations, write_range_count, write_ranges};
 use crate::names::write_names;
@@ -37,39 +43,45 @@ use crate::offsets::{write_range, write_section_offset, write_unit_offset};
 use crate::reads::{write_reads, write_sizes};
 use crate::refusals::write_error;
 use crate::sections::write_place;
+use crate::tables::{Call, Outcome, Program, Stop, try_tables};
 use crate::texts::{write_text, write_texts};
 use crate::together::{write_passed, write_read_together};
 use crate::units::{write_header, write_info, write_info_at, write_types};
 use gimli_base::Reader;
-use std::io;
-use test_tables::{Call, Outcome, Program, Stop, try_tables};
+use std::{env, io};
 
 fn main(rt: HostRuntime) -> io::Result<()> {
-    try_tables(&rt, &Vectors)
+    let mut is_above = false;
+    for name in env::args(&rt)?.skip(1) {
+        is_above = is_above || name.as_str().starts_with("data/");
+    }
+    let folder = folder_of(is_above);
+    try_tables(Program { rt: &rt, folder })
 }
 
-// The program.
-struct Vectors;
+// The folder of the files that rows name, which lie beside the tables.
+fn folder_of(is_above: bool) -> &'static str {
+    if is_above { "data/" } else { "" }
+}
 
-impl Program for Vectors {
-    fn answer<R: Reader + PartialEq>(&self, call: &Call<'_, R>, out: &mut Vec<u8>) -> Outcome {
-        match call.name() {
-            "read" => write_reads(call, out),
-            "sizes" => write_sizes(call, out),
-            "offset" => write_offset(call, out),
-            "add" | "sub" | "compare" => write_two_offsets(call, out),
-            "format" => write_format(call, out),
-            "bases" => write_bases(call, out),
-            "address" => write_address(call, out),
-            "address_sizes" => write_each_size(call, out),
-            "ones" | "tombstone" | "sum" | "wrapped" => write_of_size(call, out),
-            "code" => write_code(call.case, out),
-            "refusal" => write_error(call.case, out),
-            "lookup" => write_place(call, out),
-            "info" => write_info(call, out),
-            "types" => write_types(call, out),
-            _ => write_of_unit(call, out),
-        }
+// Writes what a call of one read, value, entry or list answers.
+fn write_call<R: Reader + PartialEq>(call: &Call<'_, R>, out: &mut Vec<u8>) -> Outcome {
+    match call.name() {
+        "read" => write_reads(call, out),
+        "sizes" => write_sizes(call, out),
+        "offset" => write_offset(call, out),
+        "add" | "sub" | "compare" => write_two_offsets(call, out),
+        "format" => write_format(call, out),
+        "bases" => write_bases(call, out),
+        "address" => write_address(call, out),
+        "address_sizes" => write_each_size(call, out),
+        "ones" | "tombstone" | "sum" | "wrapped" => write_of_size(call, out),
+        "code" => write_code(call.case, out),
+        "refusal" => write_error(call.case, out),
+        "lookup" => write_place(call, out),
+        "info" => write_info(call, out),
+        "types" => write_types(call, out),
+        _ => write_of_unit(call, out),
     }
 }
 
@@ -88,6 +100,7 @@ fn write_of_unit<R: Reader>(call: &Call<'_, R>, out: &mut Vec<u8>) -> Outcome {
         "entries" => write_entries(call, out),
         "entry" => write_entry(call, out),
         "find" => write_found(call, out),
+        "heads" | "same_heads" => write_heads(call, out),
         _ => write_of_attribute(call, out),
     }
 }

@@ -1,5 +1,6 @@
 //! Places of sections, and of the pairs of sections that have lists.
 
+use crate::tables::{Call, Outcome, Stop};
 use gimli_base::{
     DebugAbbrev, DebugAddr, DebugStr, Reader, ReaderOffset, ReaderOffsetId, Section, SectionId,
 };
@@ -8,7 +9,6 @@ use gimli_lists::{
     DebugAranges, DebugLoc, DebugLocLists, DebugRanges, DebugRngLists, LocationLists, RangeLists,
 };
 use std::io::Write;
-use test_tables::{Call, Outcome, Stop};
 
 /// The range lists of both sections.
 pub(crate) fn range_lists<R: Reader>(old: R, new: R) -> RangeLists<R> {

@@ -3,11 +3,11 @@
 use crate::attributes::{
     Input, Raw, parse_code, read_by, specification, write_next, write_skipped,
 };
+use crate::tables::{Call, Outcome, Stop, write_refusal};
 use crate::values::{write_parts, write_value};
 use gimli_base::{AttributeSpecification, Reader};
 use std::alloc::Global;
 use std::io::Write;
-use test_tables::{Call, Outcome, Stop, write_refusal};
 
 // The declaration of a word `NAME:FORM`.
 fn parse_pair(word: &str) -> Option<AttributeSpecification> {

@@ -1,12 +1,11 @@
 //! Steps over long lists and deep chains, forwards by references and without them.
 
 use crate::samples::{part, table_of, unit_of, whole};
-use gimli_base::{LittleEndian, Reader};
+use gimli_base::{LittleEndian, Reader, ReaderOffset};
 use gimli_units::EntriesCursor;
 use std::alloc::{AllocError, Global};
 use std::process::Abort;
 use std::test::Fail;
-use test_tables::{Place, take_step};
 
 // The number of the entries.
 const COUNT: u32 = 10_000;
@@ -18,17 +17,34 @@ const TABLE: [u8; 18] = [
     0x00, 0x00,
 ];
 
+// Where a cursor stands: the offset and the depth of what was read last, and of what is read next.
+type Place = (u64, isize, u64, isize);
+
 // A step: its letter; the number of attributes of the entry that it finds, if it finds one; where the cursor
 // then stands; and how many entries were read.
 type Step = (u8, Option<usize>, Place, usize);
 
 // Where a cursor stands, from the offsets and depths of what was read last and of what is read next.
 fn at((offset, depth): (u64, isize), (next_offset, next_depth): (u64, isize)) -> Place {
-    Place {
-        offset,
-        depth,
-        next_offset,
-        next_depth,
+    (offset, depth, next_offset, next_depth)
+}
+
+// Where a cursor stands.
+fn place_of<R: Reader>(cursor: &EntriesCursor<'_, R, Global>) -> Place {
+    let offset = cursor.offset().0.into_u64();
+    let next_offset = cursor.next_offset().0.into_u64();
+    (offset, cursor.depth(), next_offset, cursor.next_depth())
+}
+
+// Takes the step of a letter: to the next entry, to the next in depth-first order, or to the next sibling.
+fn take_step<R: Reader>(
+    cursor: &mut EntriesCursor<'_, R, Global>,
+    letter: u8,
+) -> gimli_base::Result<bool> {
+    match letter {
+        b'e' => cursor.next_entry(),
+        b'd' => Ok(cursor.next_dfs()?.is_some()),
+        _ => Ok(cursor.next_sibling()?.is_some()),
     }
 }
 
@@ -45,7 +61,7 @@ fn tries_step<R: Reader>(
         _ => None,
     };
     assert!(rt; current == found);
-    assert_eq!(rt; (Place::of(cursor), cursor.reads()), (place, reads));
+    assert_eq!(rt; (place_of(cursor), cursor.reads()), (place, reads));
 }
 
 // Tries the steps of a cursor that follows references or reads every entry, by their numbers from 0 on.

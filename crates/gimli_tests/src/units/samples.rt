@@ -35,15 +35,6 @@ pub(crate) fn raw_in<'abbrev, R: Reader>(
     EntriesRaw::new(input, given, table, zero)
 }
 
-/// A format, a version, and a number of bytes of an address.
-pub(crate) fn encoding_of((format, version, address_size): (Format, u16, u8)) -> Encoding {
-    Encoding {
-        format,
-        version,
-        address_size,
-    }
-}
-
 /// Reads an attribute.
 pub(crate) fn read<R: Reader>(
     raw: &mut EntriesRaw<'_, R, Global>,

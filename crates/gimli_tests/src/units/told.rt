@@ -3,10 +3,9 @@
 
 ghost use Rattle.std.proofs.Common.{rules};
 
-use crate::samples::encoding;
-use crate::units::heads::table_with;
+use crate::samples::{encoding, table_of};
 use crate::units::samples::raw_in;
-use gimli_base::{EndianSlice, LittleEndian, Reader, ReaderOffsetId, Result};
+use gimli_base::{Abbreviations, EndianSlice, LittleEndian, Reader, ReaderOffsetId, Result};
 use gimli_units::DebuggingInformationEntry;
 use std::alloc::Global;
 use std::cell::Cell;
@@ -110,7 +109,7 @@ impl<'a> Reader for Told<'a> {
 // and once for a reference to a sibling where one is sought.
 #[derive(Clone, Copy)]
 struct Usual {
-    attributes: &'static [(u8, u16)],
+    attributes: &'static [(u8, u8)],
     with_children: u64,
     alone: u64,
 }
@@ -188,13 +187,27 @@ const RUST_STRUCTURE: Usual = Usual {
     alone: 4,
 };
 
+// The table of one declaration, with the code 1, this flag, and attributes of these names and forms.
+fn table_with(
+    alloc: Global,
+    flag: u8,
+    attributes: &[(u8, u8)],
+) -> std::result::Result<Abbreviations<Global>, Fail> {
+    let mut bytes = Vec::from_slice(alloc, &[0x01, 0x11, flag])?;
+    for (name, form) in attributes {
+        bytes.extend_from_slice(&[*name, *form])?;
+    }
+    bytes.extend_from_slice(&[0, 0, 0])?;
+    Ok(table_of(alloc, bytes.as_slice())?)
+}
+
 // Reads the head of an entry and the whole entry, over so many bytes. The head copies the reader no more often,
 // tells it no more, and no more than so often.
 fn tells_little(
     rt: &impl Abort,
     alloc: Global,
     flag: u8,
-    attributes: &[(u8, u16)],
+    attributes: &[(u8, u8)],
     left: usize,
     most: u64,
 ) -> std::result::Result<(), Fail> {

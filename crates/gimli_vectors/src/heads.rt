@@ -1,0 +1,188 @@
+//! Heads of entries that are read alone, beside the whole entries.
+
+use crate::attributes::Raw;
+use crate::tables::{Call, Outcome, write_refusal};
+use gimli_base::{
+    Abbreviation, Abbreviations, DebugAbbrev, DebugAbbrevOffset, Encoding, Reader, ReaderOffset,
+    Result,
+};
+use gimli_units::{DebuggingInformationEntry, EntriesRaw, UnitOffset};
+use std::alloc::Global;
+use std::io::Write;
+
+// What a read tells: tag, children flag and where the sibling is, or why it is refused; and the offset and
+// the depth of what is read next.
+type Told = (Result<(u16, bool, Option<u64>)>, u64, isize);
+
+// How entries are read: their encoding, and the table of their declarations.
+#[derive(Drop)]
+struct Table {
+    alloc: Global,
+    encoding: Encoding,
+    declarations: Abbreviations<Global>,
+}
+
+/// Writes the head of each entry up to one that is refused: its code, and after `>` where its sibling is; or
+/// `null`, or the refusal. Of `same_heads` they are not written, and `same` is the answer. Each head is read
+/// beside the whole entry, also where the bytes end in it or among as many after it as the last word says, and
+/// what differs is told.
+pub(crate) fn write_heads<R: Reader>(call: &Call<'_, R>, out: &mut Vec<u8>) -> Outcome {
+    let section = DebugAbbrev::from(call.section(1)?);
+    let begin = DebugAbbrevOffset(R::Offset::from_u8(0));
+    let table = Table {
+        alloc: call.alloc,
+        encoding: call.encoding(1)?,
+        declarations: section.abbreviations(call.alloc, begin)?,
+    };
+    let is_listed = call.name() == "heads";
+    let behind = call.case.number(4).unwrap_or(0);
+    let mut rest = call.section(0)?;
+    for _ in 0..u64::MAX {
+        let (answer, length, _) = of_entry(table.raw(rest.copy()), call.alloc);
+        if is_listed {
+            write_head(table.raw(rest.copy()), out)?;
+        }
+        let most = rest.len().into_u64().min(length.saturating_add(behind));
+        if let Some(size) = table.differing(&rest, most)? {
+            writeln!(out, "another head by {size} bytes")?;
+        }
+        if answer.is_err() {
+            break;
+        }
+        rest.skip(R::Offset::from_u64(length)?)?;
+    }
+    if !is_listed {
+        write!(out, "same")?;
+    }
+    Ok(())
+}
+
+// Writes the head of the next entry.
+fn write_head<R: Reader>(mut raw: Raw<'_, R>, out: &mut Vec<u8>) -> Outcome {
+    match raw.read_head_and_sibling() {
+        Ok((Some(declared), sibling)) => {
+            write!(out, "{}", declared.code())?;
+            if let Some(sibling) = number(sibling) {
+                write!(out, ">{sibling:x}")?;
+            }
+        }
+        Ok((None, _)) => write!(out, "null")?,
+        Err(error) => return Ok(write_refusal(out, error)?),
+    }
+    Ok(write!(out, " ")?)
+}
+
+impl Table {
+    // A reader of entries, of which the first has the offset 0.
+    fn raw<R: Reader>(&self, input: R) -> Raw<'_, R> {
+        let zero = UnitOffset(R::Offset::from_u8(0));
+        EntriesRaw::new(input, self.encoding, &self.declarations, zero)
+    }
+
+    // The first number of bytes, all or up to the most, by which the heads of an entry are not those of the
+    // whole one, if there is one.
+    fn differing<R: Reader>(&self, rest: &R, most: u64) -> Outcome<Option<u64>> {
+        let whole = self.raw(rest.copy());
+        if !has_declaration(&whole) || !self.agrees(whole) {
+            return Ok(Some(rest.len().into_u64()));
+        }
+        for size in 0..=most {
+            let mut cut = rest.copy();
+            cut.truncate(R::Offset::from_u64(size)?)?;
+            if !self.agrees(self.raw(cut)) {
+                return Ok(Some(size));
+            }
+        }
+        Ok(None)
+    }
+
+    // Whether the heads of the next entry, read in both ways, are those of the whole one.
+    fn agrees<R: Reader>(&self, raw: Raw<'_, R>) -> bool {
+        let (answer, offset, depth) = of_entry(raw.copy(), self.alloc);
+        let alone = match answer {
+            Ok((tag, has_children, _)) => Ok((tag, has_children, None)),
+            Err(error) => Err(error),
+        };
+        of_head_and_sibling(raw.copy()) == (answer, offset, depth)
+            && of_head(raw) == (alone, offset, depth)
+    }
+}
+
+// An answer, with where the reader stands after it.
+fn told<R: Reader>(answer: Result<(u16, bool, Option<u64>)>, raw: &Raw<'_, R>) -> Told {
+    (answer, raw.next_offset().0.into_u64(), raw.next_depth())
+}
+
+// The number of an offset, if there is one.
+fn number<O: ReaderOffset>(offset: Option<UnitOffset<O>>) -> Option<u64> {
+    match offset {
+        Some(offset) => Some(offset.0.into_u64()),
+        None => None,
+    }
+}
+
+// The tag and the flag of a declaration, and a sibling; without one, those of a null.
+fn parts(
+    declared: Option<&Abbreviation<Global>>,
+    sibling: Option<u64>,
+) -> (u16, bool, Option<u64>) {
+    match declared {
+        Some(declared) => (declared.tag().0, declared.has_children(), sibling),
+        None => (0, false, sibling),
+    }
+}
+
+// What the whole entry tells.
+fn of_entry<R: Reader>(mut raw: Raw<'_, R>, alloc: Global) -> Told {
+    let mut entry = DebuggingInformationEntry::null(alloc);
+    match raw.read_entry(&mut entry) {
+        Ok(_) => {
+            let sibling = number(entry.sibling());
+            told(Ok((entry.tag().0, entry.has_children(), sibling)), &raw)
+        }
+        Err(error) => told(Err(error), &raw),
+    }
+}
+
+// What its head tells.
+fn of_head<R: Reader>(mut raw: Raw<'_, R>) -> Told {
+    match raw.read_head() {
+        Ok(declared) => told(Ok(parts(declared, None)), &raw),
+        Err(error) => told(Err(error), &raw),
+    }
+}
+
+// What its head tells with the sibling.
+fn of_head_and_sibling<R: Reader>(mut raw: Raw<'_, R>) -> Told {
+    match raw.read_head_and_sibling() {
+        Ok((declared, sibling)) => told(Ok(parts(declared, number(sibling))), &raw),
+        Err(error) => told(Err(error), &raw),
+    }
+}
+
+// Whether a code that is read alone has the declaration of a head.
+fn is_declared(
+    read: Result<Option<&Abbreviation<Global>>>,
+    head: Option<&Abbreviation<Global>>,
+) -> bool {
+    match (read, head) {
+        (Ok(Some(declared)), Some(head)) => {
+            declared.code() == head.code() && declared.attributes() == head.attributes()
+        }
+        (Ok(None), None) => true,
+        _ => false,
+    }
+}
+
+// Whether the heads have the declaration of the code, where they are not refused.
+fn has_declaration<R: Reader>(raw: &Raw<'_, R>) -> bool {
+    let (mut alone, mut beside) = (raw.copy(), raw.copy());
+    let is_same = match alone.read_head() {
+        Ok(head) => is_declared(raw.copy().read_abbreviation(), head),
+        Err(_) => true,
+    };
+    match beside.read_head_and_sibling() {
+        Ok((head, _)) => is_same && is_declared(raw.copy().read_abbreviation(), head),
+        Err(_) => is_same,
+    }
+}
