@@ -60,25 +60,30 @@ def words_of(text):
 
 
 def types_of(folder, files):
-    """Returns for each type of a crate its modules, and how many parameters it has."""
-    return {it[1]: (module_of(file), len(parts_of(it[2] or ""))) for file in files for it in TYPE.finditer(read(f"{folder}/{file}"))}
+    """Returns for each type of a crate, by its module and by its name alone, its module and how many parameters it has."""
+    types = {}
+    for file in files:
+        for it in TYPE.finditer(read(f"{folder}/{file}")):
+            types[it[1]] = types[*module_of(file), it[1]] = module_of(file), len(parts_of(it[2] or ""))
+    return types
 
 
 def owner_of(types, module, head):
-    """Returns how the prover names the owner of an impl's functions, from its head behind `impl`."""
+    """Returns the words by which the prover names the owner of an impl's functions, from its head behind `impl`."""
     generics = GENERICS.match(head)
     params = [words_of(it)[0] for it in parts_of(generics[1])] if generics else []
     trait, _, of = head[generics.end() if generics else 0 :].partition(" where")[0].rpartition(" for ")
     name, args = re.match(r"(?:&|'\w+\s|mut\s|\w+::)*(\w+)(?:<(.*)>)?$", of.strip()).groups()
     args = parts_of(args or "")
-    home, count = types.get(name, (module, len(args)))
+    home, count = types.get((*module, name)) or types.get(name, (module, len(args)))
     name = name[0].upper() + name[1:]
     if trait:
-        # (parameters are no part of the name of a trait)
-        name += "".join(it for it in words_of(trait) if it not in params)
-    elif len(args) < count or any(it not in params for it in args):
-        # (an impl for some of the types alone names them, and stands in its own module)
-        home, name = module, name + "".join("+" + it for it in words_of(",".join(args)))
+        # (parameters are no part of the name)
+        return [*module, name + "".join(it for it in [*words_of(",".join(args)), *words_of(trait)] if it not in params)]
+    if len(args) < count or any(it not in params for it in args):
+        # (an impl for some of the types alone names them)
+        return [*module, name + "".join("+" + it for it in words_of(",".join(args)))]
+    # (the other methods stand in the module of the type)
     return [*home, name]
 
 
@@ -89,9 +94,9 @@ def lines_of(lines, head):
         first -= 1
     indent = re.match(r"[ \t]*", lines[head])[0]
     heads = [it for it in range(head, len(lines)) if it == head or re.match(rf"{indent}\S", lines[it])]
-    opens = next((it for it in heads if lines[it].endswith("{") or it > head and not lines[it].startswith((indent + ")", indent + "where"))), head)
+    opens = next((it for it in heads if lines[it].endswith("{") or it > head and not lines[it].startswith((indent + ")", indent + ">", indent + "where"))), head)
     closes = next((it for it in range(opens + 1, len(lines)) if lines[it] == indent + "}"), None)
-    if closes is not None and re.match(rf"{indent}(.*\bfn \w.*|\).*|where.*|){{$", lines[opens]):
+    if closes is not None and re.match(rf"{indent}(.*\bfn \w.*|[)>].*|where.*|){{$", lines[opens]):
         return first, head, opens, closes, True
     return first, head, None, None, lines[head].endswith("}") or lines[opens] == indent + "{}"
 
