@@ -1,7 +1,7 @@
 """The functions of a crate's sources, laid out by rt fmt: where each stands, and its name as the prover prints it."""
 import dataclasses, glob, os, re
 
-ITEM = re.compile(r"^(?:pub (?:\(crate\) )?)?(?:unsafe )?(impl|trait)\b([^{]*)|^[ \t]*(?:pub(?:\(\w+\))? )?(?:final |const |unsafe )*fn (\w+)")
+ITEM = re.compile(r"^(?:pub(?:\(\w+\))? )?(?:unsafe )?(impl|trait)\b([^{]*)|^[ \t]*(?:pub(?:\(\w+\))? )?(?:final |const |unsafe )*fn (\w+)")
 TYPE = re.compile(r"(?m)^(?:pub(?:\(\w+\))? )?(?:struct|enum) (\w+)(?:<((?:[^<>]|<[^<>]*>)*)>)?")
 GENERICS = re.compile(r"\s*<((?:[^<>]|<(?:[^<>]|<[^<>]*>)*>)*)>")
 

@@ -37,14 +37,18 @@ pub(crate) fn write_heads<R: Reader>(call: &Call<'_, R>, out: &mut Vec<u8>) -> O
     let is_listed = call.name() == "heads";
     let behind = call.case.number(4).unwrap_or(0);
     let mut rest = call.section(0)?;
+    let mut walk = Walk::new(table.raw(rest.copy()));
     for _ in 0..u64::MAX {
         let (answer, length, _) = of_entry(table.raw(rest.copy()), call.alloc);
         if is_listed {
-            write_head(table.raw(rest.copy()), out)?;
+            write_head(walk.raw.copy(), out)?;
         }
         let most = rest.len().into_u64().min(length.saturating_add(behind));
         if let Some(size) = table.differing(&rest, most)? {
             writeln!(out, "another head by {size} bytes")?;
+        }
+        if !walk.go_on(call.alloc) {
+            writeln!(out, "another head behind others")?;
         }
         if answer.is_err() {
             break;
@@ -55,6 +59,39 @@ pub(crate) fn write_heads<R: Reader>(call: &Call<'_, R>, out: &mut Vec<u8>) -> O
         write!(out, "same")?;
     }
     Ok(())
+}
+
+// Three readers of the same entries: of whole ones, of their heads, and of their heads with the sibling.
+#[derive(Drop)]
+struct Walk<'table, R: Reader> {
+    raw: Raw<'table, R>,
+    head: Raw<'table, R>,
+    beside: Raw<'table, R>,
+}
+
+impl<'table, R: Reader> Walk<'table, R> {
+    // The three before the first entry.
+    fn new(raw: Raw<'table, R>) -> Self {
+        Walk {
+            head: raw.copy(),
+            beside: raw.copy(),
+            raw,
+        }
+    }
+
+    // Reads the next entry in each way, and answers whether all tell the same, and stand at the same place.
+    fn go_on(&mut self, alloc: Global) -> bool {
+        let is_same = agrees(self.raw.copy(), alloc);
+        let mut entry = DebuggingInformationEntry::null(alloc);
+        let is_read = self.raw.read_entry(&mut entry).is_ok();
+        let has_head = self.head.read_head().is_ok();
+        let has_both = self.beside.read_head_and_sibling().is_ok();
+        let place = (self.raw.next_offset(), self.raw.next_depth());
+        is_same
+            && (has_head, has_both) == (is_read, is_read)
+            && (self.head.next_offset(), self.head.next_depth()) == place
+            && (self.beside.next_offset(), self.beside.next_depth()) == place
+    }
 }
 
 // Writes the head of the next entry.
@@ -83,29 +120,29 @@ impl Table {
     // whole one, if there is one.
     fn differing<R: Reader>(&self, rest: &R, most: u64) -> Outcome<Option<u64>> {
         let whole = self.raw(rest.copy());
-        if !has_declaration(&whole) || !self.agrees(whole) {
+        if !has_declaration(&whole) || !agrees(whole, self.alloc) {
             return Ok(Some(rest.len().into_u64()));
         }
         for size in 0..=most {
             let mut cut = rest.copy();
             cut.truncate(R::Offset::from_u64(size)?)?;
-            if !self.agrees(self.raw(cut)) {
+            if !agrees(self.raw(cut), self.alloc) {
                 return Ok(Some(size));
             }
         }
         Ok(None)
     }
+}
 
-    // Whether the heads of the next entry, read in both ways, are those of the whole one.
-    fn agrees<R: Reader>(&self, raw: Raw<'_, R>) -> bool {
-        let (answer, offset, depth) = of_entry(raw.copy(), self.alloc);
-        let alone = match answer {
-            Ok((tag, has_children, _)) => Ok((tag, has_children, None)),
-            Err(error) => Err(error),
-        };
-        of_head_and_sibling(raw.copy()) == (answer, offset, depth)
-            && of_head(raw) == (alone, offset, depth)
-    }
+// Whether the heads of the next entry, read in both ways, are those of the whole one.
+fn agrees<R: Reader>(raw: Raw<'_, R>, alloc: Global) -> bool {
+    let (answer, offset, depth) = of_entry(raw.copy(), alloc);
+    let alone = match answer {
+        Ok((tag, has_children, _)) => Ok((tag, has_children, None)),
+        Err(error) => Err(error),
+    };
+    of_head_and_sibling(raw.copy()) == (answer, offset, depth)
+        && of_head(raw) == (alone, offset, depth)
 }
 
 // An answer, with where the reader stands after it.

@@ -18,7 +18,7 @@ mod texts;
 mod units;
 
 pub(crate) use crate::tables::call::Call;
-pub(crate) use crate::tables::case::{Calls, Case, parse_number};
+pub(crate) use crate::tables::case::{Case, parse_number};
 pub(crate) use crate::tables::entries::{
     Place, take_step, write_counted, write_entry, write_outcome,
 };

@@ -2,8 +2,7 @@
 
 use crate::samples::encoding;
 use gimli_base::{
-    Abbreviations, AttributeSpecification, DwAt, DwForm, Encoding, Format, Reader, ReaderOffset,
-    Result,
+    Abbreviations, AttributeSpecification, DwAt, DwForm, Encoding, Reader, ReaderOffset, Result,
 };
 use gimli_units::{Attribute, EntriesRaw, UnitOffset};
 use std::alloc::Global;
