@@ -24,8 +24,8 @@ struct Table {
 
 /// Writes the head of each entry up to one that is refused: its code, and after `>` where its sibling is; or
 /// `null`, or the refusal. Of `same_heads` they are not written, and `same` is the answer. Each head is read
-/// beside the whole entry, also where the bytes end in it or among as many after it as the last word says, and
-/// what differs is told.
+/// beside the whole entry, behind the entries before it, and by a reader of its own also where the bytes end in
+/// it or among as many after it as the last word says. What differs is told.
 pub(crate) fn write_heads<R: Reader>(call: &Call<'_, R>, out: &mut Vec<u8>) -> Outcome {
     let section = DebugAbbrev::from(call.section(1)?);
     let begin = DebugAbbrevOffset(R::Offset::from_u8(0));
