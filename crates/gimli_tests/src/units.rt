@@ -1,7 +1,6 @@
 //! Tests of `gimli_units`.
 
 mod attribute;
-mod counting;
 mod entry;
 mod header;
 mod hostile;

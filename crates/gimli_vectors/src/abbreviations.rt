@@ -5,7 +5,7 @@ use crate::entries::{table_of, write_next};
 use crate::tables::{Call, Outcome, Stop, write_refusal};
 use crate::units::unit_of;
 use gimli_base::{
-    Abbreviation, DebugAbbrev, DebugAbbrevOffset, Encoding, Format, Reader, ReaderOffset,
+    Abbreviation, Abbreviations, DebugAbbrev, DebugAbbrevOffset, Encoding, Format, Reader, ReaderOffset,
 };
 use gimli_units::{EntriesRaw, UnitOffset};
 use std::alloc::Global;
@@ -17,14 +17,18 @@ pub(crate) fn write_abbreviations<R: Reader>(call: &Call<'_, R>, out: &mut Vec<u
     let offset = DebugAbbrevOffset(call.offset_or_zero(1)?);
     let table = section.abbreviations(call.alloc, offset)?;
     for index in 2..call.case.words.len() {
-        let code = call.number(index)?;
-        match table.get(code) {
-            Some(declared) => write_declared(declared, out)?,
-            None => write!(out, "{code} none")?,
-        }
-        writeln!(out)?;
+        write_declaration(&table, call.number(index)?, out)?;
     }
     Ok(())
+}
+
+// Writes the declaration of a code.
+fn write_declaration(table: &Abbreviations<Global>, code: u64, out: &mut Vec<u8>) -> Outcome {
+    match table.get(code) {
+        Some(declared) => write_declared(declared, out)?,
+        None => write!(out, "{code} none")?,
+    }
+    Ok(writeln!(out)?)
 }
 
 /// Writes the declarations of a unit's codes up to 9.
@@ -69,10 +73,14 @@ pub(crate) fn write_codes<R: Reader>(call: &Call<'_, R>, out: &mut Vec<u8>) -> O
         version: 4,
         address_size: 4,
     };
-    let mut raw = EntriesRaw::new(input, encoding, &table, UnitOffset(start));
+    write_codes_left(&mut EntriesRaw::new(input, encoding, &table, UnitOffset(start)), out)
+}
+
+// Writes the declarations of the codes that are left.
+fn write_codes_left<R: Reader>(raw: &mut Raw<'_, R>, out: &mut Vec<u8>) -> Outcome {
     for _ in 0..1_000_000 {
-        if !write_code(&mut raw, out)? {
-            return Ok(());
+        if !write_code(raw, out)? {
+            break;
         }
     }
     Ok(())

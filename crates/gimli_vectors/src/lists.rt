@@ -7,9 +7,9 @@ use gimli_base::{DebugAddr, DebugAddrBase, LocationListsOffset, RangeListsOffset
 use gimli_lists::{LocListIter, LocationLists, RangeLists, RngListIter};
 use std::io::Write;
 
-// The sections of lists before version 5 and from it on: the first section of the case is that of the
-// version, and the other is empty.
-fn old_and_new<R: Reader>(call: &Call<'_, R>) -> Outcome<(R, R)> {
+/// The sections of lists before version 5 and from it on: the first section of the case is that of the
+/// version, and the other is empty.
+pub(crate) fn old_and_new<R: Reader>(call: &Call<'_, R>) -> Outcome<(R, R)> {
     let section = call.section(0)?;
     let mut none = section.copy();
     none.empty();
@@ -46,8 +46,8 @@ pub(crate) fn write_ranges<R: Reader>(call: &Call<'_, R>, out: &mut Vec<u8>) -> 
     Ok(())
 }
 
-// The ranges of a list.
-fn ranges_of<R: Reader>(call: &Call<'_, R>, lists: &RangeLists<R>) -> Outcome<RngListIter<R>> {
+/// The ranges of a list.
+pub(crate) fn ranges_of<R: Reader>(call: &Call<'_, R>, lists: &RangeLists<R>) -> Outcome<RngListIter<R>> {
     let (encoding, base) = (call.sized_encoding(1)?, call.number(4)?);
     let (addr, addr_base) = addresses_of(call)?;
     let offset = RangeListsOffset(offset_of(call)?);
@@ -83,8 +83,8 @@ pub(crate) fn write_locations<R: Reader>(call: &Call<'_, R>, out: &mut Vec<u8>) 
     Ok(())
 }
 
-// The locations of a list.
-fn locations_of<R: Reader>(
+/// The locations of a list.
+pub(crate) fn locations_of<R: Reader>(
     call: &Call<'_, R>,
     lists: &LocationLists<R>,
 ) -> Outcome<LocListIter<R>> {
@@ -92,7 +92,7 @@ fn locations_of<R: Reader>(
     let (addr, addr_base) = addresses_of(call)?;
     let offset = LocationListsOffset(offset_of(call)?);
     Ok(match call.name() {
-        "locations" => lists.locations(offset, encoding, base, &addr, addr_base)?,
-        _ => lists.locations_dwo(offset, encoding, base, &addr, addr_base)?,
+        "locations_dwo" => lists.locations_dwo(offset, encoding, base, &addr, addr_base)?,
+        _ => lists.locations(offset, encoding, base, &addr, addr_base)?,
     })
 }

@@ -24,6 +24,7 @@ mod shown;
 mod tables;
 mod texts;
 mod together;
+mod turns;
 mod units;
 mod values;
 mod walks;
@@ -46,6 +47,7 @@ use crate::sections::write_place;
 use crate::tables::{Call, Outcome, Program, Stop, try_tables};
 use crate::texts::{write_text, write_texts};
 use crate::together::{write_passed, write_read_together};
+use crate::turns::write_turns;
 use crate::units::{write_header, write_info, write_info_at, write_types};
 use gimli_base::Reader;
 use std::{env, io};
@@ -121,6 +123,7 @@ fn write_of_attribute<R: Reader>(call: &Call<'_, R>, out: &mut Vec<u8>) -> Outco
         "lists_header" => write_lists_header(call, out),
         "aranges" => write_aranges(call, out),
         "set" => write_set(call, out),
+        "range_turns" | "location_turns" | "set_turns" => write_turns(call, out),
         _ => Err(Stop::Lacks("no such call")),
     }
 }

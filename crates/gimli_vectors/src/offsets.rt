@@ -3,7 +3,9 @@
 use crate::tables::{Call, Outcome, Stop, hex_of};
 use crate::units::unit_of;
 use gimli_base::{Reader, ReaderOffset};
-use gimli_units::{DebugInfoOffset, DebugTypesOffset, UnitOffset, UnitSectionOffset};
+use gimli_units::{
+    DebugInfoOffset, DebugTypesOffset, UnitHeader, UnitOffset, UnitSectionOffset,
+};
 use std::io::Write;
 
 /// Writes the bytes of a unit between two offsets, from one on, or up to one.
@@ -66,12 +68,28 @@ pub(crate) fn write_unit_offset<R: Reader>(call: &Call<'_, R>, out: &mut Vec<u8>
     let own = offset.to_unit_section_offset(&unit);
     let back = own.to_unit_offset(&unit).map(|at| at.0.into_u64());
     write_offsets(" section", &[Some(own.0.into_u64()), back], out)?;
-    let info = offset.to_debug_info_offset(&unit);
-    let back = info.and_then(|found| found.to_unit_offset(&unit));
+    write_in_info(&unit, offset.to_debug_info_offset(&unit), out)?;
+    write_in_types(&unit, offset.to_debug_types_offset(&unit), out)
+}
+
+// Writes an offset of `.debug_info`, and what it leads back to in a unit.
+fn write_in_info<R: Reader>(
+    unit: &UnitHeader<R>,
+    info: Option<DebugInfoOffset<R::Offset>>,
+    out: &mut Vec<u8>,
+) -> Outcome {
+    let back = info.and_then(|found| found.to_unit_offset(unit));
     let back = back.map(|at| at.0.into_u64());
-    write_offsets(" info", &[info.map(|at| at.0.into_u64()), back], out)?;
-    let types = offset.to_debug_types_offset(&unit);
-    let back = types.and_then(|found| found.to_unit_offset(&unit));
+    write_offsets(" info", &[info.map(|at| at.0.into_u64()), back], out)
+}
+
+// The same in `.debug_types`.
+fn write_in_types<R: Reader>(
+    unit: &UnitHeader<R>,
+    types: Option<DebugTypesOffset<R::Offset>>,
+    out: &mut Vec<u8>,
+) -> Outcome {
+    let back = types.and_then(|found| found.to_unit_offset(unit));
     let back = back.map(|at| at.0.into_u64());
     write_offsets(" types", &[types.map(|at| at.0.into_u64()), back], out)
 }

@@ -25,15 +25,13 @@ pub(crate) fn write_info<R: Reader + PartialEq>(call: &Call<'_, R>, out: &mut Ve
     let mut units = section.units();
     for item in section.units() {
         tell_another(&units.next(), &item, out)?;
-        if let Ok(unit) = &item {
-            let begin = DebugInfoOffset(unit.offset().0);
-            let found = section.header_from_offset(begin).map(|unit| Some(unit));
-            tell_another(&found, &item, out)?;
-        }
+        tell_another_at(&section, &item, out)?;
         write_unit_or_refusal(&item, out)?;
     }
-    tell_unless(units.next() == Ok(None), "more units", out)?;
-    tell_unless(units.next() == Ok(None), "more units", out)
+    for _ in 0..2u8 {
+        tell_unless(units.next() == Ok(None), "more units", out)?;
+    }
+    Ok(())
 }
 
 /// Writes the units of `.debug_types`, up to a refusal. Where the call and the iterator do not give the
@@ -45,8 +43,10 @@ pub(crate) fn write_types<R: Reader + PartialEq>(call: &Call<'_, R>, out: &mut V
         tell_another(&units.next(), &item, out)?;
         write_unit_or_refusal(&item, out)?;
     }
-    tell_unless(units.next() == Ok(None), "more units", out)?;
-    tell_unless(units.next() == Ok(None), "more units", out)
+    for _ in 0..2u8 {
+        tell_unless(units.next() == Ok(None), "more units", out)?;
+    }
+    Ok(())
 }
 
 /// Writes the unit at an offset of `.debug_info`.
@@ -68,6 +68,20 @@ fn tell_another<R: Reader + PartialEq>(
         _ => false,
     };
     tell_unless(is_same, "another unit", out)
+}
+
+// Tells that the offset of a unit gives another one than the iterator.
+fn tell_another_at<R: Reader + PartialEq>(
+    section: &DebugInfo<R>,
+    item: &Result<UnitHeader<R>>,
+    out: &mut Vec<u8>,
+) -> Outcome {
+    let Ok(unit) = item else {
+        return Ok(());
+    };
+    let begin = DebugInfoOffset(unit.offset().0);
+    let found = section.header_from_offset(begin).map(|unit| Some(unit));
+    tell_another(&found, item, out)
 }
 
 // Writes a unit and its entries, or its refusal.

@@ -2,17 +2,12 @@
 
 use crate::samples::{next_of, part, whole};
 use crate::sections::holds;
-use gimli_base::{EndianSlice, Error, LittleEndian, Reader, Result, Section, SectionId};
+use gimli_base::{EndianSlice, LittleEndian, Reader, Section, SectionId};
 use gimli_lists::{
     ArangeEntry, ArangeEntryIter, ArangeHeader, ArangeHeaderIter, DebugAranges, Range,
 };
 use std::process::Abort;
 use std::test::Fail;
-
-// A set whose addresses have one byte, with the tuples (1, 2), (3, 4), (0xfe, 1), (0xfd, 3) and (9, 1).
-const TURNS: [u8; 22] = [
-    0x12, 0, 0, 0, 2, 0, 1, 2, 3, 4, 1, 0, 1, 2, 3, 4, 0xfe, 1, 0xfd, 3, 9, 1,
-];
 
 // Two equal sets whose addresses have one byte, with the tuples (1, 2) and (3, 4).
 const TWO_SETS: [u8; 32] = [
@@ -48,36 +43,6 @@ fn tries_range(rt: &impl Abort, entry: &ArangeEntry, begin: u64, end: u64) {
     assert!(rt; entry.range() == Range { begin, end });
 }
 
-// What a raw entry stands for.
-fn convert<R: Reader>(
-    entries: &ArangeEntryIter<R>,
-    raw: ArangeEntry,
-) -> Result<Option<ArangeEntry>> {
-    entries.convert_raw(raw)
-}
-
-// Tries raw entries and ranges in turn: each call goes on where the other stopped.
-fn tries_turns<R: Reader>(rt: &impl Abort, reader: R) {
-    let mut entries = first_set(rt, reader).entries();
-    let raw = raw_entry_of(rt, &mut entries);
-    tries_range(rt, &raw, 1, 0);
-    let found = entry_of(rt, &mut entries);
-    tries_range(rt, &found, 3, 7);
-    let second = raw_entry_of(rt, &mut entries);
-    assert!(rt; (second.address(), second.length()) == (0xfe, 1));
-    let third = raw_entry_of(rt, &mut entries);
-    // what a raw entry stands for does not depend on the place
-    let converted = convert(&entries, raw).expect(rt, "refused");
-    tries_range(rt, &converted.expect(rt, "no range"), 1, 3);
-    assert!(rt; convert(&entries, second) == Ok(None));
-    assert!(rt; convert(&entries, third) == Err(Error::AddressOverflow));
-    // and leaves the place: a range whose end is given is converted again
-    assert!(rt; convert(&entries, found.copy()) == Ok(Some(found)));
-    let last = entry_of(rt, &mut entries);
-    tries_range(rt, &last, 9, 10);
-    tries_no_entry(rt, &mut entries);
-}
-
 // Tries that no entry is left, by each call.
 fn tries_no_entry<R: Reader>(rt: &impl Abort, entries: &mut ArangeEntryIter<R>) {
     assert!(rt; entries.next_raw() == Ok(None));
@@ -85,16 +50,10 @@ fn tries_no_entry<R: Reader>(rt: &impl Abort, entries: &mut ArangeEntryIter<R>) 
     assert!(rt; next_of(entries).is_none());
 }
 
-#[test]
-fn gives_raw_entries_and_ranges_in_turn(rt: HostRuntime) {
-    tries_turns(&rt, part(&TURNS, LittleEndian));
-    tries_turns(&rt, whole(&rt, &TURNS, LittleEndian));
-}
-
 // Entries are ordered by where they begin, then by where they end, and then by their lengths. A raw one has
 // the end 0.
 #[test]
-fn are_ordered_by_their_fields(rt: HostRuntime) -> std::result::Result<(), Fail> {
+fn are_ordered_by_their_fields(rt: HostRuntime) -> Result<(), Fail> {
     let bytes = [
         0x10, 0, 0, 0, 2, 0, 1, 2, 3, 4, 1, 0, 1, 2, 1, 3, 2, 1, 2, 1,
     ];
@@ -134,6 +93,8 @@ fn tries_copied_entries<R: Reader>(rt: &impl Abort, mut entries: ArangeEntryIter
     let entry = entry_of(rt, &mut entries);
     assert!(rt; item == Ok(entry.copy()));
     tries_range(rt, &entry.copy(), 1, 3);
+    // an end that is known is found again
+    assert!(rt; entries.convert_raw(entry.copy()) == Ok(Some(entry)));
     let last = entry_of(rt, &mut entries.copy());
     tries_range(rt, &last, 3, 7);
     assert!(rt; last == entry_of(rt, &mut entries));

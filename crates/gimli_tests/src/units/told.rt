@@ -1,10 +1,10 @@
-//! What a reader is told for the heads of entries as compilers write them: a user's own reader may do much
-//! work for each call.
+//! What a reader is told for the heads of entries as compilers write them, and for attributes that are passed:
+//! a user's own reader may do much work for each call.
 
 ghost use Rattle.std.proofs.Common.{rules};
 
 use crate::samples::{encoding, table_of};
-use crate::units::samples::raw_in;
+use crate::units::samples::{pass, raw_in, raw_over, specification};
 use gimli_base::{Abbreviations, EndianSlice, LittleEndian, Reader, ReaderOffsetId, Result};
 use gimli_units::DebuggingInformationEntry;
 use std::alloc::Global;
@@ -12,10 +12,11 @@ use std::cell::Cell;
 use std::process::Abort;
 use std::test::Fail;
 
-// How often a reader and its copies were copied, and asked to read or to skip.
+// How often a reader and its copies were copied, asked to skip, and asked to read or to skip.
 #[derive(Debug, Drop)]
 struct Counts {
     copies: Cell<u64>,
+    skips: Cell<u64>,
     others: Cell<u64>,
 }
 
@@ -23,6 +24,7 @@ impl Counts {
     fn new() -> Self {
         Counts {
             copies: Cell::new(0),
+            skips: Cell::new(0),
             others: Cell::new(0),
         }
     }
@@ -68,6 +70,7 @@ impl<'a> Reader for Told<'a> {
     }
 
     fn skip(&mut self, n: usize) -> Result<()> {
+        count(&self.counts.skips);
         count(&self.counts.others);
         self.inner.skip(n)
     }
@@ -103,100 +106,62 @@ impl<'a> Reader for Told<'a> {
     ghost end_fits = { Prim.search rules };
 }
 
-// The attributes of an entry as a compiler writes them, name and form of each, and how often a reader may be
-// told something for its head, with children and without: once for the code, twice for each run of values of
-// known widths, to look at their bytes and to pass them, twice for an expression, once for a LEB128 number,
-// and once for a reference to a sibling where one is sought.
-#[derive(Clone, Copy)]
-struct Usual {
-    attributes: &'static [(u8, u8)],
-    with_children: u64,
-    alone: u64,
+// A reader of these bytes, and where it counts.
+fn reader_of<'a>(bytes: &'a [u8], counts: &'a Counts) -> Told<'a> {
+    let inner = EndianSlice::new(bytes, LittleEndian);
+    Told { inner, counts }
 }
 
-const NONE: Usual = Usual {
-    attributes: &[],
-    with_children: 1,
-    alone: 1,
-};
-
-const GCC_FUNCTION: Usual = Usual {
-    attributes: &[
-        (0x3f, 0x19),
-        (0x03, 0x0e),
-        (0x3a, 0x0b),
-        (0x3b, 0x0b),
-        (0x39, 0x0b),
-        (0x6e, 0x0e),
-        (0x49, 0x13),
-        (0x11, 0x01),
-        (0x12, 0x07),
-        (0x40, 0x18),
-        (0x7a, 0x19),
-        (0x01, 0x13),
-    ],
-    with_children: 6,
-    alone: 7,
-};
-
-const GCC_STRUCTURE: Usual = Usual {
-    attributes: &[
-        (0x03, 0x0e),
-        (0x0b, 0x0b),
-        (0x3a, 0x0b),
-        (0x3b, 0x0b),
-        (0x39, 0x0b),
-        (0x01, 0x13),
-    ],
-    with_children: 4,
-    alone: 3,
-};
-
-const GCC_VARIABLE: Usual = Usual {
-    attributes: &[
-        (0x03, 0x0e),
-        (0x3a, 0x0b),
-        (0x3b, 0x0b),
-        (0x39, 0x0b),
-        (0x49, 0x13),
-        (0x02, 0x18),
-    ],
-    with_children: 5,
-    alone: 5,
-};
-
-const CLANG_FUNCTION: Usual = Usual {
-    attributes: &[
-        (0x11, 0x1b),
-        (0x12, 0x06),
-        (0x40, 0x18),
-        (0x6e, 0x25),
-        (0x03, 0x25),
-        (0x3a, 0x0b),
-        (0x3b, 0x0b),
-        (0x49, 0x13),
-        (0x3f, 0x19),
-    ],
-    with_children: 8,
-    alone: 8,
-};
-
-const RUST_STRUCTURE: Usual = Usual {
-    attributes: &[(0x03, 0x0e), (0x0b, 0x0b), (0x32, 0x0b), (0x22, 0x0f)],
-    with_children: 4,
-    alone: 4,
-};
+// The attributes of entries as compilers write them, the name and the form of each in turn; and how often a
+// reader may be told something for the head of one, with children and without: once for the code, twice for
+// each run of values of known widths, to look at their bytes and to pass them, twice for an expression, once
+// for a LEB128 number, and once for a reference to a sibling where one is sought.
+const USUAL: [(&[u8], u64, u64); 6] = [
+    (&[], 1, 1),
+    // a function, a structure and a variable, by gcc
+    (
+        &[
+            0x3f, 0x19, 0x03, 0x0e, 0x3a, 0x0b, 0x3b, 0x0b, 0x39, 0x0b, 0x6e, 0x0e, 0x49, 0x13,
+            0x11, 0x01, 0x12, 0x07, 0x40, 0x18, 0x7a, 0x19, 0x01, 0x13,
+        ],
+        6,
+        7,
+    ),
+    (
+        &[
+            0x03, 0x0e, 0x0b, 0x0b, 0x3a, 0x0b, 0x3b, 0x0b, 0x39, 0x0b, 0x01, 0x13,
+        ],
+        4,
+        3,
+    ),
+    (
+        &[
+            0x03, 0x0e, 0x3a, 0x0b, 0x3b, 0x0b, 0x39, 0x0b, 0x49, 0x13, 0x02, 0x18,
+        ],
+        5,
+        5,
+    ),
+    // a function by clang
+    (
+        &[
+            0x11, 0x1b, 0x12, 0x06, 0x40, 0x18, 0x6e, 0x25, 0x03, 0x25, 0x3a, 0x0b, 0x3b, 0x0b,
+            0x49, 0x13, 0x3f, 0x19,
+        ],
+        8,
+        8,
+    ),
+    // a structure of Rust
+    (&[0x03, 0x0e, 0x0b, 0x0b, 0x32, 0x0b, 0x22, 0x0f], 4, 4),
+];
 
 // The table of one declaration, with the code 1, this flag, and attributes of these names and forms.
 fn table_with(
     alloc: Global,
     flag: u8,
-    attributes: &[(u8, u8)],
+    attributes: &[u8],
 ) -> std::result::Result<Abbreviations<Global>, Fail> {
     let mut bytes = Vec::from_slice(alloc, &[0x01, 0x11, flag])?;
-    for (name, form) in attributes {
-        bytes.extend_from_slice(&[*name, *form])?;
-    }
+    bytes.extend_from_slice(attributes)?;
     bytes.extend_from_slice(&[0, 0, 0])?;
     Ok(table_of(alloc, bytes.as_slice())?)
 }
@@ -207,7 +172,7 @@ fn tells_little(
     rt: &impl Abort,
     alloc: Global,
     flag: u8,
-    attributes: &[(u8, u8)],
+    attributes: &[u8],
     left: usize,
     most: u64,
 ) -> std::result::Result<(), Fail> {
@@ -215,14 +180,10 @@ fn tells_little(
     let bytes = bytes.get(..left).unwrap_or(&bytes);
     let table = table_with(alloc, flag, attributes)?;
     let (passing, reading) = (Counts::new(), Counts::new());
-    let input = |counts| Told {
-        inner: EndianSlice::new(bytes, LittleEndian),
-        counts,
-    };
-    let passed = raw_in(encoding(4, 4), input(&passing), &table).read_head_and_sibling();
+    let passed = raw_in(encoding(4, 4), reader_of(bytes, &passing), &table).read_head_and_sibling();
     assert!(rt; passed.is_ok());
     let mut entry = DebuggingInformationEntry::null(alloc);
-    let read = raw_in(encoding(4, 4), input(&reading), &table).read_entry(&mut entry);
+    let read = raw_in(encoding(4, 4), reader_of(bytes, &reading), &table).read_entry(&mut entry);
     assert!(rt; read.is_ok());
     assert!(rt; passing.copies.get() <= reading.copies.get());
     assert!(rt; passing.others.get() <= reading.others.get());
@@ -232,19 +193,43 @@ fn tells_little(
 
 #[test]
 fn heads_of_usual_entries_tell_a_reader_little(rt: HostRuntime) -> std::result::Result<(), Fail> {
-    for usual in [
-        NONE,
-        GCC_FUNCTION,
-        GCC_STRUCTURE,
-        GCC_VARIABLE,
-        CLANG_FUNCTION,
-        RUST_STRUCTURE,
-    ] {
+    for (given, with_children, alone) in USUAL {
         for left in [120, 50] {
-            let given = usual.attributes;
-            tells_little(&rt, rt.alloc(), 1, given, left, usual.with_children)?;
-            tells_little(&rt, rt.alloc(), 0, given, left, usual.alone)?;
+            tells_little(&rt, rt.alloc(), 1, given, left, with_children)?;
+            tells_little(&rt, rt.alloc(), 0, given, left, alone)?;
         }
+    }
+    Ok(())
+}
+
+// How often a reader skips where it passes forms that have all its bytes.
+fn skips_of(
+    rt: &impl Abort,
+    alloc: Global,
+    forms: &[u16],
+    bytes: &[u8],
+) -> std::result::Result<u64, Fail> {
+    let mut given = Vec::new(alloc);
+    for form in forms {
+        given.push(specification(rt, 0x2000, *form))?;
+    }
+    let table = table_of(alloc, &[0])?;
+    let counts = Counts::new();
+    let mut raw = raw_over(reader_of(bytes, &counts), &table);
+    pass(&mut raw, &given)?;
+    assert!(rt; raw.is_empty());
+    Ok(counts.skips.get())
+}
+
+#[test]
+fn passes_forms_of_known_sizes_by_one_skip(rt: HostRuntime) -> std::result::Result<(), Fail> {
+    let cases: [(&[u16], &[u8]); 2] = [
+        (&[0x06, 0x05, 0x0c], b"\x01\x02\x03\x04\x05\x06\x01"),
+        // of no bytes too
+        (&[0x19, 0x0b, 0x19, 0x14], b"\0\0\0\0\0\0\0\0\0"),
+    ];
+    for (forms, bytes) in cases {
+        assert!(rt; skips_of(&rt, rt.alloc(), forms, bytes)? == 1);
     }
     Ok(())
 }
