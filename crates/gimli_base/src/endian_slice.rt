@@ -245,6 +245,7 @@ impl<'a, E: Endianity> Reader for EndianSlice<'a, E> {
         }
     }
 
+    #[inline]
     #[tactic(auto, unfolding(crate::specs::Reading::find_at))]
     fn find(&self, byte: u8) -> Result<usize> {
         match position_of(byte, self.bytes) {
@@ -260,7 +261,9 @@ impl<'a, E: Endianity> Reader for EndianSlice<'a, E> {
     ghost end_fits = { λ r. Prim.omega (arith, r.within, r.end_fits) };
 }
 
-// The number of bytes before the first `byte`.
+// The number of bytes before the first `byte`: a call, so that its loop takes no registers from
+// those who read other things beside.
+#[inline(never)]
 pub(crate) fn position_of(byte: u8, bytes: &[u8]) -> Option<usize>
     ensures exact { result ≡ position (λ b. b == byte) bytes.now }
     ensures within { IfSome result (λ n. n < length bytes.now) }

@@ -275,6 +275,7 @@ impl<'a, E: Endianity> Reader for WholeSlice<'a, E> {
         }
     }
 
+    #[inline]
     #[tactic(auto, unfolding(crate::specs::Reading::find_at))]
     fn find(&self, byte: u8) -> Result<u32> {
         match position_of(byte, self.slice()) {

@@ -17,8 +17,8 @@ null_head = record { tag = 0; has_children = 0 }
 abbrev pub declared_head : Declaration → Head
 declared_head d = record { tag = d.tag.0; has_children = cond d.has_children 1 0 }
 
-abbrev pub head_of : Entry → Head
-head_of e = record { tag = e.tag.0; has_children = cond e.has_children 1 0 }
+abbrev pub head_in_c : Entry → Head
+head_in_c e = record { tag = e.tag.0; has_children = cond e.has_children 1 0 }
 
 -- the attributes of these specifications can be read at v, and end at w
 pub record AreRead (limit : ℕ) (e : Encoding) (ss : List Specification) (v w : View) : Type 0 where
@@ -31,7 +31,7 @@ pub record IsReadPast (limit : ℕ) (before : RawPlace) (head : Head) (after : R
   pub entry : Entry
   pub is : ◌≡◌ {A = Reads Entry} (Ok (entry, after.rest))
       (entry_at limit before.encoding (codes_of before.abbreviations) before.rest)
-  pub head_is : head ≡ head_of entry
+  pub head_is : head ≡ head_in_c entry
   pub moved : after
       ≡ record before { rest = after.rest; depth = depth_after entry before.depth }
 

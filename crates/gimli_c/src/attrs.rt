@@ -1,11 +1,12 @@
 //! Attributes, as numbers.
 
 ghost use Rattle.std.specs.Prelude.{◌≡◌, ◌+◌, ◌≤◌, ◌++◌, ◌%◌, ◌/◌, ◌^◌, take, drop, length};
-ghost use Rattle.gimli_units.specs.Value.{map_value, map_attribute};
+ghost use Rattle.gimli_units.specs.Value.{map_value};
+ghost use Rattle.gimli_units.specs.Taking.{with_value};
 ghost use Rattle.gimli_c.specs.Attrs.{numbers, place_numbers, values_of, attr_of};
 
-use gimli_base::{Reader, ReaderOffset};
-use gimli_units::{Attribute, AttributeValue};
+use gimli_base::{AttributeSpecification, Reader, ReaderOffset};
+use gimli_units::{AttributeValue, TakeAttribute};
 
 /// An attribute of an entry.
 #[repr(C)]
@@ -70,7 +71,7 @@ fn place_numbers<R: Reader>(kind: u32, bytes: &R) -> Numbers
 }
 
 // A value's numbers.
-#[inline(always)]
+#[inline]
 fn values_of<R: Reader>(value: &AttributeValue<R>) -> Numbers
     ensures { result ≡ values_of (map_value R.view R.Offset.number value.now) }
 {
@@ -128,18 +129,40 @@ fn values_of<R: Reader>(value: &AttributeValue<R>) -> Numbers
     }
 }
 
-/// An attribute's numbers.
-#[inline(always)]
-pub(crate) fn attr_of<R: Reader>(attribute: &Attribute<R>) -> GimliAttr
-    ensures { result ≡ attr_of (map_attribute R.view R.Offset.number attribute.now) }
-{
-    let values = values_of(&attribute.raw_value());
-    GimliAttr {
-        number: values.number,
-        more: values.more,
-        name: attribute.name().0,
-        form: attribute.form().0,
-        kind: values.kind,
+/// A taker that answers an attribute's numbers.
+#[derive(Drop)]
+pub(crate) struct Numbered;
+
+impl<R: Reader> TakeAttribute<R> for Numbered {
+    ghost use Rattle.gimli_c.specs.declared.attrs.GimliAttr.{GimliAttr};
+
+    type Answer = GimliAttr;
+
+    ghost Stand = { GimliAttr };
+
+    ghost stand = { λ _ a. a };
+
+    ghost taken = { λ _ a. attr_of a };
+
+    ghost has_room = { λ _. Unit {0} };
+
+    #[inline(always)]
+    fn take(
+        &mut self,
+        specification: &AttributeSpecification,
+        value: AttributeValue<R>,
+    ) -> GimliAttr
+        ensures { result
+            ≡ attr_of (with_value specification.now (map_value R.view R.Offset.number value)) }
+    {
+        let values = values_of(&value);
+        GimliAttr {
+            number: values.number,
+            more: values.more,
+            name: specification.name().0,
+            form: specification.form().0,
+            kind: values.kind,
+        }
     }
 }
 

@@ -8,7 +8,7 @@ ghost use Rattle.gimli_base.specs.declared.error.Error.TheVariants.{OutOfMemory}
 ghost use Rattle.gimli_c.specs.Attrs.{attr_of};
 ghost use Rattle.gimli_c.specs.Heads.{null_head, declared_head, IsReadPast, IsReadWith};
 
-use crate::attrs::{GimliAttr, attr_of};
+use crate::attrs::{GimliAttr, Numbered};
 use gimli_base::{Abbreviation, AttributeSpecification, Reader, Result};
 use gimli_units::EntriesRaw;
 use std::alloc::Allocator;
@@ -103,8 +103,8 @@ fn push_numbers<R: Reader, A: Allocator>(
 {
     numbers.reserve(specifications.len())?;
     for specification in specifications {
-        let attribute = entries.read_attribute_inline(*specification)?;
-        numbers.push_reserved(attr_of(&attribute));
+        let attribute = entries.read_attribute_to(specification, &mut Numbered)?;
+        numbers.push_reserved(attribute);
     }
     Ok(())
 }

@@ -42,7 +42,7 @@ row_of f g e behind =
     record { offset = g e.offset.0; next = behind; depth = e.depth; entry = entry_of f g e }
 
 -- a row, of which this was read, with the offset of what is after it
-pub record IsRowOf {O : Type 0} (g : O → ℕ) (x : Passed O) (behind : ℕ) (r : Row) : Type 0 where
+pub record IsPassedRow {O : Type 0} (g : O → ℕ) (x : Passed O) (behind : ℕ) (r : Row) : Type 0 where
   pub null : is_null r.entry ≡ x.is_null
   pub offset : r.offset ≡ g x.offset.0
   pub next : r.next ≡ behind

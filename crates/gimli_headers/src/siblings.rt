@@ -16,7 +16,7 @@ ghost use Rattle.gimli_units.specs.UnitRows.{unit_rows, start_view, IsHonestAt, 
 ghost use Rattle.gimli_units.specs.UnitRows.{StandsAt};
 ghost use Rattle.gimli_units.specs.FirstFalse.{first_false};
 ghost use Rattle.gimli_units.specs.FirstFalse.{IsLeastFalse};
-ghost use Rattle.gimli_headers.specs.OpenRows.{OpenRow, check_held, IsRowOf, Rise};
+ghost use Rattle.gimli_headers.specs.OpenRows.{OpenRow, check_held, IsPassedRow, Rise};
 ghost use Rattle.gimli_headers.specs.OpenRows.{judgement};
 
 use gimli_base::{Abbreviations, Reader, ReaderOffset, Result};
@@ -152,11 +152,11 @@ fn go_behind<Offset: ReaderOffset, A: Allocator>(
 ) -> Result<()>
     requires { Rise passed.now.depth (check_held Offset.number check.old).opens }
     ensures judged { OnOk result ((r : Row) (rest : List Row) →
-        IsRowOf Offset.number passed.now (Offset.number behind.0) r →
+        IsPassedRow Offset.number passed.now (Offset.number behind.0) r →
         judgement (Offset.number end.0) (check_held Offset.number check.new) rest
         ≡ judgement (Offset.number end.0) (check_held Offset.number check.old) (r ∷ rest)) }
     ensures rise { OnOk result ((r : Row) →
-        IsRowOf Offset.number passed.now (Offset.number behind.0) r →
+        IsPassedRow Offset.number passed.now (Offset.number behind.0) r →
         Rise (depth_after r.entry r.depth) (check_held Offset.number check.new).opens) }
     ensures refusal { IfErr result (λ e. e ≡ OutOfMemory) }
 {

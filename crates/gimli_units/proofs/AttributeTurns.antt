@@ -5,15 +5,15 @@ use Rattle.std.proofs.lemmas.List.{drop_more, drop_all, append-nil}
 use Rattle.gimli_base.specs.declared.common.Encoding.{Encoding}
 use Rattle.gimli_base.specs.declared.error.Error.{Error}
 use Rattle.gimli_base.specs.View.{View}
+use Rattle.gimli_base.specs.Offset.{answer_of}
 use Rattle.gimli_base.specs.Reading.{Reads, map_read}
 use Rattle.gimli_base.specs.Abbreviations.{Specification}
-use Rattle.std.specs.Prelude.{◌==◌, is_some}
+use Rattle.std.specs.Prelude.{◌==◌, is_some, Result}
 use Rattle.gimli_units.specs.Value.{Value}
-use Rattle.gimli_units.specs.Form.{direct_at, value_at}
+use Rattle.gimli_units.specs.Form.{direct_at, value_at, form_at}
 use Rattle.gimli_units.specs.Entry.{Attr, attribute_at, attributes_at}
-use Rattle.gimli_units.specs.AttributeList.{with_value}
-use Rattle.gimli_units.proofs.Chains.{direct_value}
-use Rattle.gimli_units.proofs.SizedReads.{left_by, left_by_made}
+use Rattle.gimli_units.specs.Taking.{with_value, made_at}
+use Rattle.gimli_units.proofs.Chains.{direct_value, number_stands}
 
 -- a list that was read after another
 abbrev pub after : {A : Type 0} → List A → Reads (List A) → Reads (List A)
@@ -51,35 +51,39 @@ module _ (limit : ℕ) (encoding : Encoding) (ss : List Specification) (i : ℕ)
       let more = ap (λ ss. after xs (attributes_at limit encoding ss v)) next in
       so_far ∙ more ∙ rw (← h) (with_first a xs (attributes_at limit encoding (drop (i + 1) ss) w))
 
-  -- the same, where the attribute was read onto those before it
-  pub turn_onto : (s : Specification) (ys : List Attr) (w : View) → i < length ss
-      → s ≡ get_or ss i s
-      → Ok (ys, w) ≡ map_read (λ a. xs ++ a ∷ []) (attribute_at limit encoding s v)
-      → attributes_at limit encoding ss all
-      ≡ after ys (attributes_at limit encoding (drop (i + 1) ss) w)
-  turn_onto s ys w lt is h = cases (attribute_at limit encoding s v) refl h
-    where
-      cases : (r : Reads Attr) → attribute_at limit encoding s v ≡ r
-          → Ok (ys, w) ≡ map_read (λ a. xs ++ a ∷ []) r
-          → attributes_at limit encoding ss all
-          ≡ after ys (attributes_at limit encoding (drop (i + 1) ss) w)
-      cases (Ok p) read given =
-          let both : ◌≡◌ {A = List Attr × View} (ys, w) (xs ++ p.0 ∷ [], p.1) = cc in
-          let items : ys ≡ xs ++ p.0 ∷ [] = ap (λ (q : List Attr × View). q.0) both in
-          let left : w ≡ p.1 = ap (λ (q : List Attr × View). q.1) both in
-          rw (items, left) (turn_more s p.0 p.1 lt is (sym read))
-      cases (Err e) read given = absurd (cc)
+  -- the same, where the attribute was read onto those before it, beside what does not depend on it
+  module _ {B : Type 0} (b : B) (s : Specification) (lt : i < length ss) (is : s ≡ get_or ss i s) where
+    abbrev onto : Reads Attr → Reads (List Attr × B)
+    onto r = map_read {B = List Attr × B} (λ a. (xs ++ a ∷ [], b)) r
 
-  pub turn_not : (s : Specification) (e : Error) → i < length ss → s ≡ get_or ss i s
-      → Err e ≡ map_read (λ a. xs ++ a ∷ []) (attribute_at limit encoding s v)
-      → Err e ≡ attributes_at limit encoding ss all
-  turn_not s e lt is h = cases (attribute_at limit encoding s v) refl h
-    where
-      cases : (r : Reads Attr) → attribute_at limit encoding s v ≡ r
-          → Err e ≡ map_read (λ a. xs ++ a ∷ []) r → Err e ≡ attributes_at limit encoding ss all
-      cases (Ok p) read given = absurd (cc)
-      cases (Err x) read given =
-          let same : e ≡ x = cc in turn_refused s e lt is (ap Err same ∙ sym read)
+    pub turn_onto : (ys : List Attr) (c : B) (w : View)
+        → Ok ((ys, c), w) ≡ onto (attribute_at limit encoding s v)
+        → (attributes_at limit encoding ss all
+        ≡ after ys (attributes_at limit encoding (drop (i + 1) ss) w)) × (c ≡ b)
+    turn_onto ys c w h = cases (attribute_at limit encoding s v) refl h
+      where
+        cases : (r : Reads Attr) → attribute_at limit encoding s v ≡ r
+            → Ok ((ys, c), w) ≡ onto r
+            → (attributes_at limit encoding ss all
+            ≡ after ys (attributes_at limit encoding (drop (i + 1) ss) w)) × (c ≡ b)
+        cases (Ok p) read given =
+            let both : ◌≡◌ {A = (List Attr × B) × View} ((ys, c), w) ((xs ++ p.0 ∷ [], b), p.1) = cc in
+            let items : ys ≡ xs ++ p.0 ∷ [] = ap (λ (q : (List Attr × B) × View). q.0.0) both in
+            let left : w ≡ p.1 = ap (λ (q : (List Attr × B) × View). q.1) both in (
+              rw (items, left) (turn_more s p.0 p.1 lt is (sym read)),
+              ap (λ (q : (List Attr × B) × View). q.0.1) both,
+            )
+        cases (Err e) read given = absurd (cc)
+
+    pub turn_not : (e : Error) → Err e ≡ onto (attribute_at limit encoding s v)
+        → Err e ≡ attributes_at limit encoding ss all
+    turn_not e h = cases (attribute_at limit encoding s v) refl h
+      where
+        cases : (r : Reads Attr) → attribute_at limit encoding s v ≡ r → Err e ≡ onto r
+            → Err e ≡ attributes_at limit encoding ss all
+        cases (Ok p) read given = absurd (cc)
+        cases (Err x) read given =
+            let same : e ≡ x = cc in turn_refused s e lt is (ap Err same ∙ sym read)
 
   pub turn_end : length ss ≤ i → Ok (xs, v) ≡ attributes_at limit encoding ss all
   unfolding attributes_at
@@ -87,29 +91,47 @@ module _ (limit : ℕ) (encoding : Encoding) (ss : List Specification) (i : ℕ)
       let none = ap (λ ss. after xs (attributes_at limit encoding ss v)) (drop_all i ss le) in
       sym (so_far ∙ none ∙ ap (λ ys. Ok (ys, v)) (append-nil xs))
 
--- a value of a form that is not indirect, as the attribute that has it
-pub onto_direct : (limit : ℕ) (e : Encoding) (s : Specification) (v : View) (xs : List Attr)
-    → (s.form.0 ≡ 0x16 → ⊥) → is_some s.constant ≡ (s.form.0 == 0x21)
-    → map_read (λ x. xs ++ with_value s x ∷ [])
-    (direct_at limit e s.name.0 s.constant s.form.0 v)
-    ≡ map_read (λ a. xs ++ a ∷ []) (attribute_at limit e s v)
-unfolding attribute_at
-onto_direct limit e s v xs ne h =
-    ap (λ (r : Reads Value). map_read (λ x. xs ++ with_value s x ∷ []) r)
-    (direct_value limit e s.name.0 s.constant s.form.0 v ne h)
-    ∙ twice (value_at limit e s.name.0 s.constant s.form.0 v)
-  where
-    twice : (r : Reads Value) → map_read (λ x. xs ++ with_value s x ∷ []) r
-        ≡ map_read (λ a. xs ++ a ∷ []) (map_read (λ x. with_value s x) r)
-    twice (Ok p) = refl
-    twice (Err x) = refl
+-- what a read makes, as it is
+pub as_it_is : {A : Type 0} → (r : Reads A) → map_read (λ a. a) r ≡ r
+as_it_is (Ok p) = refl
+as_it_is (Err e) = refl
 
--- a value of a form that is not indirect was passed
-pub passed_direct : (limit : ℕ) (e : Encoding) (s : Specification) (v : View)
-    → (s.form.0 ≡ 0x16 → ⊥) → is_some s.constant ≡ (s.form.0 == 0x21)
-    → left_by (direct_at limit e s.name.0 s.constant s.form.0 v) ≡ left_by (attribute_at limit e s v)
+-- an answer that stands for nothing
+pub passed_as : (r : Result (Unit {0}) Error) → answer_of (λ (_ : Unit {0}). tt {0}) r ≡ r
+passed_as (Ok _) = refl
+passed_as (Err e) = refl
+
+-- what is made of an attribute, by its value
+made_twice : {A : Type 0} → (f : Attr → A) (s : Specification) (r : Reads Value)
+    → map_read (λ x. f (with_value s x)) r ≡ map_read f (map_read (λ x. with_value s x) r)
+made_twice f s (Ok p) = refl
+made_twice f s (Err e) = refl
+
+-- what is made of an attribute whose form is not indirect
+pub made_direct : {A : Type 0} → (f : Attr → A) (limit : ℕ) (e : Encoding) (s : Specification)
+    (v : View) → (s.form.0 ≡ 0x16 → ⊥) → is_some s.constant ≡ (s.form.0 == 0x21)
+    → made_at f limit e s s.form.0 v ≡ map_read f (attribute_at limit e s v)
 unfolding attribute_at
-passed_direct limit e s v ne h =
-    ap (λ (r : Reads Value). left_by r)
+made_direct f limit e s v ne h =
+    ap (λ (r : Reads Value). map_read (λ x. f (with_value s x)) r)
     (direct_value limit e s.name.0 s.constant s.form.0 v ne h)
-    ∙ sym (left_by_made (with_value s) (value_at limit e s.name.0 s.constant s.form.0 v))
+    ∙ made_twice f s (value_at limit e s.name.0 s.constant s.form.0 v)
+
+-- and of one whose form is at the end of a chain of indirect forms
+pub made_chained : {A : Type 0} → (f : Attr → A) (limit : ℕ) (e : Encoding) (s : Specification)
+    (v : View) (form : ℕ) (w : View) → is_some s.constant ≡ (s.form.0 == 0x21)
+    → Ok (form, w) ≡ form_at s.form.0 v
+    → made_at f limit e s form w ≡ map_read f (attribute_at limit e s v)
+unfolding attribute_at value_at
+made_chained f limit e s v form w h chain =
+    let whole : direct_at limit e s.name.0 s.constant form w
+    ≡ value_at limit e s.name.0 s.constant s.form.0 v =
+    rw (← chain, number_stands s.form.0 s.constant h) refl in
+    ap (λ (r : Reads Value). map_read (λ x. f (with_value s x)) r) whole
+    ∙ made_twice f s (value_at limit e s.name.0 s.constant s.form.0 v)
+
+pub made_refused : {A : Type 0} → (f : Attr → A) (limit : ℕ) (e : Encoding) (s : Specification)
+    (v : View) (x : Error) → Err x ≡ form_at s.form.0 v
+    → Err x ≡ map_read f (attribute_at limit e s v)
+unfolding attribute_at value_at
+made_refused f limit e s v x h = rw (← h) refl

@@ -2,7 +2,7 @@
 use Rattle.std.specs.Prelude.{◌≡◌, ℕ, ◌+◌, ◌-◌, ◌<◌, ◌≤◌, length, take, drop, List, ◌∷◌, All}
 use Rattle.std.specs.Prelude.{Bool, true, false, ◌&&◌, is_some, Option, Some, None, Result, Ok, Err}
 use Rattle.std.proofs.Common.{refl, sym, ap, subst, ◌∙◌, arith, get_or, length-drop}
-use Rattle.std.proofs.lemmas.List.{drop_more, drop-take, take_all}
+use Rattle.std.proofs.lemmas.List.{drop_more, drop-take}
 use Rattle.std.proofs.lemmas.List.Elements.{All-drop}
 use Rattle.gimli_base.specs.declared.common.Encoding.{Encoding}
 use Rattle.gimli_base.specs.declared.error.Error.{Error}
@@ -11,7 +11,6 @@ use Rattle.gimli_base.specs.Reading.{Reads, ◌>>=◌, read_of, skip_at}
 use Rattle.gimli_base.specs.Width.{form_size}
 use Rattle.gimli_base.specs.Abbreviations.{Specification, IsWellFormed}
 use Rattle.gimli_base.proofs.Later.{cut-cut}
-use Rattle.gimli_base.proofs.Passed.{skip_at-none}
 use Rattle.gimli_units.specs.Entry.{attribute_at, attributes_at}
 use Rattle.gimli_units.specs.Sized.{ReadsAny, GoesOn, PassesAsOne, IsRoom, no_room, room_of_8}
 use Rattle.gimli_units.specs.Sized.{room_of_16, room_of_32, room_of_64}
@@ -20,18 +19,6 @@ use Rattle.gimli_units.proofs.SizedReads.{Passed, left_by, attribute_any}
 use Rattle.gimli_units.proofs.ReadTurns.{left_by_all}
 use Rattle.gimli_units.proofs.SumReads.{first_bytes, skipped}
 use Rattle.gimli_units.proofs.SiblingReads.{is_sibling, sibling_at, sibling_after}
-
--- nothing is passed
-none_passed : (v : View) → cut 0 v ≡ v
-none_passed v =
-    let both : ◌≡◌ {A = Passed} (Ok (tt, cut 0 v)) (Ok (tt, v)) =
-    sym (skip_ok 0 v (omega arith)) ∙ skip_at-none v in
-    let pair : ◌≡◌ {A = Unit {0} × View} (tt, cut 0 v) (tt, v) = cc in
-    ap (λ (p : Unit {0} × View). p.1) pair
-
-pub run_begin : (limit : ℕ) (e : Encoding) (leads : Bool) (ss : List Specification)
-    → PassesAsOne limit e leads ss 0 0
-run_begin limit e leads ss v le bytes = rw (none_passed v) (record { passed = refl; led = λ _. refl })
 
 not_led : (a b : Bool) → (a && b) ≡ false → a ≡ true → b ≡ false
 not_led a b h led = sym (ap (λ t. t && b) led) ∙ h
@@ -140,12 +127,6 @@ skipped_there (Ok u) w v n is le = skipped (Ok u) w v n refl is le
 skipped_there (Err e) w v n is le =
     let x : ◌≡◌ {A = Passed} (Err e) (Ok (tt, cut n v)) = is ∙ skip_ok n v le in
     absurd (cc)
-
--- those behind the first n, as a slice has them
-pub slice_behind : (n : ℕ) (ss : List Specification) → take (length ss - n) (drop n ss) ≡ drop n ss
-slice_behind n ss =
-    let long : length (drop n ss) ≡ length ss - n = length-drop n ss in
-    take_all (length ss - n) (drop n ss) (omega (arith, long))
 
 -- there is none
 pub none_of : (o : Option ℕ) → is_some o ≡ false → o ≡ None

@@ -18,6 +18,12 @@ none_left : (ss : List Specification) → length ss ≡ 0 → ss ≡ []
 none_left [] h = refl
 none_left (s ∷ ss) h = absurd (cc)
 
+pub none_to_pass : (limit : ℕ) (e : Encoding) (ss : List Specification) (v : View)
+    → length ss ≡ 0 → Ok (tt, v) ≡ left_by (attributes_at limit e ss v)
+unfolding attributes_at
+none_to_pass limit e ss v none =
+    sym (ap (λ fs. left_by (attributes_at limit e fs v)) (none_left ss none))
+
 -- those of `left` begin at v, and after the first of them those of `behind` at w
 module _ (limit : ℕ) (e : Encoding) (leads : Bool) (all left behind : List Specification)
     (start v w : View) (run : GoesOn limit e leads left behind v w) where

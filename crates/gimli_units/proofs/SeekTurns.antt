@@ -11,6 +11,8 @@ use Rattle.gimli_units.specs.CursorMoves.{CursorView, IsSound}
 use Rattle.gimli_units.specs.CursorRead.{HasRead, an_entry, the_end, a_refusal, leave_entry}
 use Rattle.gimli_units.specs.CursorRead.{HasPassed, a_pass, no_pass, HasSought}
 use Rattle.gimli_units.specs.CursorRead.{HasPassedMany, HasPassedTo, IsRefusedAfter}
+use Rattle.gimli_units.specs.CursorRead.{without_entry, passed_over}
+use Rattle.gimli_units.specs.RawPlace.{RawPlace}
 use Rattle.gimli_units.proofs.CursorSteps.{sound_read}
 use Rattle.gimli_units.proofs.PassedOn.{sound_pass}
 use Rattle.gimli_units.proofs.Onward.{onward_start, onward_follow}
@@ -165,3 +167,13 @@ module _ (limit : ℕ) (sought : ℤ) (start : CursorView) where
       → ((length here.raw.rest.bytes ≡ 0 → ⊥) → int_eq here.raw.depth sought ≡ true)
       → HasPassedTo limit sought start here
   passing_to here k there = record { count = k.count; passed = k.passed; there = there }
+
+-- what passing the next entry makes of a cursor, whose view tells whether references are followed
+pub passed_here : (limit : ℕ) (sought : ℤ) (p q : RawPlace) (f g : Bool)
+    (outcome : Result (Unit {0}) Error) → f ≡ g
+    → ((c : CursorView) → let old = record c { raw = p; follows = f } in
+    HasPassed limit sought old outcome (passed_over old q))
+    → (offset : ℕ) (depth : ℤ) (reads : ℕ) → let here = without_entry p offset depth g reads in
+    HasPassed limit sought here outcome (passed_over here q)
+passed_here limit sought p q f g outcome same passed offset depth reads =
+    rw same at passed (without_entry p offset depth g reads)

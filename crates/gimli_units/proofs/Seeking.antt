@@ -1,13 +1,12 @@
 -- Turns of the search for a depth: each entry that is passed, or left for where its reference
 -- leads, leaves what is sought.
-use Rattle.std.proofs.Common.{◌≡◌, ℕ, zero, suc, ◌+◌, ◌-◌, ◌<◌, ℤ, pos, ◌+ℤ◌, ◌-ℤ◌, Bool, true}
+use Rattle.std.proofs.Common.{◌≡◌, ℕ, zero, suc, ◌+◌, ◌-◌, ℤ, pos, ◌+ℤ◌, ◌-ℤ◌, Bool, true}
 use Rattle.std.proofs.Common.{false, length, Option, Some, None, Result, Ok, Err, refl, sym, ap}
 use Rattle.std.proofs.Common.{◌∙◌, arith, inl, inr, ◌==◌, length-drop}
 use Rattle.std.specs.Prelude.{not, int_le, ◌≤ℤ◌, if◌then◌else◌, OnErr}
 use Rattle.std.specs.Ordering.{int_eq}
 use Rattle.std.proofs.lemmas.Int.{ints}
 use Rattle.std.proofs.lemmas.Bool.{not-true, not-false, ne_eqb}
-use Rattle.gimli_base.proofs.Later.{IsLater-length}
 use Rattle.gimli_base.specs.declared.error.Error.{Error}
 use Rattle.gimli_base.specs.View.{View}
 use Rattle.gimli_base.specs.Reading.{UnlessMemory}
@@ -31,7 +30,7 @@ use Rattle.gimli_units.proofs.Splits.{differs, equal, at_least, jump}
 use Rattle.gimli_units.proofs.Onward.{Onward, onward_start, onward_follow, onward_read, read_once}
 use Rattle.gimli_units.proofs.Onward.{read_up_to, true_entry, true_refusal, followed_bounds}
 use Rattle.gimli_units.proofs.Onward.{unless_then}
-use Rattle.gimli_units.proofs.Walking.{place_on, refused_place, read_shorter}
+use Rattle.gimli_units.proofs.Walking.{place_on, refused_place}
 
 -- where a reference is followed, the entry has children: the depth after it is one more
 parent_depth : (c : CursorView) (t : ℕ) → usable_target c.raw.end (last_row c) ≡ Some t
@@ -607,13 +606,3 @@ module _ (limit : ℕ) (depth : ℤ) (offset : ℕ) where
             steps = rw same at steps;
             inside = λ low. let l = low_follow here (k.inside low) in omega (arith, ints, l);
           })
-
-  -- each turn leaves fewer bytes
-  pub seeking_shorter : (here : CursorView) (outcome : Result Bool Error) (new : CursorView)
-      → IsSound here → HasRead limit (leave_entry depth here) outcome new → outcome ≡ Ok true
-      → length new.raw.rest.bytes < length here.raw.rest.bytes
-  seeking_shorter here outcome new s h holds =
-      let o = onward_follow here here depth (onward_start here s) in
-      let fewer = IsLater-length 0 here.raw.rest (leave_entry depth here).raw.rest o.further in
-      let one = read_shorter limit (leave_entry depth here) outcome new h holds in
-      omega (arith, fewer, one)

@@ -182,10 +182,6 @@ module _ (limit : ℕ) (e : Encoding) (ss : List Specification) (all v : View) (
   end_place (Ok x) w h = tt
   end_place (Err r) w h = flush_place r h
 
-  pub turn_flush_refused : (r : Error) → Err r ≡ skip_at pending v
-      → Err (somewhere r) ≡ without_place (pass_all limit e ss all)
-  turn_flush_refused r h = sym (s.same ∙ rw (← h) refl)
-
   pub turn_refused : (d : Specification) (r : Error) (u : View) (x : Unit {0}) → i < length ss
       → d ≡ get_or ss i d → Ok (x, u) ≡ skip_at pending v → Err r ≡ pass_at limit e d.form.0 u
       → Err (somewhere r) ≡ without_place (pass_all limit e ss all)

@@ -7,7 +7,7 @@ use Rattle.std.specs.Prelude.{not, ◌≤ℤ◌, if◌then◌else◌, nat_le, na
 use Rattle.std.proofs.lemmas.Bool.{leb-true}
 use Rattle.std.proofs.lemmas.Int.{ints}
 use Rattle.gimli_base.specs.declared.error.Error.{Error}
-use Rattle.gimli_base.specs.declared.error.Error.TheVariants.{OutOfMemory, NoEntryAtGivenOffset}
+use Rattle.gimli_base.specs.declared.error.Error.TheVariants.{NoEntryAtGivenOffset}
 use Rattle.gimli_base.specs.declared.error.Error.TheVariants.{OffsetOutOfBounds}
 use Rattle.gimli_base.proofs.Both.{both}
 use Rattle.gimli_base.specs.View.{View, cut}
@@ -23,9 +23,9 @@ use Rattle.gimli_units.specs.CursorPlace.{first_of_rows}
 use Rattle.gimli_units.specs.CursorMoves.{CursorView, next_of, rows_of, place_of, IsHonestFor}
 use Rattle.gimli_units.specs.CursorMoves.{IsTrueEntry, IsSound}
 use Rattle.gimli_units.specs.CursorRead.{after_entry, after_refusal, HasRead, an_entry, the_end}
-use Rattle.gimli_units.specs.CursorRead.{a_refusal, HasSought, Stands}
+use Rattle.gimli_units.specs.CursorRead.{a_refusal, HasSought}
 use Rattle.gimli_units.specs.CursorStart.{before_first}
-use Rattle.gimli_units.specs.TreePlace.{TreeMoved, Lists, list_end, a_fault, at_root, to_root}
+use Rattle.gimli_units.specs.TreePlace.{TreeMoved, Lists, list_end, at_root, to_root}
 use Rattle.gimli_units.specs.TreePlace.{found_in, to_next}
 use Rattle.gimli_units.specs.TreeMoves.{TreeView, before_root, IsTree, list_of, in_lists}
 use Rattle.gimli_units.specs.TreeMoves.{root_moved}
@@ -335,14 +335,6 @@ pub closed_end : (limit : ℕ) (t : TreeView) (d : ℤ) (opened : Bool) (end : �
     → list_end ≡ (to_next end (in_lists limit t (list_of opened d ∷ []))).told
 unfolding to_next
 closed_end limit t d opened end is = rw is refl
-
--- what is refused where a reference led is the answer
-pub there_fault : (limit : ℕ) (d : ℤ) (outcome : Result Bool Error) (c : CursorView) (m : Moved)
-    (e : Error) → outcome ≡ Err e → Stands limit outcome c m
-    → (e ≡ OutOfMemory → ⊥) → a_fault e ≡ (found_in d [] m).told
-there_fault limit d outcome c m e is stands fine =
-    let at = (rw is at stands) fine in
-    ap (λ x. (found_in d [] x).told) at
 
 module _ (limit : ℕ) (d : ℤ) (t : TreeView) (s : IsTree t) (outcome : Result Bool Error)
     (c : CursorView) (h : HasSought limit d t.cursor.offset t.cursor outcome c) where

@@ -68,10 +68,6 @@ module _ (limit : ℕ) where
         → IsPlaceAhead limit is_entry start.raw o x
     pub once : IsReadOnce limit start here
 
-  pub walking_start : (c : CursorView) → IsSound c → Walking c c
-  walking_start c s =
-      record { onward = onward_start c s; same = refl; places = λ o x p. p; once = refl }
-
   null_passed : (c : CursorView) (e : Entry) (w : View) → (length c.raw.rest.bytes ≡ 0 → ⊥)
       → Ok (e, w) ≡ next_of limit c.raw c.raw.rest → is_null e ≡ true
       → next_in_depth_first_order c.raw.end (place_of limit (after_entry c e w))

@@ -3,7 +3,7 @@ pub mod Layout
 pub mod Form
 pub mod Passing
 pub mod Entry
-pub mod AttributeList
+pub mod Taking
 pub mod Head
 pub mod Sized
 pub mod Rows

@@ -1,13 +1,9 @@
--- Passing values by their known size, where reading refuses none whose bytes are there, or by their
--- form.
-use Rattle.std.specs.Prelude.{◌≡◌, ℕ, ◌<◌, ◌≤◌, ◌^◌, Bool, true, false, All, length, take, drop, List}
-use Rattle.std.specs.Prelude.{Result, Ok}
+-- Passing values by their known size, where reading refuses none whose bytes are there.
+use Rattle.std.specs.Prelude.{◌≡◌, ℕ, ◌<◌, ◌≤◌, ◌^◌, Bool, true, All, length, take, drop, List, Ok}
 use Rattle.gimli_base.specs.declared.common.Encoding.{Encoding}
-use Rattle.gimli_base.specs.declared.error.Error.{Error}
 use Rattle.gimli_base.specs.View.{View, cut}
-use Rattle.gimli_base.specs.Reading.{is_size, read_of, map_read, answer_leaving}
+use Rattle.gimli_base.specs.Reading.{is_size, map_read}
 use Rattle.gimli_base.specs.Abbreviations.{Specification}
-use Rattle.gimli_units.specs.Form.{direct_at}
 use Rattle.gimli_units.specs.Entry.{attributes_at}
 use Rattle.gimli_units.specs.Kind.{sibling_of}
 
@@ -50,12 +46,3 @@ pub record IsThere (limit : ℕ) (e : Encoding) (ss : List Specification) (n : �
   pub bytes : ((room : ℕ) → IsRoom room → n ≤ room → room ≤ length v.bytes
       → All (λ b. b < 256) (take n v.bytes))
       → Ok (tt {0}, cut n v) ≡ map_read (λ _. tt) (attributes_at limit e ss v)
-
--- a value was passed as reading it leaves what is left, with the same refusals; where the answer is
--- false, nothing was passed. A form that is told by the bytes is never passed so
-pub record PassesByForm (limit : ℕ) (e : Encoding) (s : Specification) (answer : Result Bool Error)
-    (v w : View) : Type 0 where
-  pub kept : answer ≡ Ok false → w ≡ v
-  pub direct : (answer ≡ Ok false → ⊥) → s.form.0 ≡ 0x16 → ⊥
-  pub value : (answer ≡ Ok false → ⊥) → read_of (answer_leaving (tt {0}) answer) w
-      ≡ map_read (λ _. tt) (direct_at limit e s.name.0 s.constant s.form.0 v)

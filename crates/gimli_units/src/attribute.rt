@@ -1,23 +1,18 @@
-//! Attributes, and how they are read.
+//! Attributes of entries.
 
 ghost use Rattle.std.specs.Prelude.{◌≡◌, ◌^◌};
 ghost use Rattle.std.specs.Option.{option_map};
-ghost use Rattle.gimli_base.specs.Offset.{answer_of};
-ghost use Rattle.gimli_base.specs.Reading.{read_of};
 ghost use Rattle.gimli_units.specs.Value.{map_value, map_attribute};
 ghost use Rattle.gimli_units.specs.Kind.{unit_reference};
 ghost use Rattle.gimli_units.specs.NormalValue.{udata_of, sdata_of, sec_offset_of, exprloc_of};
 ghost use Rattle.gimli_units.specs.NormalValue.{string_of, string_sup_of, below};
-ghost use Rattle.gimli_units.specs.Entry.{attribute_at};
 
-use crate::form::parse_value;
 use crate::{AttributeValue, UnitOffset};
-use gimli_base::{
-    AttributeSpecification, DebugStr, DwAt, DwForm, Encoding, Expression, Reader, Result, Section,
-};
+use gimli_base::{DebugStr, DwAt, DwForm, Expression, Reader, Section};
 
 pub(crate) mod list;
 mod normal;
+pub(crate) mod taker;
 
 /// An attribute of an entry: a name, the form of its declaration, and a value (DWARF 5, 7.5.4).
 #[derive(Clone, Copy, Debug, PartialEq, Eq, Drop)]
@@ -146,23 +141,4 @@ impl<R: Reader> Attribute<R> {
     {
         self.value.string_value_sup(debug_str, debug_str_sup)
     }
-}
-
-/// The attribute of a specification; where it is refused, the input is left anywhere.
-#[inline(always)]
-#[tactic(auto, unfolding(crate::specs::Entry::attribute_at))]
-pub(crate) fn parse_attribute<R: Reader>(
-    input: &mut R,
-    encoding: Encoding,
-    specification: AttributeSpecification,
-) -> Result<Attribute<R>>
-    ensures { read_of (answer_of (map_attribute R.view R.Offset.number) result) (R.view input.new)
-        ≡ attribute_at R.Offset.limit encoding specification (R.view input.old) }
-{
-    let value = parse_value(input, encoding, specification)?;
-    Ok(Attribute {
-        name: specification.name(),
-        form: specification.form(),
-        value,
-    })
 }

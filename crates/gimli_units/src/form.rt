@@ -1,13 +1,18 @@
 //! Values as their forms show them.
 
-ghost use Rattle.std.specs.Prelude.{◌≡◌, ◌≤◌};
+ghost use Rattle.std.specs.Prelude.{◌≡◌, ◌≤◌, ◌==◌, ◌&&◌, if◌then◌else◌, Ok, Err, None};
 ghost use Rattle.gimli_base.specs.Offset.{answer_of};
-ghost use Rattle.gimli_base.specs.Reading.{read_of, address_at, uint_offset_at};
-ghost use Rattle.gimli_base.specs.Reading.{sized_offset_at};
+ghost use Rattle.gimli_base.specs.declared.error.Error.TheVariants.{UnknownForm};
+ghost use Rattle.gimli_base.specs.Reading.{read_of, map_read, address_at, uint_offset_at, text_at};
+ghost use Rattle.gimli_base.specs.Reading.{sized_offset_at, offset_at, word_size_of};
 ghost use Rattle.gimli_units.specs.Value.{map_value};
 ghost use Rattle.gimli_units.specs.Form.{is_section_name, uleb_offset_at, direct_at, form_at};
-ghost use Rattle.gimli_units.specs.Form.{value_at, block_after};
+ghost use Rattle.gimli_units.specs.Form.{block_after};
+ghost use Rattle.gimli_units.specs.Entry.{attribute_at};
+ghost use Rattle.gimli_units.specs.Layout.{str_index, addr_index};
+ghost use Rattle.gimli_units.specs.Taking.{variable_at, made_at, read_left, OnTaken};
 
+use crate::attribute::taker::TakeAttribute;
 use crate::{AttributeValue, DebugInfoOffset, UnitOffset};
 use gimli_base::{
     AttributeSpecification, DW_AT_data_member_location, DW_AT_frame_base, DW_AT_location,
@@ -24,13 +29,12 @@ use gimli_base::{
     DW_FORM_string, DW_FORM_strp, DW_FORM_strp_sup, DW_FORM_strx, DW_FORM_strx1, DW_FORM_strx2,
     DW_FORM_strx3, DW_FORM_strx4, DW_FORM_udata, DebugAddrIndex, DebugLineStrOffset,
     DebugLocListsIndex, DebugRngListsIndex, DebugStrOffset, DebugStrOffsetsIndex,
-    DebugTypeSignature, DwAt, DwForm, Encoding, Error, Expression, Format, Reader, ReaderOffset,
-    Result,
+    DebugTypeSignature, DwAt, DwForm, Encoding, Error, Expression, Reader, ReaderOffset, Result,
 };
 
 // Whether data4 or data8 under a name is an offset into a section.
 #[tactic(auto, unfolding(crate::specs::Form::is_section_name))]
-pub(crate) fn allow_section_offset(name: DwAt, version: u16) -> bool
+fn allow_section_offset(name: DwAt, version: u16) -> bool
     ensures { result ≡ is_section_name name.0 version }
 {
     match name {
@@ -52,12 +56,22 @@ pub(crate) fn allow_section_offset(name: DwAt, version: u16) -> bool
     }
 }
 
+// Whether a value of so many bytes is an offset into a section: it has the width of one, and its
+// name is of such an attribute.
+#[inline(always)]
+fn is_offset(encoding: Encoding, size: u8, name: DwAt) -> bool
+    ensures { result ≡ (word_size_of encoding.format == size
+        && is_section_name name.0 encoding.version) }
+{
+    encoding.format.word_size() == size && allow_section_offset(name, encoding.version)
+}
+
 // The next address; where it is refused, the input is left anywhere. One of 8 bytes is read in
 // place, and the others by a call that gets a reader of its own, so that the caller's stays in
 // registers.
 #[inline(always)]
 #[tactic(auto, unfolding(gimli_base::specs::Reading::address_at))]
-pub(crate) fn address<R: Reader>(input: &mut R, size: u8) -> Result<u64>
+fn address<R: Reader>(input: &mut R, size: u8) -> Result<u64>
     ensures { read_of result (R.view input.new) ≡ address_at size (R.view input.old) }
 {
     if size == 8 {
@@ -89,7 +103,7 @@ pub(crate) fn uleb128_offset<R: Reader>(input: &mut R) -> Result<R::Offset>
 // The bytes after their number, which has `size` bytes; where they are refused, the input is left
 // anywhere.
 #[inline(always)]
-pub(crate) fn sized_block<R: Reader>(input: &mut R, size: u8) -> Result<R>
+fn sized_block<R: Reader>(input: &mut R, size: u8) -> Result<R>
     ensures { read_of (answer_of R.view result) (R.view input.new)
         ≡ block_after (sized_offset_at R.Offset.limit size (R.view input.old)) }
 {
@@ -100,7 +114,7 @@ pub(crate) fn sized_block<R: Reader>(input: &mut R, size: u8) -> Result<R>
 // The bytes after their number, which is a LEB128 number; where they are refused, the input is left
 // anywhere.
 #[inline(always)]
-pub(crate) fn uleb128_block<R: Reader>(input: &mut R) -> Result<R>
+fn uleb128_block<R: Reader>(input: &mut R) -> Result<R>
     ensures { read_of (answer_of R.view result) (R.view input.new)
         ≡ block_after (uleb_offset_at R.Offset.limit (R.view input.old)) }
 {
@@ -108,128 +122,196 @@ pub(crate) fn uleb128_block<R: Reader>(input: &mut R) -> Result<R>
     input.split(length)
 }
 
-// The value of a form that is not indirect; where it is refused, the input is left anywhere.
+// The bytes of a text; where they are refused, the input is left anywhere.
 #[inline(always)]
-#[tactic(auto, unfolding(crate::specs::Form::direct_at, gimli_base::specs::Reading::sized_offset_at))]
-fn parse_direct<R: Reader>(
+#[tactic(auto, unfolding(gimli_base::specs::Reading::text_at))]
+fn text<R: Reader>(input: &mut R) -> Result<R>
+    ensures { read_of (answer_of R.view result) (R.view input.new) ≡ text_at (R.view input.old) }
+{
+    let length = input.find(0)?;
+    let text = input.split(length)?;
+    let _ = input.read_u8()?;
+    Ok(text)
+}
+
+// The next offset of an entry in `.debug_info`; where it is refused, the input is left anywhere. In
+// version 2 it is read by a call, on a reader of its own, as an address is.
+#[inline]
+fn section_reference<R: Reader>(input: &mut R, encoding: Encoding) -> Result<R::Offset>
+    ensures { let v = R.view input.old in let limit = R.Offset.limit in
+        read_of (answer_of R.Offset.number result) (R.view input.new)
+        ≡ (if encoding.version == 2 then sized_offset_at limit encoding.address_size v
+        else offset_at limit encoding.format v) }
+{
+    if encoding.version != 2 {
+        return input.read_offset(encoding.format);
+    }
+    let (offset, rest) = read_sized(input.copy(), encoding.address_size)?;
+    *input = rest;
+    Ok(offset)
+}
+
+// The next 1, 2, 4 or 8 bytes as an offset, and what is left.
+#[inline(never)]
+#[tactic(auto, using(gimli_base::proofs::OneByte::one_byte), unfolding(gimli_base::specs::Reading::sized_offset_at))]
+fn read_sized<R: Reader>(input: R, size: u8) -> Result<(R::Offset, R)>
+    ensures { read_left R.Offset.number R.view result
+        ≡ sized_offset_at R.Offset.limit size (R.view input) }
+{
+    let mut rest = input;
+    let value = match size {
+        1 => u64::from(rest.read_u8()?),
+        2 => u64::from(rest.read_u16()?),
+        4 => u64::from(rest.read_u32()?),
+        8 => rest.read_u64()?,
+        _ => return Err(Error::UnsupportedOffsetSize(size)),
+    };
+    Ok((R::Offset::from_u64(value)?, rest))
+}
+
+// The value that is an index into the table of texts.
+#[inline(always)]
+fn str_index<R: Reader>(index: R::Offset) -> AttributeValue<R>
+    ensures { map_value R.view R.Offset.number result ≡ str_index (R.Offset.number index) }
+{
+    AttributeValue::DebugStrOffsetsIndex(DebugStrOffsetsIndex(index))
+}
+
+// The value that is an index into the table of addresses.
+#[inline(always)]
+fn addr_index<R: Reader>(index: R::Offset) -> AttributeValue<R>
+    ensures { map_value R.view R.Offset.number result ≡ addr_index (R.Offset.number index) }
+{
+    AttributeValue::DebugAddrIndex(DebugAddrIndex(index))
+}
+
+// Hands over the value of one of these forms; with any other form it answers none. Each arm calls
+// the taker itself, so that no code after the `match` has to take the value apart.
+macro_rules! hand_over {
+    ($form:expr, $taker:expr, $specification:expr; $($($code:ident)|+ => $value:expr,)*) => {
+        match $form {
+            $($($code)|+ => Ok(Some($taker.take($specification, $value))),)*
+            _ => Ok(None),
+        }
+    };
+}
+
+// Hands over the value of a form whose size is known before it is read; with any other it answers
+// none, and nothing is read. Where it is refused, the input and the taker are left anywhere.
+#[inline(always)]
+#[tactic(auto, unfolding(crate::specs::Form::direct_at, crate::specs::Taking::variable_at, gimli_base::specs::Reading::sized_offset_at))]
+fn read_fixed<R: Reader, T: TakeAttribute<R>>(
     input: &mut R,
     encoding: Encoding,
-    name: DwAt,
-    constant: Option<i64>,
+    s: &AttributeSpecification,
     form: DwForm,
-) -> Result<AttributeValue<R>>
-    ensures { read_of (answer_of (map_value R.view R.Offset.number) result) (R.view input.new)
-        ≡ direct_at R.Offset.limit encoding name.0 constant form.0 (R.view input.old) }
+    taker: &mut T,
+) -> Result<Option<T::Answer>>
+    requires { T.has_room taker.old }
+    ensures value { OnTaken result (λ answer.
+        read_of (answer_of (T.stand taker.new) answer) (R.view input.new)
+        ≡ made_at (T.taken taker.old) R.Offset.limit encoding s.now form.0 (R.view input.old)) }
+    ensures others { result ≡ Ok None → let v = R.view input.old in
+        (R.view input.new ≡ v) × (taker.new ≡ taker.old) × (direct_at R.Offset.limit encoding
+        s.now.name.0 s.now.constant form.0 v ≡ variable_at R.Offset.limit encoding s.now form.0 v) }
 {
-    match form {
-        DW_FORM_addr => Ok(AttributeValue::Addr(address(input, encoding.address_size)?)),
-        DW_FORM_block1 => Ok(AttributeValue::Block(sized_block(input, 1)?)),
-        DW_FORM_block2 => Ok(AttributeValue::Block(sized_block(input, 2)?)),
-        DW_FORM_block4 => Ok(AttributeValue::Block(sized_block(input, 4)?)),
-        DW_FORM_block => Ok(AttributeValue::Block(uleb128_block(input)?)),
-        DW_FORM_data1 => Ok(AttributeValue::Data1(input.read_u8()?)),
-        DW_FORM_data2 => Ok(AttributeValue::Data2(input.read_u16()?)),
-        DW_FORM_data4 => {
-            if encoding.format == Format::Dwarf32 && allow_section_offset(name, encoding.version) {
-                Ok(AttributeValue::SecOffset(input.read_sized_offset(4)?))
-            } else {
-                Ok(AttributeValue::Data4(input.read_u32()?))
-            }
-        }
-        DW_FORM_data8 => {
-            if encoding.format == Format::Dwarf64 && allow_section_offset(name, encoding.version) {
-                Ok(AttributeValue::SecOffset(input.read_sized_offset(8)?))
-            } else {
-                Ok(AttributeValue::Data8(input.read_u64()?))
-            }
-        }
-        DW_FORM_data16 => Ok(AttributeValue::Data16(input.read_u128()?)),
-        DW_FORM_udata => Ok(AttributeValue::Udata(input.read_uleb128()?)),
-        DW_FORM_sdata => Ok(AttributeValue::Sdata(input.read_sleb128()?)),
-        DW_FORM_exprloc => Ok(AttributeValue::Exprloc(Expression(uleb128_block(input)?))),
-        DW_FORM_flag => Ok(AttributeValue::Flag(input.read_u8()? != 0)),
-        DW_FORM_flag_present => Ok(AttributeValue::Flag(true)),
-        DW_FORM_sec_offset => Ok(AttributeValue::SecOffset(input.read_offset(encoding.format)?)),
-        DW_FORM_ref1 => Ok(AttributeValue::UnitRef(UnitOffset(input.read_sized_offset(1)?))),
-        DW_FORM_ref2 => Ok(AttributeValue::UnitRef(UnitOffset(input.read_sized_offset(2)?))),
-        DW_FORM_ref4 => Ok(AttributeValue::UnitRef(UnitOffset(input.read_sized_offset(4)?))),
-        DW_FORM_ref8 => Ok(AttributeValue::UnitRef(UnitOffset(input.read_sized_offset(8)?))),
-        DW_FORM_ref_udata => Ok(AttributeValue::UnitRef(UnitOffset(uleb128_offset(input)?))),
-        DW_FORM_ref_addr => {
-            let offset = if encoding.version == 2 {
-                input.read_sized_offset(encoding.address_size)?
-            } else {
-                input.read_offset(encoding.format)?
-            };
-            Ok(AttributeValue::DebugInfoRef(DebugInfoOffset(offset)))
-        }
-        DW_FORM_ref_sig8 => Ok(AttributeValue::DebugTypesRef(DebugTypeSignature(
-            input.read_u64()?,
-        ))),
-        DW_FORM_ref_sup4 => Ok(AttributeValue::DebugInfoRefSup(DebugInfoOffset(
-            input.read_sized_offset(4)?,
-        ))),
-        DW_FORM_ref_sup8 => Ok(AttributeValue::DebugInfoRefSup(DebugInfoOffset(
-            input.read_sized_offset(8)?,
-        ))),
-        DW_FORM_GNU_ref_alt => Ok(AttributeValue::DebugInfoRefSup(DebugInfoOffset(input.read_offset(
-            encoding.format,
-        )?))),
-        DW_FORM_string => Ok(AttributeValue::String(input.read_null_terminated_slice()?)),
-        DW_FORM_strp => Ok(AttributeValue::DebugStrRef(DebugStrOffset(input.read_offset(
-            encoding.format,
-        )?))),
-        DW_FORM_strp_sup | DW_FORM_GNU_strp_alt => Ok(AttributeValue::DebugStrRefSup(DebugStrOffset(
-            input.read_offset(encoding.format)?,
-        ))),
-        DW_FORM_line_strp => Ok(AttributeValue::DebugLineStrRef(DebugLineStrOffset(
-            input.read_offset(encoding.format)?,
-        ))),
-        DW_FORM_implicit_const => match constant {
-            Some(value) => Ok(AttributeValue::Sdata(value)),
-            None => Err(Error::InvalidImplicitConst),
+    hand_over! { form, taker, s;
+        DW_FORM_addr => AttributeValue::Addr(address(input, encoding.address_size)?),
+        DW_FORM_data1 => AttributeValue::Data1(input.read_u8()?),
+        DW_FORM_data2 => AttributeValue::Data2(input.read_u16()?),
+        DW_FORM_data4 => if is_offset(encoding, 4, s.name()) {
+            AttributeValue::SecOffset(input.read_sized_offset(4)?)
+        } else {
+            AttributeValue::Data4(input.read_u32()?)
         },
-        DW_FORM_strx | DW_FORM_GNU_str_index => Ok(AttributeValue::DebugStrOffsetsIndex(
-            DebugStrOffsetsIndex(uleb128_offset(input)?),
+        DW_FORM_data8 => if is_offset(encoding, 8, s.name()) {
+            AttributeValue::SecOffset(input.read_sized_offset(8)?)
+        } else {
+            AttributeValue::Data8(input.read_u64()?)
+        },
+        DW_FORM_data16 => AttributeValue::Data16(input.read_u128()?),
+        DW_FORM_implicit_const => AttributeValue::Sdata(
+            s.implicit_const_value().ok_or(Error::InvalidImplicitConst)?
+        ),
+        DW_FORM_flag => AttributeValue::Flag(input.read_u8()? != 0),
+        DW_FORM_flag_present => AttributeValue::Flag(true),
+        DW_FORM_sec_offset => AttributeValue::SecOffset(input.read_offset(encoding.format)?),
+        DW_FORM_ref1 => AttributeValue::UnitRef(UnitOffset(input.read_sized_offset(1)?)),
+        DW_FORM_ref2 => AttributeValue::UnitRef(UnitOffset(input.read_sized_offset(2)?)),
+        DW_FORM_ref4 => AttributeValue::UnitRef(UnitOffset(input.read_sized_offset(4)?)),
+        DW_FORM_ref8 => AttributeValue::UnitRef(UnitOffset(input.read_sized_offset(8)?)),
+        DW_FORM_ref_addr => AttributeValue::DebugInfoRef(DebugInfoOffset(
+            section_reference(input, encoding)?
         )),
-        DW_FORM_strx1 => Ok(AttributeValue::DebugStrOffsetsIndex(DebugStrOffsetsIndex(
-            input.read_sized_offset(1)?,
-        ))),
-        DW_FORM_strx2 => Ok(AttributeValue::DebugStrOffsetsIndex(DebugStrOffsetsIndex(
-            input.read_sized_offset(2)?,
-        ))),
-        DW_FORM_strx3 => Ok(AttributeValue::DebugStrOffsetsIndex(DebugStrOffsetsIndex(
-            three_byte_offset(input)?,
-        ))),
-        DW_FORM_strx4 => Ok(AttributeValue::DebugStrOffsetsIndex(DebugStrOffsetsIndex(
-            input.read_sized_offset(4)?,
-        ))),
-        DW_FORM_addrx | DW_FORM_GNU_addr_index => Ok(AttributeValue::DebugAddrIndex(DebugAddrIndex(
-            uleb128_offset(input)?,
-        ))),
-        DW_FORM_addrx1 => Ok(AttributeValue::DebugAddrIndex(DebugAddrIndex(input.read_sized_offset(
-            1,
-        )?))),
-        DW_FORM_addrx2 => Ok(AttributeValue::DebugAddrIndex(DebugAddrIndex(input.read_sized_offset(
-            2,
-        )?))),
-        DW_FORM_addrx3 => Ok(AttributeValue::DebugAddrIndex(DebugAddrIndex(three_byte_offset(
-            input,
-        )?))),
-        DW_FORM_addrx4 => Ok(AttributeValue::DebugAddrIndex(DebugAddrIndex(input.read_sized_offset(
-            4,
-        )?))),
-        DW_FORM_own_addrx_offset => {
-            let index = DebugAddrIndex(uleb128_offset(input)?);
-            Ok(AttributeValue::DebugAddrIndexOffset(index, input.read_u32()?))
-        }
-        DW_FORM_loclistx => Ok(AttributeValue::DebugLocListsIndex(DebugLocListsIndex(uleb128_offset(
-            input,
-        )?))),
-        DW_FORM_rnglistx => Ok(AttributeValue::DebugRngListsIndex(DebugRngListsIndex(uleb128_offset(
-            input,
-        )?))),
-        _ => Err(Error::UnknownForm(form)),
+        DW_FORM_ref_sig8 => AttributeValue::DebugTypesRef(DebugTypeSignature(input.read_u64()?)),
+        DW_FORM_ref_sup4 => AttributeValue::DebugInfoRefSup(DebugInfoOffset(
+            input.read_sized_offset(4)?
+        )),
+        DW_FORM_ref_sup8 => AttributeValue::DebugInfoRefSup(DebugInfoOffset(
+            input.read_sized_offset(8)?
+        )),
+        DW_FORM_GNU_ref_alt => AttributeValue::DebugInfoRefSup(DebugInfoOffset(
+            input.read_offset(encoding.format)?
+        )),
+        DW_FORM_strp => AttributeValue::DebugStrRef(DebugStrOffset(
+            input.read_offset(encoding.format)?
+        )),
+        DW_FORM_strp_sup | DW_FORM_GNU_strp_alt => AttributeValue::DebugStrRefSup(DebugStrOffset(
+            input.read_offset(encoding.format)?
+        )),
+        DW_FORM_line_strp => AttributeValue::DebugLineStrRef(DebugLineStrOffset(
+            input.read_offset(encoding.format)?
+        )),
+        DW_FORM_strx1 => str_index(input.read_sized_offset(1)?),
+        DW_FORM_strx2 => str_index(input.read_sized_offset(2)?),
+        DW_FORM_strx3 => str_index(three_byte_offset(input)?),
+        DW_FORM_strx4 => str_index(input.read_sized_offset(4)?),
+        DW_FORM_addrx1 => addr_index(input.read_sized_offset(1)?),
+        DW_FORM_addrx2 => addr_index(input.read_sized_offset(2)?),
+        DW_FORM_addrx3 => addr_index(three_byte_offset(input)?),
+        DW_FORM_addrx4 => addr_index(input.read_sized_offset(4)?),
+    }
+}
+
+// The same of the forms of variable size, whose bytes tell how many they are.
+#[inline(always)]
+#[tactic(auto, unfolding(crate::specs::Form::direct_at, crate::specs::Taking::variable_at, gimli_base::specs::Reading::sized_offset_at))]
+fn read_variable<R: Reader, T: TakeAttribute<R>>(
+    input: &mut R,
+    encoding: Encoding,
+    s: &AttributeSpecification,
+    form: DwForm,
+    taker: &mut T,
+) -> Result<Option<T::Answer>>
+    requires { T.has_room taker.old }
+    ensures value { OnTaken result (λ answer.
+        read_of (answer_of (T.stand taker.new) answer) (R.view input.new)
+        ≡ made_at (T.taken taker.old) R.Offset.limit encoding s.now form.0 (R.view input.old)) }
+    ensures others { result ≡ Ok None → let v = R.view input.old in
+        (R.view input.new ≡ v) × (taker.new ≡ taker.old) × (variable_at R.Offset.limit encoding
+        s.now form.0 v ≡ Err (UnknownForm form)) }
+{
+    hand_over! { form, taker, s;
+        DW_FORM_block1 => AttributeValue::Block(sized_block(input, 1)?),
+        DW_FORM_block2 => AttributeValue::Block(sized_block(input, 2)?),
+        DW_FORM_block4 => AttributeValue::Block(sized_block(input, 4)?),
+        DW_FORM_block => AttributeValue::Block(uleb128_block(input)?),
+        DW_FORM_exprloc => AttributeValue::Exprloc(Expression(uleb128_block(input)?)),
+        DW_FORM_udata => AttributeValue::Udata(input.read_uleb128()?),
+        DW_FORM_sdata => AttributeValue::Sdata(input.read_sleb128()?),
+        DW_FORM_string => AttributeValue::String(text(input)?),
+        DW_FORM_ref_udata => AttributeValue::UnitRef(UnitOffset(uleb128_offset(input)?)),
+        DW_FORM_strx | DW_FORM_GNU_str_index => str_index(uleb128_offset(input)?),
+        DW_FORM_addrx | DW_FORM_GNU_addr_index => addr_index(uleb128_offset(input)?),
+        DW_FORM_own_addrx_offset => AttributeValue::DebugAddrIndexOffset(
+            DebugAddrIndex(uleb128_offset(input)?), input.read_u32()?
+        ),
+        DW_FORM_loclistx => AttributeValue::DebugLocListsIndex(DebugLocListsIndex(
+            uleb128_offset(input)?
+        )),
+        DW_FORM_rnglistx => AttributeValue::DebugRngListsIndex(DebugRngListsIndex(
+            uleb128_offset(input)?
+        )),
     }
 }
 
@@ -247,24 +329,106 @@ pub(crate) fn direct_form<R: Reader>(input: &mut R, form: DwForm) -> Result<DwFo
     Ok(form)
 }
 
-/// The value of a specification's form; where it is refused, the input is left anywhere.
-#[inline(always)]
-#[tactic(auto, unfolding(crate::specs::Form::value_at), using(crate::proofs::Chains::number_stands))]
-pub(crate) fn parse_value<R: Reader>(
+// Hands over the attribute of a specification, whose value has this form, which is not indirect;
+// where it is refused, the input and the taker are left anywhere.
+fn read_direct<R: Reader, T: TakeAttribute<R>>(
     input: &mut R,
     encoding: Encoding,
-    specification: AttributeSpecification,
-) -> Result<AttributeValue<R>>
-    ensures { read_of (answer_of (map_value R.view R.Offset.number) result) (R.view input.new)
-        ≡ value_at R.Offset.limit encoding specification.name.0 specification.constant
-        specification.form.0 (R.view input.old) }
+    specification: &AttributeSpecification,
+    form: DwForm,
+    taker: &mut T,
+) -> Result<T::Answer>
+    requires { T.has_room taker.old }
+    ensures { read_of (answer_of (T.stand taker.new) result) (R.view input.new)
+        ≡ made_at (T.taken taker.old) R.Offset.limit encoding specification.now form.0
+        (R.view input.old) }
 {
+    if let Some(taken) = read_fixed(input, encoding, specification, form, taker)? {
+        return Ok(taken);
+    }
+    if let Some(taken) = read_variable(input, encoding, specification, form, taker)? {
+        return Ok(taken);
+    }
+    Err(Error::UnknownForm(form))
+}
+
+// Hands over the attribute of a specification, whose form may be indirect; where it is refused, the
+// input and the taker are left anywhere.
+#[inline(never)]
+#[tactic(auto, using(crate::proofs::AttributeTurns::made_chained, crate::proofs::AttributeTurns::made_refused))]
+fn read_any<R: Reader, T: TakeAttribute<R>>(
+    input: &mut R,
+    encoding: Encoding,
+    specification: &AttributeSpecification,
+    taker: &mut T,
+) -> Result<T::Answer>
+    requires { T.has_room taker.old }
+    ensures { read_of (answer_of (T.stand taker.new) result) (R.view input.new)
+        ≡ map_read (T.taken taker.old)
+        (attribute_at R.Offset.limit encoding specification.now (R.view input.old)) }
+{
+    // (it says that the form implicit_const has a number)
+    let _ = specification.implicit_const_value();
     let form = direct_form(input, specification.form())?;
-    parse_direct(
-        input,
-        encoding,
-        specification.name(),
-        specification.implicit_const_value(),
-        form,
-    )
+    read_direct(input, encoding, specification, form, taker)
+}
+
+/// Hands over the attribute of a specification; where it is refused, the input and the taker are
+/// left anywhere. Each form is put in place with what the taker makes of its value; a chain of
+/// indirect forms is followed by a call, where `APART` is set on a reader of its own, so that the
+/// caller's stays in registers.
+#[inline(always)]
+#[tactic(auto, using(crate::proofs::AttributeTurns::made_direct))]
+pub(crate) fn read_form<R: Reader, T: TakeAttribute<R>, const APART: bool>(
+    input: &mut R,
+    encoding: Encoding,
+    specification: &AttributeSpecification,
+    taker: &mut T,
+) -> Result<T::Answer>
+    requires { T.has_room taker.old }
+    ensures { read_of (answer_of (T.stand taker.new) result) (R.view input.new)
+        ≡ map_read (T.taken taker.old)
+        (attribute_at R.Offset.limit encoding specification.now (R.view input.old)) }
+{
+    // (it says that the form implicit_const has a number)
+    let _ = specification.implicit_const_value();
+    let form = specification.form();
+    if form != DW_FORM_indirect
+        && let Some(taken) = read_fixed(input, encoding, specification, form, taker)?
+    {
+        return Ok(taken);
+    }
+    read_of_variable_size::<R, T, APART>(input, encoding, specification, taker)
+}
+
+/// As `read_form`, but only the forms of variable size are put in place; all others are read by the
+/// call.
+#[inline(always)]
+#[tactic(auto, using(crate::proofs::AttributeTurns::made_direct))]
+pub(crate) fn read_of_variable_size<R: Reader, T: TakeAttribute<R>, const APART: bool>(
+    input: &mut R,
+    encoding: Encoding,
+    specification: &AttributeSpecification,
+    taker: &mut T,
+) -> Result<T::Answer>
+    requires { T.has_room taker.old }
+    ensures { read_of (answer_of (T.stand taker.new) result) (R.view input.new)
+        ≡ map_read (T.taken taker.old)
+        (attribute_at R.Offset.limit encoding specification.now (R.view input.old)) }
+{
+    // (it says that the form implicit_const has a number)
+    let _ = specification.implicit_const_value();
+    let form = specification.form();
+    if form != DW_FORM_indirect
+        && let Some(taken) = read_variable(input, encoding, specification, form, taker)?
+    {
+        return Ok(taken);
+    }
+    if !APART {
+        return read_any(input, encoding, specification, taker);
+    }
+    let mut rest = input.copy();
+    let taken = read_any(&mut rest, encoding, specification, taker)?;
+    *input = rest;
+    Ok(taken)
 }

@@ -5,24 +5,20 @@ ghost use Rattle.std.specs.Prelude.{◌≡◌, ◌≤◌, ◌<◌, ◌==◌, ℕ
 ghost use Rattle.std.specs.List.{position};
 ghost use Rattle.std.specs.Option.{option_map};
 ghost use Rattle.gimli_base.specs.Offset.{answer_of};
-ghost use Rattle.gimli_base.specs.Reading.{read_of, map_read, is_size, text_at};
+ghost use Rattle.gimli_base.specs.Reading.{read_of, map_read, is_size};
 ghost use Rattle.gimli_base.specs.View.{cut};
 ghost use Rattle.gimli_base.specs.Width.{form_size};
 ghost use Rattle.gimli_base.specs.Abbreviations.{IsWellFormed};
 ghost use Rattle.gimli_units.specs.Kind.{unit_reference, sibling_of};
 ghost use Rattle.gimli_units.specs.Entry.{attribute_at, attributes_at};
-ghost use Rattle.gimli_units.specs.Sized.{ReadsAny, PassesByForm, IsRoom, PassesAsOne, GoesOn};
-ghost use Rattle.gimli_units.specs.Sized.{IsThere};
+ghost use Rattle.gimli_units.specs.Sized.{ReadsAny, IsRoom, PassesAsOne, GoesOn, IsThere};
 ghost use Rattle.std.specs.Prelude.{Ok, Some, ◌&&◌};
 
 use crate::UnitOffset;
-use crate::attribute::parse_attribute;
-use crate::form::{uleb128_block, uleb128_offset};
+use crate::attribute::taker::{Keep, Pass};
+use crate::form::{read_form, read_of_variable_size};
 use gimli_base::{
-    Abbreviation, AttributeSpecification, DW_AT_sibling, DW_FORM_GNU_addr_index,
-    DW_FORM_GNU_str_index, DW_FORM_addrx, DW_FORM_exprloc, DW_FORM_loclistx, DW_FORM_ref_udata,
-    DW_FORM_rnglistx, DW_FORM_sdata, DW_FORM_string, DW_FORM_strx, DW_FORM_udata, Encoding, Reader,
-    ReaderOffset, Result,
+    Abbreviation, AttributeSpecification, DW_AT_sibling, Encoding, Reader, ReaderOffset, Result,
 };
 use std::alloc::Allocator;
 
@@ -48,8 +44,8 @@ fn next_are_bytes<R: Reader, const N: usize>(input: &R)
     }
 }
 
-// How many bytes of values are passed together at most, where so many are left: as many as are looked
-// at together.
+// How many bytes of values are passed together at most, where so many are left: as many as are
+// looked at together.
 #[inline(always)]
 fn room(left: u64) -> u64
     ensures within { result ≤ left }
@@ -68,8 +64,8 @@ fn room(left: u64) -> u64
     }
 }
 
-// The next bytes are below 256, of which there are no more than there is room for. They are looked at
-// by one read, which may take bytes after them as well; none are read where there are none.
+// The next bytes are below 256, of which there are no more than there is room for. They are looked
+// at by one read, which may take bytes after them as well; none are read where there are none.
 #[inline(always)]
 fn so_many_are_bytes<R: Reader>(input: &R, size: u64)
     ensures { let bytes = (R.view input.now).bytes in
@@ -128,68 +124,9 @@ fn above_any<R: Reader>(encoding: Encoding) -> u16
     0
 }
 
-// Passes a text; where it is refused, the input is left anywhere.
-#[inline(never)]
-fn pass_text<R: Reader>(input: &mut R) -> Result<()>
-    ensures { read_of result (R.view input.new)
-        ≡ map_read (λ _. tt) (text_at (R.view input.old)) }
-{
-    let _ = input.read_null_terminated_slice()?;
-    Ok(())
-}
-
-// The same on a reader of its own, so that the caller's stays in registers.
-#[inline(always)]
-fn pass_text_apart<R: Reader>(input: &mut R) -> Result<()>
-    ensures { read_of result (R.view input.new)
-        ≡ map_read (λ _. tt) (text_at (R.view input.old)) }
-{
-    let mut rest = input.copy();
-    pass_text(&mut rest)?;
-    *input = rest;
-    Ok(())
-}
-
-// Passes a value whose bytes tell how many they are, in one of the forms that compilers write most;
-// with any other form it answers false, and nothing is passed. Where it is refused, the input is left
-// anywhere.
-#[inline(always)]
-#[tactic(auto, unfolding(crate::specs::Form::direct_at))]
-fn pass_common<R: Reader>(
-    input: &mut R,
-    encoding: Encoding,
-    specification: &AttributeSpecification,
-) -> Result<bool>
-    ensures { PassesByForm R.Offset.limit encoding specification.now result (R.view input.old)
-        (R.view input.new) }
-{
-    match specification.form() {
-        DW_FORM_exprloc => {
-            let _ = uleb128_block(input)?;
-        }
-        DW_FORM_udata => {
-            let _ = input.read_uleb128()?;
-        }
-        DW_FORM_sdata => {
-            let _ = input.read_sleb128()?;
-        }
-        DW_FORM_strx
-        | DW_FORM_GNU_str_index
-        | DW_FORM_addrx
-        | DW_FORM_GNU_addr_index
-        | DW_FORM_loclistx
-        | DW_FORM_rnglistx
-        | DW_FORM_ref_udata => {
-            let _ = uleb128_offset(input)?;
-        }
-        DW_FORM_string => pass_text_apart(input)?,
-        _ => return Ok(false),
-    }
-    Ok(true)
-}
-
 // Passes a value as it is read; where it is refused, the input is left anywhere.
 #[inline(always)]
+#[tactic(auto, using(crate::proofs::AttributeTurns::passed_as))]
 fn pass_value<R: Reader>(
     input: &mut R,
     encoding: Encoding,
@@ -199,44 +136,7 @@ fn pass_value<R: Reader>(
         ≡ map_read (λ _. tt)
         (attribute_at R.Offset.limit encoding specification.now (R.view input.old)) }
 {
-    // (it says that the form implicit_const has a number)
-    let _ = specification.implicit_const_value();
-    if pass_common(input, encoding, specification)? {
-        return Ok(());
-    }
-    pass_apart(input, encoding, specification)
-}
-
-// The same by a call, which gets a reader of its own, so that the caller's stays in registers.
-#[inline(always)]
-fn pass_apart<R: Reader>(
-    input: &mut R,
-    encoding: Encoding,
-    specification: &AttributeSpecification,
-) -> Result<()>
-    ensures { read_of result (R.view input.new)
-        ≡ map_read (λ _. tt)
-        (attribute_at R.Offset.limit encoding specification.now (R.view input.old)) }
-{
-    let mut rest = input.copy();
-    read_over(&mut rest, encoding, specification)?;
-    *input = rest;
-    Ok(())
-}
-
-// Reads a value that is not wanted; where it is refused, the input is left anywhere.
-#[inline(never)]
-fn read_over<R: Reader>(
-    input: &mut R,
-    encoding: Encoding,
-    specification: &AttributeSpecification,
-) -> Result<()>
-    ensures { read_of result (R.view input.new)
-        ≡ map_read (λ _. tt)
-        (attribute_at R.Offset.limit encoding specification.now (R.view input.old)) }
-{
-    let _ = parse_attribute(input, encoding, *specification)?;
-    Ok(())
+    read_of_variable_size::<R, Pass, true>(input, encoding, specification, &mut Pass)
 }
 
 // Whether a specification is a reference to a sibling, where one is sought.
@@ -268,8 +168,8 @@ fn width_below(
     }
 }
 
-// The first values of a declaration, which are passed together: how many there are, and how many bytes
-// they have.
+// The first values of a declaration, which are passed together: how many there are, and how many
+// bytes they have.
 #[derive(Clone, Copy)]
 struct Run {
     count: usize,
@@ -425,6 +325,7 @@ fn reference_of<R: Reader>(
 
 // The same, on the reader; where it is refused, the input is left anywhere.
 #[inline(never)]
+#[tactic(auto, using(crate::proofs::AttributeTurns::as_it_is))]
 fn read_reference<R: Reader>(
     input: &mut R,
     encoding: Encoding,
@@ -435,7 +336,7 @@ fn read_reference<R: Reader>(
         ≡ map_read (λ a. unit_reference a.value)
         (attribute_at R.Offset.limit encoding specification.now (R.view input.old)) }
 {
-    let attribute = parse_attribute(input, encoding, *specification)?;
+    let attribute = read_form::<R, Keep, false>(input, encoding, specification, &mut Keep)?;
     Ok(attribute.reference())
 }
 
@@ -486,10 +387,45 @@ fn pass_up_to_sibling<R: Reader>(
         };
         if is_led(true, specification) {
             let reference = reference_of(input, encoding, specification)?;
-            pass_as_read(input, encoding, behind)?;
+            pass_behind(input, encoding, behind)?;
             return Ok(reference);
         }
         pass_value(input, encoding, specification)?;
         left = behind;
     }
+}
+
+// Passes what stands behind a reference to a sibling, by a call that gets a reader of its own, so
+// that the caller's stays in registers: compilers that write such a reference write it last.
+#[inline(always)]
+fn pass_behind<R: Reader>(
+    input: &mut R,
+    encoding: Encoding,
+    specifications: &[AttributeSpecification],
+) -> Result<()>
+    ensures { read_of result (R.view input.new)
+        ≡ map_read (λ _. tt)
+        (attributes_at R.Offset.limit encoding specifications.now (R.view input.old)) }
+{
+    if specifications.is_empty() {
+        return Ok(());
+    }
+    let mut rest = input.copy();
+    pass_rest(&mut rest, encoding, specifications)?;
+    *input = rest;
+    Ok(())
+}
+
+// The same, on the reader.
+#[inline(never)]
+fn pass_rest<R: Reader>(
+    input: &mut R,
+    encoding: Encoding,
+    specifications: &[AttributeSpecification],
+) -> Result<()>
+    ensures { read_of result (R.view input.new)
+        ≡ map_read (λ _. tt)
+        (attributes_at R.Offset.limit encoding specifications.now (R.view input.old)) }
+{
+    pass_as_read(input, encoding, specifications)
 }

@@ -22,8 +22,8 @@ ghost use Rattle.gimli_units.specs.RawPlace.{depth_after};
 ghost use Rattle.gimli_units.specs.Honest.{within};
 ghost use Rattle.gimli_units.specs.CursorRead.{stands_at, stands_if};
 
-use crate::attribute::list::push_attribute;
-use crate::attribute::parse_attribute;
+use crate::attribute::taker::{Keep, TakeAttribute};
+use crate::form::read_form;
 use crate::pass::{pass_but_sibling, pass_declared};
 use crate::skip::skip_all;
 use crate::{Attribute, DebuggingInformationEntry, UnitOffset};
@@ -459,6 +459,7 @@ impl<'abbrev, R: Reader, A: Allocator> EntriesRaw<'abbrev, R, A> {
     /// Refusals: `UnexpectedEof`, `BadUnsignedLeb128`, `BadSignedLeb128`, `UnsupportedAddressSize`,
     /// `UnsupportedOffset`, `UnsupportedOffsetSize`, `UnknownForm`, `InvalidImplicitConst`.
     #[inline(always)]
+    #[tactic(auto, using(crate::proofs::AttributeTurns::as_it_is))]
     pub fn read_attribute_inline(
         &mut self,
         specification: AttributeSpecification,
@@ -469,10 +470,30 @@ impl<'abbrev, R: Reader, A: Allocator> EntriesRaw<'abbrev, R, A> {
         ensures same { self.new ≡ record self.old { rest = self.new.rest } }
         ensures kept { OnErr result (self.new ≡ self.old) }
     {
+        self.read_attribute_to(&specification, &mut Keep)
+    }
+
+    /// Reads the attribute of a specification, and hands it to a taker, put in place where it is
+    /// called.
+    ///
+    /// Refusals: those of `read_attribute`; the taker is then left anywhere.
+    #[inline(always)]
+    pub fn read_attribute_to<T: TakeAttribute<R>>(
+        &mut self,
+        specification: &AttributeSpecification,
+        taker: &mut T,
+    ) -> Result<T::Answer>
+        requires { T.has_room taker.old }
+        ensures value { read_of (answer_of (T.stand taker.new) result) self.new.rest
+            ≡ map_read (T.taken taker.old)
+            (attribute_at R.Offset.limit self.old.encoding specification.now self.old.rest) }
+        ensures same { self.new ≡ record self.old { rest = self.new.rest } }
+        ensures kept { OnErr result (self.new ≡ self.old) }
+    {
         let mut rest = self.input.copy();
-        let attribute = parse_attribute(&mut rest, self.encoding, specification)?;
+        let taken = read_form::<R, T, false>(&mut rest, self.encoding, specification, taker)?;
         self.input = rest;
-        Ok(attribute)
+        Ok(taken)
     }
 
     /// Passes the attributes of these specifications; those of known sizes are passed together.
@@ -566,7 +587,7 @@ fn parse_attributes<R: Reader, A: Allocator>(
 {
     attrs.reserve(specifications.len())?;
     for specification in specifications {
-        push_attribute(input, encoding, specification, attrs)?;
+        read_form::<R, Vec<Attribute<R>, A>, true>(input, encoding, specification, attrs)?;
     }
     Ok(())
 }

@@ -4,7 +4,7 @@
 ghost use Rattle.std.proofs.Common.{rules};
 
 use crate::samples::{encoding, table_of};
-use crate::units::samples::{pass, raw_in, raw_over, specification};
+use crate::units::samples::{pass, raw_in, raw_over, read, specification};
 use gimli_base::{Abbreviations, EndianSlice, LittleEndian, Reader, ReaderOffsetId, Result};
 use gimli_units::DebuggingInformationEntry;
 use std::alloc::Global;
@@ -231,5 +231,44 @@ fn passes_forms_of_known_sizes_by_one_skip(rt: HostRuntime) -> std::result::Resu
     for (forms, bytes) in cases {
         assert!(rt; skips_of(&rt, rt.alloc(), forms, bytes)? == 1);
     }
+    Ok(())
+}
+
+// The forms that read a value, but for implicit_const.
+const READ: [u16; 46] = [
+    0x01, 0x03, 0x04, 0x05, 0x06, 0x07, 0x08, 0x09, 0x0a, 0x0b, 0x0c, 0x0d, 0x0e, 0x0f, 0x10, 0x11,
+    0x12, 0x13, 0x14, 0x15, 0x17, 0x18, 0x19, 0x1a, 0x1b, 0x1c, 0x1d, 0x1e, 0x1f, 0x20, 0x22, 0x23,
+    0x24, 0x25, 0x26, 0x27, 0x28, 0x29, 0x2a, 0x2b, 0x2c, 0x1f01, 0x1f02, 0x1f20, 0x1f21, 0x3f01,
+];
+
+// How often a reader is copied where an attribute of this form is read from these bytes.
+fn copies_of(
+    rt: &impl Abort,
+    alloc: Global,
+    version: u16,
+    form: u16,
+    bytes: &[u8],
+) -> std::result::Result<u64, Fail> {
+    let table = table_of(alloc, &[0])?;
+    let counts = Counts::new();
+    let mut raw = raw_in(encoding(version, 4), reader_of(bytes, &counts), &table);
+    let _ = read(&mut raw, specification(rt, 0x2000, form));
+    Ok(counts.copies.get())
+}
+
+// The call takes a reader of its own, and a value that is read by several calls one more; so does each code of
+// an indirect form.
+#[test]
+fn a_read_attribute_copies_a_reader_seldom(rt: HostRuntime) -> std::result::Result<(), Fail> {
+    let bytes = b"\x01\x01\x01\x01\x01\x01\x01\x01\x01\x01\x01\x01\x01\x01\x01\x01\0";
+    for form in READ {
+        for version in [2, 5] {
+            assert!(rt; copies_of(&rt, rt.alloc(), version, form, bytes)? <= 2);
+        }
+    }
+    // a text without its zero
+    assert!(rt; copies_of(&rt, rt.alloc(), 5, 0x08, &[1; 8])? <= 1);
+    assert!(rt; copies_of(&rt, rt.alloc(), 2, 0x16, &[0x10, 1, 1, 1, 1])? <= 3);
+    assert!(rt; copies_of(&rt, rt.alloc(), 5, 0x16, &[0x16, 0x08, 1, 1, 0])? <= 4);
     Ok(())
 }

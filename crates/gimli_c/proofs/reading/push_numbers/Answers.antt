@@ -1,4 +1,4 @@
-use Rattle.std.proofs.Common.{◌≡◌, ◌+◌, ◌++◌, ◌∷◌, [], rules, arith, Err, drop, ap, ◌∙◌, sym}
+use Rattle.std.proofs.Common.{◌≡◌, ◌+◌, rules, arith, Err, drop, ap, ◌∙◌, sym}
 use Rattle.gimli_units.specs.RawPlace.{RawPlace}
 use Rattle.gimli_units.proofs.AttributeTurns.{after}
 use Rattle.gimli_c.proofs.Heads.{numbers_at, numbers_refused, numbers_more, numbers_end}
@@ -17,11 +17,10 @@ pub loop-specification-preserved : goal.loop-specification-preserved
 loop-specification-preserved g c =
     let inv = c.loop-specification.invariant in
     let encoding = ap (λ (p : RawPlace). p.encoding) inv.same in
-    let left = c.read_attribute_inline.new.self.rest in
+    let left = c.read_attribute_to.new.self.rest in
     let more = numbers_more _ _ _ _ _ _ _ inv.read _ _ _ c.loop-specification-test.true
     c.specification-item.is (rw encoding at c.in_ok-attribute.ensures.value) in
-    let items = c.push_reserved.ensures.items
-    ∙ ap (λ x. c.loop-specification.numbers.items ++ x ∷ []) c.attr_of.ensures in
+    let items = c.push_reserved.ensures.items in
     record {
       read =
           more

@@ -6,7 +6,7 @@ use Rattle.gimli_units.proofs.HeadReads.{entry_of_head, refusal_of_head}
 use Rattle.gimli_units.specs.RawPlace.{RawPlace}
 use Rattle.gimli_units.specs.Rows.{Row}
 use Rattle.gimli_units.specs.CursorMoves.{rows_of}
-use Rattle.gimli_headers.specs.OpenRows.{check_held, judgement, IsRowOf}
+use Rattle.gimli_headers.specs.OpenRows.{check_held, judgement, IsPassedRow}
 use Rattle.gimli_headers.proofs.RowTurns.{ended_rows, refused_rows, more_rows, turn_judged}
 use Rattle.gimli_headers.proofs.RowTurns.{head_null, not_twice}
 use Rattle.std.specs.Prelude.{not}
@@ -60,7 +60,7 @@ rows-preserved g c =
     more_rows limit p q r some h.of.reads next c.next_offset-offset.ensures c.next_offset.ensures refl in
     let same_end : q.end ≡ p.end = ap (λ (x : RawPlace). x.end) c.in-Ok.ensures.same in
     let end : number c.args.end.0 ≡ p.end = c.requires ∙ sym c.rows.invariant.end in
-    let is : IsRowOf number
+    let is : IsPassedRow number
     (record {
       is_null = c.is_none.result;
       offset = c.next_offset-offset.result;

@@ -15,18 +15,18 @@ returns-in_err-reference g c =
     c.in_err-reference.ensures in
     search rules
 
-pub returns-in_err-pass_as_read : goal.returns-in_err-pass_as_read
-returns-in_err-pass_as_read g c =
+pub returns-in_err-pass_behind : goal.returns-in_err-pass_behind
+returns-in_err-pass_behind g c =
     let refused = behind_refused _ _ _ _ _ _ _ _ _ c.pass_run-left.ensures.passed
     c.runs.invariant refl _ _ c.in-Some.ensures.cases.0 (sym c.is_led.ensures ∙ c.if-is_led.true) _
-    _ c.in_ok-reference.ensures _ c.in_err-pass_as_read.ensures in
+    _ c.in_ok-reference.ensures _ c.in_err-pass_behind.ensures in
     search rules
 
 pub returns-then-is_led : goal.returns-then-is_led
 returns-then-is_led g c =
     reference_found _ _ _ _ _ _ _ _ _ c.pass_run-left.ensures.passed
     c.runs.invariant refl _ _ c.in-Some.ensures.cases.0 (sym c.is_led.ensures ∙ c.if-is_led.true) _
-    _ c.in_ok-reference.ensures _ _ c.in_ok-pass_as_read.ensures
+    _ c.in_ok-reference.ensures _ _ c.in_ok-pass_behind.ensures
 
 pub returns-in_err-pass_value : goal.returns-in_err-pass_value
 returns-in_err-pass_value g c =

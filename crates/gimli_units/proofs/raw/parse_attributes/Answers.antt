@@ -1,24 +1,22 @@
-use Rattle.std.proofs.Common.{◌≡◌, rules, arith, Err}
+use Rattle.std.proofs.Common.{◌≡◌, ℕ, rules, arith, ap, Err}
 use Rattle.gimli_units.proofs.AttributeTurns.{turn_not, turn_onto, turn_end}
 use Rattle.gimli_units.proofs.raw.parse_attributes.Goals as goal
 
-pub returns-in_err-push_attribute-clause-value : goal.returns-in_err-push_attribute-clause-value
-returns-in_err-push_attribute-clause-value g c =
-    let r : c.from_residual-in_err-push_attribute.result
-    ≡ Err c.in_err-push_attribute.field-0.0 = search rules in
+pub returns-in_err-read_form-clause-value : goal.returns-in_err-read_form-clause-value
+returns-in_err-read_form-clause-value g c =
+    let r : c.from_residual-in_err-read_form.result
+    ≡ Err c.in_err-read_form.field-0.0 = search rules in
     rw r
     (λ _. turn_not _ _ _ _ _ _ _ c.loop-specification.invariant.same _ _
-    c.loop-specification-test.true c.specification-item.is c.in_err-push_attribute.ensures.value)
+    c.loop-specification-test.true c.specification-item.is _ c.in_err-read_form.ensures)
 
 pub loop-specification-preserved : goal.loop-specification-preserved
 loop-specification-preserved g c =
-    record {
-      same =
-          turn_onto _ _ _ _ _ _ _ c.loop-specification.invariant.same _ _ _
-          c.loop-specification-test.true c.specification-item.is
-          c.in_ok-push_attribute.ensures.value;
-      room = omega (arith, c.in_ok-push_attribute.ensures.room);
-    }
+    let onto = turn_onto _ _ _ _ _ _ _ c.loop-specification.invariant.same _ _
+    c.loop-specification-test.true c.specification-item.is _ _ _ c.in_ok-read_form.ensures in
+    let count = ap (λ (p : ℕ × ℕ). p.0) onto.1 in
+    let room = ap (λ (p : ℕ × ℕ). p.1) onto.1 in
+    record { same = onto.0; room = omega (arith, count, room) }
 
 pub returns-clause-value : goal.returns-clause-value
 returns-clause-value g c =

@@ -1,95 +1,67 @@
 use Rattle.std.proofs.Common.{◌≡◌, ◌∙◌, ap, w64, to_z, of_z}
 use Rattle.std.proofs.lemmas.Int.{to_z-of_z}
 use Rattle.gimli_units.specs.CursorMoves.{CursorView}
-use Rattle.gimli_units.specs.CursorRead.{without_entry, passed_over}
 use Rattle.gimli_units.proofs.PassedOn.{sound_pass}
 use Rattle.gimli_units.proofs.SeekTurns.{passing_on, passing_shorter, passing_out, passing_to}
+use Rattle.gimli_units.proofs.SeekTurns.{passed_here}
 use Rattle.gimli_units.proofs.cursor.EntriesCursor.pass_to.Goals as goal
 
 pub stand-requires : goal.stand-requires
 stand-requires g c =
-    let n = g.R.Offset.ReaderOffset.number in
     let limit = g.R.Offset.ReaderOffset.limit in
     let deep : to_z w64 (of_z w64 c.next_depth-depth.result) ≡ c.passing.raw.depth =
     to_z-of_z w64 _ (record { sfits = c.next_depth-depth.type_inv }) ∙ c.next_depth-depth.ensures in
-    let here : CursorView =
-    without_entry c.passing.raw (n c.passing.offset.0) (to_z w64 c.passing.depth-bits) c.args.self.now.follows
-    c.passing.reads in
-    let new : CursorView = passed_over here c.pass_on.new.raw in
     let follows : c.self.inside.follows ≡ c.args.self.now.follows =
     ap (λ (x : CursorView). x.follows) c.self.view_is in
-    let passed = rw follows at c.pass_on.ensures.passed here in
+    let passed = passed_here limit _ _ _ _ _ _ follows c.pass_on.ensures.passed _ _ _ in
     rw (follows, deep, c.next_offset-offset.ensures)
-    (sound_pass limit _ here c.pass_on.result new c.passing.invariant.passing.sound
-    passed)
+    (sound_pass limit _ _ _ _ c.passing.invariant.passing.sound passed)
 
 pub returns-in-Err-clause-refused : goal.returns-in-Err-clause-refused
 returns-in-Err-clause-refused g c =
-    let n = g.R.Offset.ReaderOffset.number in
     let limit = g.R.Offset.ReaderOffset.limit in
     let deep : to_z w64 (of_z w64 c.next_depth-depth.result) ≡ c.passing.raw.depth =
     to_z-of_z w64 _ (record { sfits = c.next_depth-depth.type_inv }) ∙ c.next_depth-depth.ensures in
-    let here : CursorView =
-    without_entry c.passing.raw (n c.passing.offset.0) (to_z w64 c.passing.depth-bits) c.args.self.now.follows
-    c.passing.reads in
-    let new : CursorView = passed_over here c.pass_on.new.raw in
     let follows : c.self.inside.follows ≡ c.args.self.now.follows =
     ap (λ (x : CursorView). x.follows) c.self.view_is in
-    let passed = rw follows at c.pass_on.ensures.passed here in
+    let passed = passed_here limit _ _ _ _ _ _ follows c.pass_on.ensures.passed
+    (g.R.Offset.ReaderOffset.number c.passing.offset.0) (to_z w64 c.passing.depth-bits)
+    c.passing.reads in
     let same = to_z-of_z w64 c.args.sought c.ranges.sought in
     rw (c.stand.ensures, follows, deep, c.next_offset-offset.ensures)
-    (passing_out limit c.args.sought c.args.self.now here c.pass_on.result new
+    (passing_out limit c.args.sought c.args.self.now _ c.pass_on.result _
     (rw same at c.passing.invariant.passing) (rw same at passed) c.in-Err.refusal
     c.in-Err.is)
 
 pub passing-smaller : goal.passing-smaller
 passing-smaller g c =
-    let n = g.R.Offset.ReaderOffset.number in
     let limit = g.R.Offset.ReaderOffset.limit in
-    let deep : to_z w64 (of_z w64 c.next_depth-depth.result) ≡ c.passing.raw.depth =
-    to_z-of_z w64 _ (record { sfits = c.next_depth-depth.type_inv }) ∙ c.next_depth-depth.ensures in
-    let here : CursorView =
-    without_entry c.passing.raw (n c.passing.offset.0) (to_z w64 c.passing.depth-bits) c.args.self.now.follows
-    c.passing.reads in
-    let new : CursorView = passed_over here c.pass_on.new.raw in
-    let follows : c.self.inside.follows ≡ c.args.self.now.follows =
-    ap (λ (x : CursorView). x.follows) c.self.view_is in
-    let passed = rw follows at c.pass_on.ensures.passed here in
-    passing_shorter limit _ c.args.self.now here c.pass_on.result new
-    c.passing.invariant.passing.sound passed c.in-Ok.is
+    let passed = passed_here limit _ _ _ _ _ _ (ap (λ (x : CursorView). x.follows) c.self.view_is)
+    c.pass_on.ensures.passed _ _ _ in
+    passing_shorter limit _ c.args.self.now _ _ _ c.passing.invariant.passing.sound passed
+    c.in-Ok.is
 
 pub passing-preserved : goal.passing-preserved
 passing-preserved g c =
-    let n = g.R.Offset.ReaderOffset.number in
     let limit = g.R.Offset.ReaderOffset.limit in
     let deep : to_z w64 (of_z w64 c.next_depth-depth.result) ≡ c.passing.raw.depth =
     to_z-of_z w64 _ (record { sfits = c.next_depth-depth.type_inv }) ∙ c.next_depth-depth.ensures in
-    let here : CursorView =
-    without_entry c.passing.raw (n c.passing.offset.0) (to_z w64 c.passing.depth-bits) c.args.self.now.follows
-    c.passing.reads in
-    let new : CursorView = passed_over here c.pass_on.new.raw in
-    let follows : c.self.inside.follows ≡ c.args.self.now.follows =
-    ap (λ (x : CursorView). x.follows) c.self.view_is in
-    let passed = rw follows at c.pass_on.ensures.passed here in
+    let passed = passed_here limit _ _ _ _ _ _ (ap (λ (x : CursorView). x.follows) c.self.view_is)
+    c.pass_on.ensures.passed _ _ _ in
     record {
       none = c.pass_on.ensures.none;
       passing =
           rw (deep, c.next_offset-offset.ensures)
-          (passing_on limit _ c.args.self.now here c.pass_on.result new
-          c.passing.invariant.passing passed c.in-Ok.is
+          (passing_on limit _ c.args.self.now _ _ _ c.passing.invariant.passing passed c.in-Ok.is
           (c.is_before.ensures.other c.passing-test.true));
     }
 
 pub returns-clause-passed : goal.returns-clause-passed
 returns-clause-passed g c =
-    let n = g.R.Offset.ReaderOffset.number in
-    let limit = g.R.Offset.ReaderOffset.limit in
     let same = to_z-of_z w64 c.args.sought c.ranges.sought in
-    let here : CursorView =
-    without_entry c.passing.raw (n c.passing.offset.0) (to_z w64 c.passing.depth-bits) c.args.self.now.follows
-    c.passing.reads in
     let follows : c.self.inside.follows ≡ c.args.self.now.follows =
     ap (λ (x : CursorView). x.follows) c.self.view_is in
     rw (c.stand-2.ensures, follows)
-    (passing_to limit c.args.sought c.args.self.now here (rw same at c.passing.invariant.passing)
+    (passing_to g.R.Offset.ReaderOffset.limit c.args.sought c.args.self.now _
+    (rw same at c.passing.invariant.passing)
     (rw same at c.is_before.ensures.same c.passing-test.false))

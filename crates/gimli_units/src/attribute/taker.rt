@@ -1,0 +1,90 @@
+//! Takers: what attributes are handed to as they are read.
+
+ghost use Rattle.std.specs.Prelude.{◌≡◌};
+ghost use Rattle.gimli_units.specs.Value.{map_value, map_attribute};
+ghost use Rattle.gimli_units.specs.Entry.{Attr};
+ghost use Rattle.gimli_units.specs.Taking.{with_value};
+
+use super::Attribute;
+use crate::AttributeValue;
+use gimli_base::{AttributeSpecification, Reader};
+
+/// What an attribute is handed to, once, when its value is read; where it is refused, it is not.
+pub trait TakeAttribute<R: Reader> {
+    /// What taking an attribute answers.
+    type Answer;
+
+    // what a taker and its answer stand for
+    ghost Stand: { Type 0 };
+
+    ghost stand: { Self → Self.Answer → Stand };
+
+    // the same, by what the attribute stands for
+    ghost taken: { Self → Attr → Stand };
+
+    // whether one more can be taken
+    ghost has_room: { Self → Type 0 };
+
+    /// Takes the attribute of a specification that has this value.
+    fn take(
+        &mut self,
+        specification: &AttributeSpecification,
+        value: AttributeValue<R>,
+    ) -> Self::Answer
+        requires { has_room self.old }
+        ensures { stand self.new result ≡ taken self.old
+            (with_value specification.now (map_value R.view R.Offset.number value)) };
+}
+
+/// A taker that hands the attribute back.
+#[derive(Drop)]
+pub(crate) struct Keep;
+
+impl<R: Reader> TakeAttribute<R> for Keep {
+    type Answer = Attribute<R>;
+
+    ghost Stand = { Attr };
+
+    ghost stand = { λ _ a. map_attribute R.view R.Offset.number a };
+
+    ghost taken = { λ _ a. a };
+
+    ghost has_room = { λ _. Unit {0} };
+
+    #[inline]
+    fn take(
+        &mut self,
+        specification: &AttributeSpecification,
+        value: AttributeValue<R>,
+    ) -> Attribute<R>
+        ensures { map_attribute R.view R.Offset.number result
+            ≡ with_value specification.now (map_value R.view R.Offset.number value) }
+    {
+        Attribute {
+            name: specification.name(),
+            form: specification.form(),
+            value,
+        }
+    }
+}
+
+/// A taker that lets go what it is handed.
+#[derive(Drop)]
+pub(crate) struct Pass;
+
+impl<R: Reader> TakeAttribute<R> for Pass {
+    type Answer = ();
+
+    ghost Stand = { Unit {0} };
+
+    ghost stand = { λ _ _. tt };
+
+    ghost taken = { λ _ _. tt };
+
+    ghost has_room = { λ _. Unit {0} };
+
+    #[inline(always)]
+    fn take(&mut self, _specification: &AttributeSpecification, _value: AttributeValue<R>)
+        ensures { Unit {0} }
+    {}
+}
