@@ -26,7 +26,7 @@ TYPES = {"compile": 1, "compilation": 1, "type": 2, "partial": 3, "skeleton": 4,
 # Rows of tables
 
 def read_bytes(text, names):
-    """The bytes of a section, as crates/gimli_vectors says."""
+    """The bytes of a section, as crates/test_tables says."""
     out = b""
     for word in text.split():
         if word.startswith("$"):

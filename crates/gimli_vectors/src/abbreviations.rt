@@ -2,14 +2,15 @@
 
 use crate::attributes::Raw;
 use crate::entries::{table_of, write_next};
-use crate::tables::{Call, Outcome, Stop, write_refusal};
 use crate::units::unit_of;
 use gimli_base::{
-    Abbreviation, Abbreviations, DebugAbbrev, DebugAbbrevOffset, Encoding, Format, Reader, ReaderOffset,
+    Abbreviation, Abbreviations, DebugAbbrev, DebugAbbrevOffset, Encoding, Format, Reader,
+    ReaderOffset,
 };
 use gimli_units::{EntriesRaw, UnitOffset};
 use std::alloc::Global;
 use std::io::Write;
+use test_tables::{Call, Outcome, Stop, write_refusal};
 
 /// Writes the refusal of the table at an offset, or the declaration of each code that is asked for.
 pub(crate) fn write_abbreviations<R: Reader>(call: &Call<'_, R>, out: &mut Vec<u8>) -> Outcome {
@@ -73,7 +74,10 @@ pub(crate) fn write_codes<R: Reader>(call: &Call<'_, R>, out: &mut Vec<u8>) -> O
         version: 4,
         address_size: 4,
     };
-    write_codes_left(&mut EntriesRaw::new(input, encoding, &table, UnitOffset(start)), out)
+    write_codes_left(
+        &mut EntriesRaw::new(input, encoding, &table, UnitOffset(start)),
+        out,
+    )
 }
 
 // Writes the declarations of the codes that are left.

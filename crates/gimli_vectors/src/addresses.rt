@@ -1,9 +1,9 @@
 //! Addresses of a table, sums of addresses, and addresses that stand for none.
 
-use crate::tables::{Call, Outcome, Stop, write_refusal};
 use crate::units::unit_of;
 use gimli_base::{DebugAddr, DebugAddrBase, DebugAddrIndex, Error, Reader, ReaderAddress, Result};
 use std::io::Write;
+use test_tables::{Call, Outcome, Stop, write_refusal};
 
 // The address of a size at an index of the table at a base, both of which are words from an index on.
 fn address_at<R: Reader>(call: &Call<'_, R>, size: u8, index: usize) -> Outcome<Result<u64>> {

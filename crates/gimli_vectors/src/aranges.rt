@@ -2,10 +2,10 @@
 
 use crate::items::{Item, write_items};
 use crate::shown::write_encoding;
-use crate::tables::{Call, Outcome, write_refusal};
 use gimli_base::{DebugArangesOffset, Reader, ReaderOffset};
 use gimli_lists::{ArangeHeader, DebugAranges};
 use std::io::Write;
+use test_tables::{Call, Outcome, write_refusal};
 
 /// Writes each set of a section, and the refusal where one is refused.
 pub(crate) fn write_aranges<R: Reader>(call: &Call<'_, R>, out: &mut Vec<u8>) -> Outcome {

@@ -2,7 +2,6 @@
 
 use crate::conversions::write_conversions;
 use crate::shown::{tell_unless, write_either};
-use crate::tables::{Call, Outcome, Stop, parse_number, write_refusal};
 use crate::values::write_value;
 use gimli_base::{
     Abbreviations, AttributeSpecification, DW_FORM_implicit_const, DebugAbbrev, DebugAbbrevOffset,
@@ -11,6 +10,7 @@ use gimli_base::{
 use gimli_units::{Attribute, EntriesRaw, UnitOffset};
 use std::alloc::Global;
 use std::io::Write;
+use test_tables::{Call, Outcome, Stop, parse_number, write_refusal};
 
 /// A reader of entries.
 pub(crate) type Raw<'abbrev, R> = EntriesRaw<'abbrev, R, Global>;
@@ -80,7 +80,7 @@ pub(crate) fn write_attribute<R: Reader>(call: &Call<'_, R>, out: &mut Vec<u8>) 
     match call.name() {
         "debug" => return write_debug(&raw.read_attribute(specification), out),
         "size" => return write_size(specification.size(input.encoding), out),
-        name => match read_by(&mut raw, specification, name == "inline") {
+        name => match read_by(call.alloc, &mut raw, specification, name) {
             Ok(attribute) => write_shown(call.alloc, &attribute, specification, out)?,
             Err(error) => write_refusal(out, error)?,
         },
@@ -91,17 +91,30 @@ pub(crate) fn write_attribute<R: Reader>(call: &Call<'_, R>, out: &mut Vec<u8>) 
     write_skipped(&mut input.raw(), &input.reader, &[specification], out)
 }
 
-/// Reads an attribute by either call.
+/// Reads an attribute by the call of a name.
 pub(crate) fn read_by<R: Reader>(
+    alloc: Global,
     raw: &mut Raw<'_, R>,
     specification: AttributeSpecification,
-    inline: bool,
+    name: &str,
 ) -> Result<Attribute<R>> {
-    if inline {
-        raw.read_attribute_inline(specification)
-    } else {
-        raw.read_attribute(specification)
+    match name {
+        "inline" => raw.read_attribute_inline(specification),
+        "taken" => read_onto(alloc, raw, specification),
+        _ => raw.read_attribute(specification),
     }
+}
+
+// Reads an attribute onto a list that has room for it alone, and takes it from there.
+fn read_onto<R: Reader>(
+    alloc: Global,
+    raw: &mut Raw<'_, R>,
+    specification: AttributeSpecification,
+) -> Result<Attribute<R>> {
+    let mut list = Vec::new(alloc);
+    list.reserve(1)?;
+    raw.read_attribute_to(&specification, &mut list)?;
+    list.pop().ok_or(Error::OutOfMemory)
 }
 
 /// Writes the offset of what is read next, and ends the line.

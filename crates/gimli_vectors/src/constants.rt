@@ -1,8 +1,8 @@
 //! The numbers of the codes.
 
-use crate::tables::{Case, Outcome, Stop};
 use gimli_base::*;
 use std::io::Write;
+use test_tables::{Case, Outcome, Stop};
 
 // The number of a code's name among codes; the time of its proof is as the square of their number.
 macro_rules! number_of {

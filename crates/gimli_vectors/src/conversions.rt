@@ -1,11 +1,11 @@
 //! The numbers and the expression that attributes and values can be made.
 
 use crate::shown::write_either;
-use crate::tables::{Outcome, hex_of};
 use gimli_base::{Expression, Reader, ReaderOffset};
 use gimli_units::Attribute;
 use std::alloc::Global;
 use std::io::Write;
+use test_tables::{Outcome, hex_of};
 
 // The numbers of an attribute or of a value, each with the name of its conversion.
 macro_rules! numbers_of {

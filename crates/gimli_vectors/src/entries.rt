@@ -2,13 +2,13 @@
 
 use crate::attributes::{Raw, parse_code};
 use crate::shown::tell_unless;
-use crate::tables::{Call, Outcome, Stop, write_refusal};
 use crate::units::unit_of;
 use crate::values::{write_parts, write_value};
 use gimli_base::{Abbreviations, DebugAbbrev, DwAt, Reader, ReaderOffset};
 use gimli_units::{DebuggingInformationEntry, UnitHeader, UnitOffset};
 use std::alloc::Global;
 use std::io::Write;
+use test_tables::{Call, Outcome, Stop, write_refusal};
 
 type Entry<R> = DebuggingInformationEntry<R, Global>;
 

@@ -1,7 +1,6 @@
 //! Heads of entries that are read alone, beside the whole entries.
 
 use crate::attributes::Raw;
-use crate::tables::{Call, Outcome, write_refusal};
 use gimli_base::{
     Abbreviation, Abbreviations, DebugAbbrev, DebugAbbrevOffset, Encoding, Reader, ReaderOffset,
     Result,
@@ -9,6 +8,7 @@ use gimli_base::{
 use gimli_units::{DebuggingInformationEntry, EntriesRaw, UnitOffset};
 use std::alloc::Global;
 use std::io::Write;
+use test_tables::{Call, Outcome, write_refusal};
 
 // What a read tells: tag, children flag and where the sibling is, or why it is refused; and the offset and
 // the depth of what is read next.
@@ -85,7 +85,7 @@ impl<'table, R: Reader> Walk<'table, R> {
         let mut entry = DebuggingInformationEntry::null(alloc);
         let is_read = self.raw.read_entry(&mut entry).is_ok();
         let has_head = self.head.read_head().is_ok();
-        let has_both = self.beside.read_head_and_sibling().is_ok();
+        let has_both = read_both(&mut self.beside).is_ok();
         let place = (self.raw.next_offset(), self.raw.next_depth());
         is_same
             && (has_head, has_both) == (is_read, is_read)
@@ -94,9 +94,17 @@ impl<'table, R: Reader> Walk<'table, R> {
     }
 }
 
+// The declaration of the next entry, and where its sibling is.
+type Both<'table, O> = (Option<&'table Abbreviation<Global>>, Option<UnitOffset<O>>);
+
+// Reads the head of the next entry. It has no clauses, and so costs its callers little to prove.
+fn read_both<'table, R: Reader>(raw: &mut Raw<'table, R>) -> Result<Both<'table, R::Offset>> {
+    raw.read_head_and_sibling()
+}
+
 // Writes the head of the next entry.
 fn write_head<R: Reader>(mut raw: Raw<'_, R>, out: &mut Vec<u8>) -> Outcome {
-    match raw.read_head_and_sibling() {
+    match read_both(&mut raw) {
         Ok((Some(declared), sibling)) => {
             write!(out, "{}", declared.code())?;
             if let Some(sibling) = number(sibling) {
@@ -191,7 +199,7 @@ fn of_head<R: Reader>(mut raw: Raw<'_, R>) -> Told {
 
 // What its head tells with the sibling.
 fn of_head_and_sibling<R: Reader>(mut raw: Raw<'_, R>) -> Told {
-    match raw.read_head_and_sibling() {
+    match read_both(&mut raw) {
         Ok((declared, sibling)) => told(Ok(parts(declared, number(sibling))), &raw),
         Err(error) => told(Err(error), &raw),
     }
@@ -218,7 +226,7 @@ fn has_declaration<R: Reader>(raw: &Raw<'_, R>) -> bool {
         Ok(head) => is_declared(raw.copy().read_abbreviation(), head),
         Err(_) => true,
     };
-    match beside.read_head_and_sibling() {
+    match read_both(&mut beside) {
         Ok((head, _)) => is_same && is_declared(raw.copy().read_abbreviation(), head),
         Err(_) => is_same,
     }

@@ -2,10 +2,10 @@
 
 ghost use Rattle.std.specs.Iterator.{IsFinite};
 
-use crate::tables::{Outcome, hex_of, write_refusal};
 use gimli_base::{DebugAddrIndex, Expression, Reader, ReaderOffset, Result};
 use gimli_lists::{ArangeEntry, LocationListEntry, Range, RawLocListEntry, RawRngListEntry};
 use std::io::Write;
+use test_tables::{Outcome, hex_of, write_refusal};
 
 /// What an iterator gives, or a part of it.
 pub(crate) trait Item: Drop {

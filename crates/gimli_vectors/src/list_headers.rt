@@ -2,13 +2,13 @@
 
 use crate::sections::{location_lists, range_lists};
 use crate::shown::write_encoding;
-use crate::tables::{Call, Outcome, hex_of, write_refusal};
 use gimli_base::{
     DebugLocListsBase, DebugLocListsIndex, DebugRngListsBase, DebugRngListsIndex, Reader,
     ReaderOffset,
 };
 use gimli_lists::ListsHeader;
 use std::io::Write;
+use test_tables::{Call, Outcome, hex_of, write_refusal};
 
 /// Writes the offset of a range list or a location list at an index.
 pub(crate) fn write_list_offset<R: Reader>(call: &Call<'_, R>, out: &mut Vec<u8>) -> Outcome {

@@ -2,10 +2,10 @@
 
 use crate::items::write_items;
 use crate::sections::{location_lists, range_lists};
-use crate::tables::{Call, Outcome};
 use gimli_base::{DebugAddr, DebugAddrBase, LocationListsOffset, RangeListsOffset, Reader};
 use gimli_lists::{LocListIter, LocationLists, RangeLists, RngListIter};
 use std::io::Write;
+use test_tables::{Call, Outcome};
 
 /// The sections of lists before version 5 and from it on: the first section of the case is that of the
 /// version, and the other is empty.
@@ -47,7 +47,10 @@ pub(crate) fn write_ranges<R: Reader>(call: &Call<'_, R>, out: &mut Vec<u8>) -> 
 }
 
 /// The ranges of a list.
-pub(crate) fn ranges_of<R: Reader>(call: &Call<'_, R>, lists: &RangeLists<R>) -> Outcome<RngListIter<R>> {
+pub(crate) fn ranges_of<R: Reader>(
+    call: &Call<'_, R>,
+    lists: &RangeLists<R>,
+) -> Outcome<RngListIter<R>> {
     let (encoding, base) = (call.sized_encoding(1)?, call.number(4)?);
     let (addr, addr_base) = addresses_of(call)?;
     let offset = RangeListsOffset(offset_of(call)?);

@@ -13,7 +13,6 @@ mod heads;
 mod items;
 mod list_headers;
 mod lists;
-mod memory;
 mod names;
 mod numbers;
 mod offsets;
@@ -21,13 +20,11 @@ mod reads;
 mod refusals;
 mod sections;
 mod shown;
-mod tables;
 mod texts;
 mod together;
 mod turns;
 mod units;
 mod values;
-mod walks;
 
 use crate::abbreviations::{write_abbreviations, write_codes, write_unit_table};
 use crate::addresses::{write_address, write_each_size, write_of_size, write_tombstones};
@@ -44,13 +41,14 @@ use crate::offsets::{write_range, write_section_offset, write_unit_offset};
 use crate::reads::{write_reads, write_sizes};
 use crate::refusals::write_error;
 use crate::sections::write_place;
-use crate::tables::{Call, Outcome, Program, Stop, try_tables};
 use crate::texts::{write_text, write_texts};
 use crate::together::{write_passed, write_read_together};
 use crate::turns::write_turns;
 use crate::units::{write_header, write_info, write_info_at, write_types};
 use gimli_base::Reader;
 use std::{env, io};
+use test_tables::{Call, Calls, Outcome, Program, Stop, try_tables};
+use test_walks::{write_refused, write_walk};
 
 fn main(rt: HostRuntime) -> io::Result<()> {
     let mut is_above = false;
@@ -58,12 +56,29 @@ fn main(rt: HostRuntime) -> io::Result<()> {
         is_above = is_above || name.as_str().starts_with("data/");
     }
     let folder = folder_of(is_above);
-    try_tables(Program { rt: &rt, folder })
+    try_tables(&rt, &Vectors { rt: &rt, folder })
 }
 
 // The folder of the files that rows name, which lie beside the tables.
 fn folder_of(is_above: bool) -> &'static str {
     if is_above { "data/" } else { "" }
+}
+
+// The program: the handle of the files that rows name, and the folder that they lie in.
+#[derive(Drop)]
+struct Vectors<'a> {
+    rt: &'a HostRuntime,
+    folder: &'a str,
+}
+
+impl<'a> Program for Vectors<'a> {
+    fn answer<R: Reader + PartialEq>(&self, call: &Call<'_, R>, out: &mut Vec<u8>) -> Outcome {
+        match call.case.calls {
+            Calls::Reads => write_call(call, out),
+            Calls::Walks => write_walk(self.rt, self.folder, call, out),
+            Calls::Memory => write_refused(call, out),
+        }
+    }
 }
 
 // Writes what a call of one read, value, entry or list answers.
@@ -110,7 +125,7 @@ fn write_of_unit<R: Reader>(call: &Call<'_, R>, out: &mut Vec<u8>) -> Outcome {
 // Writes what a call of attributes, texts and lists answers.
 fn write_of_attribute<R: Reader>(call: &Call<'_, R>, out: &mut Vec<u8>) -> Outcome {
     match call.name() {
-        "attribute" | "inline" | "debug" | "size" => write_attribute(call, out),
+        "attribute" | "inline" | "taken" | "debug" | "size" => write_attribute(call, out),
         "names" | "raw_names" => write_names(call, out),
         "pass" => write_passed(call, out),
         "list" => write_read_together(call, out),

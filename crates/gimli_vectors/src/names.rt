@@ -1,10 +1,10 @@
 //! What many names make of the same bytes.
 
 use crate::attributes::{Input, parse_code, specification};
-use crate::tables::{Call, Outcome, Stop, write_refusal};
 use crate::values::write_value;
 use gimli_base::{AttributeSpecification, Reader};
 use std::io::Write;
+use test_tables::{Call, Outcome, Stop, write_refusal};
 
 /// Writes the value that the first name gives, and that of each other name whose value is another; the
 /// value is that of the name, or else that of the form.

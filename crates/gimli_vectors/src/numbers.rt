@@ -1,11 +1,11 @@
 //! Offsets of a reader, formats, and bases that stand where a unit names none.
 
 use crate::shown::format_of;
-use crate::tables::{Call, Outcome};
 use gimli_base::{
     DebugLocListsBase, DebugRngListsBase, DwarfFileType, Encoding, Reader, ReaderOffset,
 };
 use std::io::Write;
+use test_tables::{Call, Outcome};
 
 /// Writes the number of the offset of a number, made as one of so many bits.
 pub(crate) fn write_offset<R: Reader>(call: &Call<'_, R>, out: &mut Vec<u8>) -> Outcome {

@@ -1,12 +1,10 @@
 //! Offsets of units: the bytes between them, and what they are in sections.
 
-use crate::tables::{Call, Outcome, Stop, hex_of};
 use crate::units::unit_of;
 use gimli_base::{Reader, ReaderOffset};
-use gimli_units::{
-    DebugInfoOffset, DebugTypesOffset, UnitHeader, UnitOffset, UnitSectionOffset,
-};
+use gimli_units::{DebugInfoOffset, DebugTypesOffset, UnitHeader, UnitOffset, UnitSectionOffset};
 use std::io::Write;
+use test_tables::{Call, Outcome, Stop, hex_of};
 
 /// Writes the bytes of a unit between two offsets, from one on, or up to one.
 pub(crate) fn write_range<R: Reader>(call: &Call<'_, R>, out: &mut Vec<u8>) -> Outcome {

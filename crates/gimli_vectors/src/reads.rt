@@ -1,9 +1,9 @@
 //! What a reader answers to calls that read, one after the other.
 
 use crate::shown::{format_of, write_left};
-use crate::tables::{Call, Outcome, Stop};
 use gimli_base::{Error, Reader, ReaderOffset, ReaderOffsetId};
 use std::io::Write;
+use test_tables::{Call, Outcome, Stop};
 
 // The name of a call, and its number, or 0 where it has none.
 type Step<'a> = (&'a str, u64);

@@ -1,8 +1,8 @@
 //! The refusals: their numbers, and their debug texts.
 
-use crate::tables::{Case, Outcome, Stop};
 use gimli_base::{DwForm, DwLle, DwRle, DwUt, Error, ReaderOffsetId};
 use std::io::Write;
+use test_tables::{Case, Outcome, Stop};
 
 // The refusal with a name, among those that carry nothing and those that carry a value.
 macro_rules! refusal_of {

@@ -1,6 +1,5 @@
 //! Places of sections, and of the pairs of sections that have lists.
 
-use crate::tables::{Call, Outcome, Stop};
 use gimli_base::{
     DebugAbbrev, DebugAddr, DebugStr, Reader, ReaderOffset, ReaderOffsetId, Section, SectionId,
 };
@@ -9,6 +8,7 @@ use gimli_lists::{
     DebugAranges, DebugLoc, DebugLocLists, DebugRanges, DebugRngLists, LocationLists, RangeLists,
 };
 use std::io::Write;
+use test_tables::{Call, Outcome, Stop};
 
 /// The range lists of both sections.
 pub(crate) fn range_lists<R: Reader>(old: R, new: R) -> RangeLists<R> {
@@ -37,14 +37,19 @@ type Found<R> = Option<(SectionId, <R as Reader>::Offset)>;
 fn find_place<R: Reader>(call: &Call<'_, R>, place: ReaderOffsetId) -> Outcome<Found<R>> {
     let section = call.section(0)?;
     Ok(match call.case.word(1) {
-        Some("abbrev") => DebugAbbrev::from(section).lookup_offset_id(place),
-        Some("addr") => DebugAddr::from(section).lookup_offset_id(place),
-        Some("str") => DebugStr::from(section).lookup_offset_id(place),
-        Some("info") => DebugInfo::from(section).lookup_offset_id(place),
-        Some("types") => DebugTypes::from(section).lookup_offset_id(place),
-        Some("aranges") => DebugAranges::from(section).lookup_offset_id(place),
+        Some("abbrev") => find(DebugAbbrev::from(section), place),
+        Some("addr") => find(DebugAddr::from(section), place),
+        Some("str") => find(DebugStr::from(section), place),
+        Some("info") => find(DebugInfo::from(section), place),
+        Some("types") => find(DebugTypes::from(section), place),
+        Some("aranges") => find(DebugAranges::from(section), place),
         _ => find_in_lists(call, place)?,
     })
+}
+
+// Finds a place in a section.
+fn find<R: Reader, S: Section<R> + Drop>(section: S, place: ReaderOffsetId) -> Found<R> {
+    section.lookup_offset_id(place)
 }
 
 // Finds a place in the pair of sections that have lists.

@@ -1,8 +1,8 @@
 //! What several calls take or show: a format, an encoding, bytes and their place, and that something does not agree.
 
-use crate::tables::{Outcome, write_hex};
 use gimli_base::{Encoding, Format, Reader};
 use std::io::Write;
+use test_tables::{Outcome, write_hex};
 
 /// The format of the number of bytes of its offsets.
 pub(crate) fn format_of(size: u64) -> Format {

@@ -2,11 +2,11 @@
 
 use crate::attributes::{Input, specification_of};
 use crate::shown::{write_either, write_left};
-use crate::tables::{Call, Outcome, Stop, hex_of};
 use gimli_base::{DebugStr, DebugStrOffset, Reader};
 use gimli_units::Attribute;
 use std::alloc::Global;
 use std::io::Write;
+use test_tables::{Call, Outcome, Stop, hex_of};
 
 /// Writes the bytes of the text at an offset.
 pub(crate) fn write_text<R: Reader>(call: &Call<'_, R>, out: &mut Vec<u8>) -> Outcome {

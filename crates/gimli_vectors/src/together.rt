@@ -3,11 +3,11 @@
 use crate::attributes::{
     Input, Raw, parse_code, read_by, specification, write_next, write_skipped,
 };
-use crate::tables::{Call, Outcome, Stop, write_refusal};
 use crate::values::{write_parts, write_value};
 use gimli_base::{AttributeSpecification, Reader};
 use std::alloc::Global;
 use std::io::Write;
+use test_tables::{Call, Outcome, Stop, write_refusal};
 
 // The declaration of a word `NAME:FORM`.
 fn parse_pair(word: &str) -> Option<AttributeSpecification> {
@@ -47,7 +47,7 @@ pub(crate) fn write_passed<R: Reader>(call: &Call<'_, R>, out: &mut Vec<u8>) -> 
         return Ok(());
     }
     for specification in &then {
-        write_step(&mut raw, *specification, out)?;
+        write_step(call.alloc, &mut raw, *specification, out)?;
     }
     let rest = if raw.is_empty() { "end" } else { "more" };
     Ok(write!(out, "{rest} depth {}", raw.next_depth())?)
@@ -55,12 +55,13 @@ pub(crate) fn write_passed<R: Reader>(call: &Call<'_, R>, out: &mut Vec<u8>) -> 
 
 // Writes what reading an attribute answers, by one call of a copy and by the other.
 fn write_step<R: Reader>(
+    alloc: Global,
     raw: &mut Raw<'_, R>,
     specification: AttributeSpecification,
     out: &mut Vec<u8>,
 ) -> Outcome {
-    let other = read_by(&mut raw.copy(), specification, false);
-    let answer = read_by(raw, specification, true);
+    let other = read_by(alloc, &mut raw.copy(), specification, "attribute");
+    let answer = read_by(alloc, raw, specification, "inline");
     match (answer, other) {
         (Ok(attribute), Ok(_)) => write_value(&attribute.raw_value(), out)?,
         (Err(error), Err(_)) => write_refusal(out, error)?,

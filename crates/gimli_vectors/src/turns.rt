@@ -3,17 +3,18 @@
 use crate::items::Item;
 use crate::lists::{locations_of, old_and_new, ranges_of};
 use crate::sections::{location_lists, range_lists};
-use crate::tables::{Call, Outcome, Stop, write_refusal};
 use gimli_base::{DebugArangesOffset, Reader, ReaderOffset, Result};
 use gimli_lists::{
-    ArangeEntry, ArangeEntryIter, DebugAranges, LocListIter, LocationListEntry, Range, RawLocListEntry,
-    RawRngListEntry, RngListIter,
+    ArangeEntry, ArangeEntryIter, DebugAranges, LocListIter, LocationListEntry, Range,
+    RawLocListEntry, RawRngListEntry, RngListIter,
 };
 use std::io::Write;
+use test_tables::{Call, Outcome, Stop, write_refusal};
 
 // What reads the entries of a list as they are written, and what they stand for.
 trait Turns {
     type Raw: Item;
+
     type Entry: Item;
 
     fn raw(&mut self) -> Result<Option<Self::Raw>>;
@@ -25,6 +26,7 @@ trait Turns {
 
 impl<R: Reader> Turns for RngListIter<R> {
     type Raw = RawRngListEntry<R::Offset>;
+
     type Entry = Range;
 
     fn raw(&mut self) -> Result<Option<Self::Raw>> {
@@ -42,6 +44,7 @@ impl<R: Reader> Turns for RngListIter<R> {
 
 impl<R: Reader> Turns for LocListIter<R> {
     type Raw = RawLocListEntry<R>;
+
     type Entry = LocationListEntry<R>;
 
     fn raw(&mut self) -> Result<Option<Self::Raw>> {
@@ -59,6 +62,7 @@ impl<R: Reader> Turns for LocListIter<R> {
 
 impl<R: Reader> Turns for ArangeEntryIter<R> {
     type Raw = ArangeEntry;
+
     type Entry = ArangeEntry;
 
     fn raw(&mut self) -> Result<Option<ArangeEntry>> {

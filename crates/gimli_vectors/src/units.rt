@@ -1,11 +1,11 @@
 //! Units of `.debug_info` and `.debug_types`.
 
 use crate::shown::{tell_unless, write_encoding, write_left};
-use crate::tables::{Call, Outcome, Stop, write_refusal};
 use gimli_base::{Encoding, Reader, ReaderOffset, Result, SectionId};
 use gimli_headers::{DebugInfo, DebugTypes};
 use gimli_units::{DebugInfoOffset, UnitHeader, UnitType};
 use std::io::Write;
+use test_tables::{Call, Outcome, Stop, write_refusal};
 
 /// The unit that the words `info INDEX` or `types INDEX` after the call name.
 pub(crate) fn unit_of<R: Reader>(call: &Call<'_, R>) -> Outcome<UnitHeader<R>> {

@@ -1,9 +1,9 @@
 //! Values and attributes, as answers show them.
 
-use crate::tables::{Outcome, hex_of};
 use gimli_base::{Reader, ReaderOffset};
 use gimli_units::{Attribute, AttributeValue};
 use std::io::Write;
+use test_tables::{Outcome, hex_of};
 
 // The name of a value's variant and its number, for the variants that are listed after how their number is
 // made, or else the last.

@@ -1,0 +1,51 @@
+//! The rows of pairs of section files.
+
+use gimli_walk::run_words;
+use std::fs;
+use std::io::Write;
+use test_tables::{Case, Outcome};
+
+/// Writes what a word of the program says of the files `NAME.info` and `NAME.abbrev`, and then the status.
+/// The words of the case are that word and `NAME`, and the files lie in a folder. The lines of `check` are
+/// written; those of another word are compared with `NAME.WORD`, and what is written is whether they are
+/// the same, or else from which line on they are others.
+pub(crate) fn write_file(
+    rt: &HostRuntime,
+    folder: &str,
+    case: &Case,
+    out: &mut Vec<u8>,
+) -> Outcome {
+    let alloc = rt.alloc();
+    let word = case.word(1).unwrap_or("");
+    let name = case.word(2).unwrap_or("");
+    let info = format!(in alloc; "{folder}{name}.info")?;
+    let abbrev = format!(in alloc; "{folder}{name}.abbrev")?;
+    let read = |name: &str| fs::read(rt, name).ok();
+    let mut found = Vec::new(alloc);
+    let words = [word, info.as_str(), abbrev.as_str()];
+    let status = run_words(alloc, &words, &read, &mut found, &mut rt.stderr());
+    if word == "check" {
+        out.write_all(&found)?;
+    } else {
+        let wanted = format!(in alloc; "{folder}{name}.{word}")?;
+        write_difference(&fs::read(rt, &wanted)?, &found, out)?;
+    }
+    Ok(writeln!(out, "status {status}")?)
+}
+
+// Writes whether two texts are the same, or else which line is the first that they do not share.
+fn write_difference(wanted: &[u8], found: &[u8], out: &mut Vec<u8>) -> Outcome {
+    if wanted == found {
+        return Ok(writeln!(out, "its lines")?);
+    }
+    let mut line = 1_u64;
+    for (byte, other) in found.iter().zip(wanted) {
+        if byte != other {
+            break;
+        }
+        if *byte == b'\n' {
+            line = line.saturating_add(1);
+        }
+    }
+    Ok(writeln!(out, "other lines, from line {line}")?)
+}
