@@ -8,11 +8,16 @@ use Rattle.gimli_base.specs.View.{View}
 use Rattle.gimli_base.specs.Offset.{answer_of}
 use Rattle.gimli_base.specs.Reading.{Reads, map_read}
 use Rattle.gimli_base.specs.Abbreviations.{Specification}
-use Rattle.std.specs.Prelude.{◌==◌, is_some, Result}
+use Rattle.std.specs.Prelude.{◌==◌, is_some, Result, Bool, true, false, if◌then◌else◌, Option}
+use Rattle.std.specs.Prelude.{Some, None, ℤ}
+use Rattle.gimli_base.specs.declared.constants.DwForm.{DwForm}
+use Rattle.gimli_base.specs.declared.error.Error.TheVariants.{UnknownForm}
 use Rattle.gimli_units.specs.Value.{Value}
-use Rattle.gimli_units.specs.Form.{direct_at, value_at, form_at}
+use Rattle.gimli_units.specs.Form.{direct_at, value_at, value_in, form_at}
 use Rattle.gimli_units.specs.Entry.{Attr, attribute_at, attributes_at}
-use Rattle.gimli_units.specs.Taking.{with_value, made_at}
+use Rattle.gimli_units.specs.Layout.{Layout, layout_in, layout_of, forms}
+use Rattle.gimli_units.specs.Taking.{with_value, made_at, is_variable, is_variable_in, is_fixed_in}
+use Rattle.gimli_units.specs.Taking.{has_fixed_size, has_variable_size}
 use Rattle.gimli_units.proofs.Chains.{direct_value, number_stands}
 
 -- a list that was read after another
@@ -135,3 +140,32 @@ pub made_refused : {A : Type 0} → (f : Attr → A) (limit : ℕ) (e : Encoding
     → Err x ≡ map_read f (attribute_at limit e s v)
 unfolding attribute_at value_at
 made_refused f limit e s v x h = rw (← h) refl
+
+-- a form that is in no list of forms
+in_none : (form : ℕ) (rs : List (ℕ × Layout)) → is_fixed_in form rs ≡ false
+    → is_variable_in form rs ≡ false → layout_in form rs ≡ None
+in_none form [] fixed variable = refl
+in_none form (r ∷ rs) fixed variable =
+    sort (is_variable r.1) (form == r.0) (in_none form rs) fixed variable
+  where
+    sort : (t b : Bool) → (is_fixed_in form rs ≡ false → is_variable_in form rs ≡ false
+        → layout_in form rs ≡ None)
+        → (if t then is_fixed_in form rs else if b then true else is_fixed_in form rs) ≡ false
+        → (if t then (if b then true else is_variable_in form rs) else is_variable_in form rs)
+        ≡ false
+        → (if b then Some r.1 else layout_in form rs) ≡ None
+    sort true true others h k = absurd (cc)
+    sort true false others h k = others h k
+    sort false true others h k = absurd (cc)
+    sort false false others h k = others h k
+
+pub no_form : (limit : ℕ) (e : Encoding) (name : ℕ) (c : Option ℤ) (form : DwForm) (v : View)
+    → has_fixed_size form.0 ≡ false → has_variable_size form.0 ≡ false
+    → Err (UnknownForm form) ≡ direct_at limit e name c form.0 v
+unfolding direct_at layout_of has_fixed_size has_variable_size
+no_form limit e name c form v fixed variable =
+    let none : layout_of form.0 ≡ None = in_none form.0 forms fixed variable in
+    sym (ap (λ (o : Option Layout). elim o [
+      | Some l ↦ value_in limit e name c l v
+      | None ↦ Err (UnknownForm form)
+    ]) none)

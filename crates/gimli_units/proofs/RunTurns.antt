@@ -5,7 +5,7 @@ use Rattle.std.proofs.Common.{refl, sym, ap, ◌∙◌}
 use Rattle.gimli_base.specs.declared.common.Encoding.{Encoding}
 use Rattle.gimli_base.specs.declared.error.Error.{Error}
 use Rattle.gimli_base.specs.View.{View}
-use Rattle.gimli_base.specs.Reading.{◌>>=◌, map_read}
+use Rattle.gimli_base.specs.Reading.{Reads, ◌>>=◌, map_read}
 use Rattle.gimli_base.specs.Abbreviations.{Specification}
 use Rattle.gimli_units.specs.Entry.{attribute_at, attributes_at}
 use Rattle.gimli_units.specs.Kind.{unit_reference}
@@ -17,12 +17,6 @@ use Rattle.gimli_units.proofs.SiblingReads.{is_sibling, sibling_at, sibling_afte
 none_left : (ss : List Specification) → length ss ≡ 0 → ss ≡ []
 none_left [] h = refl
 none_left (s ∷ ss) h = absurd (cc)
-
-pub none_to_pass : (limit : ℕ) (e : Encoding) (ss : List Specification) (v : View)
-    → length ss ≡ 0 → Ok (tt, v) ≡ left_by (attributes_at limit e ss v)
-unfolding attributes_at
-none_to_pass limit e ss v none =
-    sym (ap (λ fs. left_by (attributes_at limit e fs v)) (none_left ss none))
 
 -- those of `left` begin at v, and after the first of them those of `behind` at w
 module _ (limit : ℕ) (e : Encoding) (leads : Bool) (all left behind : List Specification)
@@ -80,25 +74,31 @@ module _ (limit : ℕ) (e : Encoding) (leads : Bool) (all left behind : List Spe
             → sibling_at limit e all start ≡ sibling_at limit e ss u
         led_passed x u h = led_next ∙ rw (← h) refl
 
-      -- the reference
-      module _ (there : is_sibling s ≡ true) where
-        led_to : sibling_at limit e all start
-            ≡ (map_read (λ a. unit_reference a.value) (attribute_at limit e s w)
-            >>= λ q. left_by (attributes_at limit e ss q.1) >>= λ z. Ok (q.0, z.1))
-        led_to = led_first ∙ sibling_there limit e s ss w there
+      -- the reference, and what is behind it
+      pub led_through : (r : Reads (Option ℕ)) → r ≡ sibling_at limit e (s ∷ ss) w
+          → r ≡ sibling_at limit e all start
+      led_through r h = h ∙ sym led_first
 
-        pub reference_refused : (r : Error)
-            → Err r ≡ map_read (λ a. unit_reference a.value) (attribute_at limit e s w)
-            → Err r ≡ sibling_at limit e all start
-        reference_refused r h = sym (led_to ∙ rw (← h) refl)
+-- a reference to a sibling, and the values behind it
+module _ (limit : ℕ) (e : Encoding) (s : Specification) (ss : List Specification) (v : View)
+    (there : is_sibling s ≡ true) where
+  led_to : sibling_at limit e (s ∷ ss) v
+      ≡ (map_read (λ a. unit_reference a.value) (attribute_at limit e s v)
+      >>= λ q. left_by (attributes_at limit e ss q.1) >>= λ z. Ok (q.0, z.1))
+  led_to = sibling_there limit e s ss v there
 
-        module _ (o : Option ℕ) (u : View)
-            (read : Ok (o, u) ≡ map_read (λ a. unit_reference a.value) (attribute_at limit e s w)) where
-          pub behind_refused : (r : Error) → Err r ≡ left_by (attributes_at limit e ss u)
-              → Err r ≡ sibling_at limit e all start
-          behind_refused r h = sym (led_to ∙ rw (← read) (rw (← h) refl))
+  pub reference_refused : (r : Error)
+      → Err r ≡ map_read (λ a. unit_reference a.value) (attribute_at limit e s v)
+      → Err r ≡ sibling_at limit e (s ∷ ss) v
+  reference_refused r h = sym (led_to ∙ rw (← h) refl)
 
-          pub reference_found : (x : Unit {0}) (z : View)
-              → Ok (x, z) ≡ left_by (attributes_at limit e ss u)
-              → Ok (o, z) ≡ sibling_at limit e all start
-          reference_found x z h = sym (led_to ∙ rw (← read) (rw (← h) refl))
+  module _ (o : Option ℕ) (u : View)
+      (read : Ok (o, u) ≡ map_read (λ a. unit_reference a.value) (attribute_at limit e s v)) where
+    pub behind_refused : (r : Error) → Err r ≡ left_by (attributes_at limit e ss u)
+        → Err r ≡ sibling_at limit e (s ∷ ss) v
+    behind_refused r h = sym (led_to ∙ rw (← read) (rw (← h) refl))
+
+    pub reference_found : (x : Unit {0}) (z : View)
+        → Ok (x, z) ≡ left_by (attributes_at limit e ss u)
+        → Ok (o, z) ≡ sibling_at limit e (s ∷ ss) v
+    reference_found x z h = sym (led_to ∙ rw (← read) (rw (← h) refl))

@@ -1,17 +1,15 @@
 -- Attributes that are handed over as they are read (DWARF 5, 7.5.3).
-use Rattle.std.specs.Prelude.{ℕ, Bool, true, false, if◌then◌else◌, List, [], ◌∷◌, Option}
+use Rattle.std.specs.Prelude.{ℕ, Bool, true, false, if◌then◌else◌, ◌==◌, List, [], ◌∷◌, Option}
 use Rattle.std.specs.Prelude.{Some, None, Result, Ok, Err}
 use Rattle.gimli_base.specs.declared.common.Encoding.{Encoding}
 use Rattle.gimli_base.specs.declared.error.Error.{Error}
-use Rattle.gimli_base.specs.declared.error.Error.TheVariants.{UnknownForm}
 use Rattle.gimli_base.specs.View.{View}
 use Rattle.gimli_base.specs.Reading.{Reads, map_read}
 use Rattle.gimli_base.specs.Abbreviations.{Specification}
 use Rattle.gimli_units.specs.Value.{Value}
-use Rattle.gimli_units.specs.Layout.{Layout, byte, number, section_or, address, uleb, sleb, offset}
-use Rattle.gimli_units.specs.Layout.{word_offset, reference, offset_leb, offset_leb_and, block}
-use Rattle.gimli_units.specs.Layout.{block_leb, text, nothing, constant, forms, layout_in}
-use Rattle.gimli_units.specs.Form.{value_in, direct_at}
+use Rattle.gimli_units.specs.Layout.{Layout, uleb, sleb, offset_leb, offset_leb_and, block}
+use Rattle.gimli_units.specs.Layout.{block_leb, text, forms}
+use Rattle.gimli_units.specs.Form.{direct_at}
 use Rattle.gimli_units.specs.Entry.{Attr}
 
 -- the attribute of a specification that has this value
@@ -29,19 +27,27 @@ is_variable (block_leb f) = true
 is_variable (text f) = true
 is_variable l = false
 
--- the forms whose bytes do
-abbrev pub variable_in : List (ℕ × Layout) → List (ℕ × Layout)
-variable_in [] = []
-variable_in (r ∷ rs) = if is_variable r.1 then r ∷ variable_in rs else variable_in rs
+-- whether a form is among those in a list whose bytes tell it, and among those whose bytes do not
+abbrev pub is_variable_in : ℕ → List (ℕ × Layout) → Bool
+is_variable_in form [] = false
+is_variable_in form (r ∷ rs) =
+    if is_variable r.1 then (if form == r.0 then true else is_variable_in form rs)
+    else is_variable_in form rs
 
-abbrev pub value_by : Option Layout → ℕ → Encoding → Specification → ℕ → View → Reads Value
-value_by (Some l) limit e s form v = value_in limit e s.name.0 s.constant l v
-value_by None limit e s form v = Err (UnknownForm (record { 0 = form }))
+abbrev pub is_fixed_in : ℕ → List (ℕ × Layout) → Bool
+is_fixed_in form [] = false
+is_fixed_in form (r ∷ rs) =
+    if is_variable r.1 then is_fixed_in form rs
+    else if form == r.0 then true else is_fixed_in form rs
 
--- the value of one of them; any other form is refused
-unfoldable pub variable_at : ℕ → Encoding → Specification → ℕ → View → Reads Value
+-- whether a form has a variable size, and whether its size is known before it is read
+unfoldable pub has_variable_size : ℕ → Bool
 unfolding forms
-variable_at limit e s form v = value_by (layout_in form (variable_in forms)) limit e s form v
+has_variable_size form = is_variable_in form forms
+
+unfoldable pub has_fixed_size : ℕ → Bool
+unfolding forms
+has_fixed_size form = is_fixed_in form forms
 
 -- what is made of the attribute of a specification, whose value has a form that is not indirect
 abbrev pub made_at : {A : Type 0} → (Attr → A) → ℕ → Encoding → Specification → ℕ → View → Reads A

@@ -1,8 +1,7 @@
 //! Values as their forms show them.
 
-ghost use Rattle.std.specs.Prelude.{◌≡◌, ◌≤◌, ◌==◌, ◌&&◌, if◌then◌else◌, Ok, Err, None};
+ghost use Rattle.std.specs.Prelude.{◌≡◌, ◌≤◌, ◌==◌, ◌&&◌, if◌then◌else◌, Ok, None, false};
 ghost use Rattle.gimli_base.specs.Offset.{answer_of};
-ghost use Rattle.gimli_base.specs.declared.error.Error.TheVariants.{UnknownForm};
 ghost use Rattle.gimli_base.specs.Reading.{read_of, map_read, address_at, uint_offset_at, text_at};
 ghost use Rattle.gimli_base.specs.Reading.{sized_offset_at, offset_at, word_size_of};
 ghost use Rattle.gimli_units.specs.Value.{map_value};
@@ -10,7 +9,8 @@ ghost use Rattle.gimli_units.specs.Form.{is_section_name, uleb_offset_at, direct
 ghost use Rattle.gimli_units.specs.Form.{block_after};
 ghost use Rattle.gimli_units.specs.Entry.{attribute_at};
 ghost use Rattle.gimli_units.specs.Layout.{str_index, addr_index};
-ghost use Rattle.gimli_units.specs.Taking.{variable_at, made_at, read_left, OnTaken};
+ghost use Rattle.gimli_units.specs.Taking.{has_fixed_size, has_variable_size, made_at};
+ghost use Rattle.gimli_units.specs.Taking.{read_left, OnTaken};
 
 use crate::attribute::taker::TakeAttribute;
 use crate::{AttributeValue, DebugInfoOffset, UnitOffset};
@@ -199,7 +199,7 @@ macro_rules! hand_over {
 // Hands over the value of a form whose size is known before it is read; with any other it answers
 // none, and nothing is read. Where it is refused, the input and the taker are left anywhere.
 #[inline(always)]
-#[tactic(auto, unfolding(crate::specs::Form::direct_at, crate::specs::Taking::variable_at, gimli_base::specs::Reading::sized_offset_at))]
+#[tactic(auto, unfolding(crate::specs::Form::direct_at, crate::specs::Taking::has_fixed_size, gimli_base::specs::Reading::sized_offset_at))]
 fn read_fixed<R: Reader, T: TakeAttribute<R>>(
     input: &mut R,
     encoding: Encoding,
@@ -211,9 +211,8 @@ fn read_fixed<R: Reader, T: TakeAttribute<R>>(
     ensures value { OnTaken result (λ answer.
         read_of (answer_of (T.stand taker.new) answer) (R.view input.new)
         ≡ made_at (T.taken taker.old) R.Offset.limit encoding s.now form.0 (R.view input.old)) }
-    ensures others { result ≡ Ok None → let v = R.view input.old in
-        (R.view input.new ≡ v) × (taker.new ≡ taker.old) × (direct_at R.Offset.limit encoding
-        s.now.name.0 s.now.constant form.0 v ≡ variable_at R.Offset.limit encoding s.now form.0 v) }
+    ensures others { result ≡ Ok None → (R.view input.new ≡ R.view input.old)
+        × (taker.new ≡ taker.old) × (has_fixed_size form.0 ≡ false) }
 {
     hand_over! { form, taker, s;
         DW_FORM_addr => AttributeValue::Addr(address(input, encoding.address_size)?),
@@ -275,7 +274,7 @@ fn read_fixed<R: Reader, T: TakeAttribute<R>>(
 
 // The same of the forms of variable size, whose bytes tell how many they are.
 #[inline(always)]
-#[tactic(auto, unfolding(crate::specs::Form::direct_at, crate::specs::Taking::variable_at, gimli_base::specs::Reading::sized_offset_at))]
+#[tactic(auto, unfolding(crate::specs::Form::direct_at, crate::specs::Taking::has_variable_size, gimli_base::specs::Reading::sized_offset_at))]
 fn read_variable<R: Reader, T: TakeAttribute<R>>(
     input: &mut R,
     encoding: Encoding,
@@ -287,9 +286,8 @@ fn read_variable<R: Reader, T: TakeAttribute<R>>(
     ensures value { OnTaken result (λ answer.
         read_of (answer_of (T.stand taker.new) answer) (R.view input.new)
         ≡ made_at (T.taken taker.old) R.Offset.limit encoding s.now form.0 (R.view input.old)) }
-    ensures others { result ≡ Ok None → let v = R.view input.old in
-        (R.view input.new ≡ v) × (taker.new ≡ taker.old) × (variable_at R.Offset.limit encoding
-        s.now form.0 v ≡ Err (UnknownForm form)) }
+    ensures others { result ≡ Ok None → (R.view input.new ≡ R.view input.old)
+        × (taker.new ≡ taker.old) × (has_variable_size form.0 ≡ false) }
 {
     hand_over! { form, taker, s;
         DW_FORM_block1 => AttributeValue::Block(sized_block(input, 1)?),
@@ -331,6 +329,7 @@ pub(crate) fn direct_form<R: Reader>(input: &mut R, form: DwForm) -> Result<DwFo
 
 // Hands over the attribute of a specification, whose value has this form, which is not indirect;
 // where it is refused, the input and the taker are left anywhere.
+#[tactic(auto, using(crate::proofs::AttributeTurns::no_form))]
 fn read_direct<R: Reader, T: TakeAttribute<R>>(
     input: &mut R,
     encoding: Encoding,

@@ -1,7 +1,7 @@
 //! Passing attributes with the refusals of reading them: those of known sizes by their bytes, where
 //! no value whose bytes are there is refused, and the others by reading them.
 
-ghost use Rattle.std.specs.Prelude.{◌≡◌, ◌≤◌, ◌<◌, ◌==◌, ℕ, take, length, All, IfSome};
+ghost use Rattle.std.specs.Prelude.{◌≡◌, ◌≤◌, ◌<◌, ◌==◌, ◌∷◌, ℕ, take, length, All, IfSome};
 ghost use Rattle.std.specs.List.{position};
 ghost use Rattle.std.specs.Option.{option_map};
 ghost use Rattle.gimli_base.specs.Offset.{answer_of};
@@ -304,27 +304,9 @@ fn place_of_sibling(specifications: &[AttributeSpecification]) -> Option<usize>
         .position(|specification| specification.name() == DW_AT_sibling)
 }
 
-// Where the reference of this specification leads in its unit, if it is one, on a reader of its
-// own; where it is refused, the input is left anywhere.
+// Where the reference of this specification leads in its unit, if it is one; where it is refused,
+// the input is left anywhere.
 #[inline(always)]
-fn reference_of<R: Reader>(
-    input: &mut R,
-    encoding: Encoding,
-    specification: &AttributeSpecification,
-) -> Result<Option<UnitOffset<R::Offset>>>
-    ensures { read_of (answer_of (option_map (λ o. R.Offset.number o.0)) result)
-        (R.view input.new)
-        ≡ map_read (λ a. unit_reference a.value)
-        (attribute_at R.Offset.limit encoding specification.now (R.view input.old)) }
-{
-    let mut rest = input.copy();
-    let reference = read_reference(&mut rest, encoding, specification)?;
-    *input = rest;
-    Ok(reference)
-}
-
-// The same, on the reader; where it is refused, the input is left anywhere.
-#[inline(never)]
 #[tactic(auto, using(crate::proofs::AttributeTurns::as_it_is))]
 fn read_reference<R: Reader>(
     input: &mut R,
@@ -338,6 +320,45 @@ fn read_reference<R: Reader>(
 {
     let attribute = read_form::<R, Keep, false>(input, encoding, specification, &mut Keep)?;
     Ok(attribute.reference())
+}
+
+// The same of a reference to a sibling; the values behind it are passed.
+#[inline(never)]
+fn pass_led<R: Reader>(
+    input: &mut R,
+    encoding: Encoding,
+    specification: &AttributeSpecification,
+    behind: &[AttributeSpecification],
+) -> Result<Option<UnitOffset<R::Offset>>>
+    requires { specification.now.name.0 ≡ 1 }
+    ensures { read_of (answer_of (option_map (λ o. R.Offset.number o.0)) result)
+        (R.view input.new)
+        ≡ map_read sibling_of (attributes_at R.Offset.limit encoding
+        (specification.now ∷ behind.now) (R.view input.old)) }
+{
+    let reference = read_reference(input, encoding, specification)?;
+    pass_as_read(input, encoding, behind)?;
+    Ok(reference)
+}
+
+// The same by a call that gets a reader of its own, so that the caller's stays in registers.
+#[inline(always)]
+fn pass_led_apart<R: Reader>(
+    input: &mut R,
+    encoding: Encoding,
+    specification: &AttributeSpecification,
+    behind: &[AttributeSpecification],
+) -> Result<Option<UnitOffset<R::Offset>>>
+    requires { specification.now.name.0 ≡ 1 }
+    ensures { read_of (answer_of (option_map (λ o. R.Offset.number o.0)) result)
+        (R.view input.new)
+        ≡ map_read sibling_of (attributes_at R.Offset.limit encoding
+        (specification.now ∷ behind.now) (R.view input.old)) }
+{
+    let mut rest = input.copy();
+    let reference = pass_led(&mut rest, encoding, specification, behind)?;
+    *input = rest;
+    Ok(reference)
 }
 
 /// Passes what `parse_attributes` reads, with the same refusals, and answers where the first
@@ -386,46 +407,9 @@ fn pass_up_to_sibling<R: Reader>(
             return Ok(None);
         };
         if is_led(true, specification) {
-            let reference = reference_of(input, encoding, specification)?;
-            pass_behind(input, encoding, behind)?;
-            return Ok(reference);
+            return pass_led_apart(input, encoding, specification, behind);
         }
         pass_value(input, encoding, specification)?;
         left = behind;
     }
-}
-
-// Passes what stands behind a reference to a sibling, by a call that gets a reader of its own, so
-// that the caller's stays in registers: compilers that write such a reference write it last.
-#[inline(always)]
-fn pass_behind<R: Reader>(
-    input: &mut R,
-    encoding: Encoding,
-    specifications: &[AttributeSpecification],
-) -> Result<()>
-    ensures { read_of result (R.view input.new)
-        ≡ map_read (λ _. tt)
-        (attributes_at R.Offset.limit encoding specifications.now (R.view input.old)) }
-{
-    if specifications.is_empty() {
-        return Ok(());
-    }
-    let mut rest = input.copy();
-    pass_rest(&mut rest, encoding, specifications)?;
-    *input = rest;
-    Ok(())
-}
-
-// The same, on the reader.
-#[inline(never)]
-fn pass_rest<R: Reader>(
-    input: &mut R,
-    encoding: Encoding,
-    specifications: &[AttributeSpecification],
-) -> Result<()>
-    ensures { read_of result (R.view input.new)
-        ≡ map_read (λ _. tt)
-        (attributes_at R.Offset.limit encoding specifications.now (R.view input.old)) }
-{
-    pass_as_read(input, encoding, specifications)
 }

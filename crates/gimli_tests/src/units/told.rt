@@ -256,7 +256,7 @@ fn copies_of(
     Ok(counts.copies.get())
 }
 
-// The call takes a reader of its own, and a value that is read by several calls one more; so does each code of
+// The call takes a reader of its own, and a number that is read in several steps one more; so does each code of
 // an indirect form.
 #[test]
 fn a_read_attribute_copies_a_reader_seldom(rt: HostRuntime) -> std::result::Result<(), Fail> {
@@ -269,6 +269,6 @@ fn a_read_attribute_copies_a_reader_seldom(rt: HostRuntime) -> std::result::Resu
     // a text without its zero
     assert!(rt; copies_of(&rt, rt.alloc(), 5, 0x08, &[1; 8])? <= 1);
     assert!(rt; copies_of(&rt, rt.alloc(), 2, 0x16, &[0x10, 1, 1, 1, 1])? <= 3);
-    assert!(rt; copies_of(&rt, rt.alloc(), 5, 0x16, &[0x16, 0x08, 1, 1, 0])? <= 4);
+    assert!(rt; copies_of(&rt, rt.alloc(), 5, 0x16, &[0x16, 0x08, 1, 1, 0])? <= 3);
     Ok(())
 }
