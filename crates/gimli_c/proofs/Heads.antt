@@ -16,49 +16,12 @@ use Rattle.gimli_units.specs.Entry.{Attr, Entry, attribute_at, attributes_at, ab
 use Rattle.gimli_units.specs.Entry.{entry_at, null_entry}
 use Rattle.gimli_units.specs.RawPlace.{RawPlace, depth_read, depth_after, below_flag}
 use Rattle.gimli_units.specs.Head.{Head as RowHead, head_of}
-use Rattle.gimli_units.proofs.AttributeTurns.{after, with_none, turn_refused, turn_more, turn_end}
+use Rattle.gimli_units.proofs.AttributeTurns.{after}
 use Rattle.gimli_units.proofs.HeadReads.{EntryOf}
 use Rattle.gimli_c.specs.declared.attrs.GimliAttr.{GimliAttr}
 use Rattle.gimli_c.specs.declared.reading.Head.{Head}
 use Rattle.gimli_c.specs.Attrs.{attr_of}
 use Rattle.gimli_c.specs.Heads.{null_head, declared_head, IsReadPast, IsReadWith, AreRead}
-
--- the first i attributes were read, and the others are ahead of v
-pub record ReadOn (limit : ℕ) (e : Encoding) (ss : List Specification) (i : ℕ) (all v : View)
-    : Type 0 where
-  pub attributes : List Attr
-  pub same : attributes_at limit e ss all
-      ≡ after attributes (attributes_at limit e (drop i ss) v)
-
-pub on_none : (limit : ℕ) (e : Encoding) (ss : List Specification) (v : View)
-    → ReadOn limit e ss 0 v v
-on_none limit e ss v = record {
-  attributes = [];
-  same = with_none (attributes_at limit e ss v);
-}
-
-pub on_more : (limit : ℕ) (e : Encoding) (ss : List Specification) (i : ℕ) (all v : View)
-    → (r : ReadOn limit e ss i all v) → (s : Specification) (a : Attr) (w : View)
-    → i < length ss → s ≡ get_or ss i s → Ok (a, w) ≡ attribute_at limit e s v
-    → ReadOn limit e ss (i + 1) all w
-on_more limit e ss i all v r s a w lt is h = record {
-  attributes = r.attributes ++ a ∷ [];
-  same = turn_more limit e ss i all v r.attributes r.same s a w lt is h;
-}
-
-pub on_refused : (limit : ℕ) (e : Encoding) (ss : List Specification) (i : ℕ) (all v : View)
-    → ReadOn limit e ss i all v → (s : Specification) (x : Error)
-    → i < length ss → s ≡ get_or ss i s → Err x ≡ attribute_at limit e s v
-    → Err x ≡ attributes_at limit e ss all
-on_refused limit e ss i all v r s x lt is h =
-    turn_refused limit e ss i all v r.attributes r.same s x lt is h
-
-pub on_end : (limit : ℕ) (e : Encoding) (ss : List Specification) (i : ℕ) (all v : View)
-    → (r : ReadOn limit e ss i all v) → length ss ≤ i → AreRead limit e ss all v
-on_end limit e ss i all v r le = record {
-  attributes = r.attributes;
-  are = turn_end limit e ss i all v r.attributes r.same le;
-}
 
 -- the attributes of these specifications, as numbers
 abbrev pub numbers_at : ℕ → Encoding → List Specification → View → Reads (List GimliAttr)
@@ -159,9 +122,6 @@ module _ (limit : ℕ) (p q : RawPlace) (h : ◌≡◌ {A = Reads (Option Declar
   unfolding entry_at
   null_is = rw (← h) refl
 
-  pub past_null : IsReadPast limit p null_head q
-  past_null = record { entry = null_entry; is = null_is; head_is = refl; moved = moved }
-
   pub null_with : (ns : List GimliAttr) → ns ≡ [] → IsReadWith limit p null_head ns q
   null_with ns none = record {
     past = record { entry = null_entry; is = null_is; head_is = refl; moved = moved };
@@ -187,9 +147,6 @@ module _ (limit : ℕ) (p q : RawPlace) (d : Declaration) (v : View)
 
   moved_is : q ≡ record p { rest = q.rest; depth = depth_after entry_read p.depth }
   moved_is = rw some moved
-
-  pub past_entry : IsReadPast limit p (declared_head d) q
-  past_entry = record { entry = entry_read; is = entry_is; head_is = refl; moved = moved_is }
 
   pub entry_with : (ns : List GimliAttr) → ns ≡ map attr_of r.attributes
       → IsReadWith limit p (declared_head d) ns q

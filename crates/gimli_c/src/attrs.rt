@@ -2,7 +2,7 @@
 
 ghost use Rattle.std.specs.Prelude.{◌≡◌, ◌+◌, ◌≤◌, ◌++◌, ◌%◌, ◌/◌, ◌^◌, take, drop, length};
 ghost use Rattle.gimli_units.specs.Value.{map_value};
-ghost use Rattle.gimli_units.specs.Taking.{with_value};
+ghost use Rattle.gimli_units.specs.Entry.{with_value};
 ghost use Rattle.gimli_c.specs.Attrs.{numbers, place_numbers, values_of, attr_of};
 
 use gimli_base::{AttributeSpecification, Reader, ReaderOffset};

@@ -3,9 +3,7 @@
 use Rattle.std.specs.Prelude.{◌≡◌, ℕ, ℤ, pos, ◌+ℤ◌, ◌≤ℤ◌, if◌then◌else◌, List, [], ◌∷◌, map, Option}
 use Rattle.std.specs.Prelude.{Some, None}
 use Rattle.std.specs.Option.{option_map}
-use Rattle.gimli_base.specs.View.{View}
-use Rattle.gimli_units.specs.declared.entry.DebuggingInformationEntry.{DebuggingInformationEntry}
-use Rattle.gimli_units.specs.Entry.{is_null, entry_of}
+use Rattle.gimli_units.specs.Entry.{is_null}
 use Rattle.gimli_units.specs.Kind.{kind_of}
 use Rattle.gimli_units.specs.Rows.{Row}
 use Rattle.gimli_units.specs.Honest.{past_closer, target}
@@ -34,12 +32,6 @@ open_of g o = record { offset = g o.offset.0; depth = o.depth; target = g o.targ
 abbrev pub check_held : {O A : Type 0} → (O → ℕ) → Check O A → Checked
 check_held g c =
     record { opens = map (open_of g) c.open.items; first = option_map (λ o. g o.0) c.first }
-
--- the row of an entry that code holds, with the offset of what is after it
-abbrev pub row_of : {R A O : Type 0} → (R → View) → (O → ℕ) → DebuggingInformationEntry R A O → ℕ
-    → Row
-row_of f g e behind =
-    record { offset = g e.offset.0; next = behind; depth = e.depth; entry = entry_of f g e }
 
 -- a row, of which this was read, with the offset of what is after it
 pub record IsPassedRow {O : Type 0} (g : O → ℕ) (x : Passed O) (behind : ℕ) (r : Row) : Type 0 where

@@ -8,15 +8,15 @@ use Rattle.gimli_base.specs.View.{View}
 use Rattle.gimli_base.specs.Offset.{answer_of}
 use Rattle.gimli_base.specs.Reading.{Reads, map_read}
 use Rattle.gimli_base.specs.Abbreviations.{Specification}
-use Rattle.std.specs.Prelude.{◌==◌, is_some, Result, Bool, true, false, if◌then◌else◌, Option}
+use Rattle.std.specs.Prelude.{◌==◌, is_some, not, Result, Bool, true, false, if◌then◌else◌, Option}
 use Rattle.std.specs.Prelude.{Some, None, ℤ}
 use Rattle.gimli_base.specs.declared.constants.DwForm.{DwForm}
 use Rattle.gimli_base.specs.declared.error.Error.TheVariants.{UnknownForm}
 use Rattle.gimli_units.specs.Value.{Value}
 use Rattle.gimli_units.specs.Form.{direct_at, value_at, value_in, form_at}
-use Rattle.gimli_units.specs.Entry.{Attr, attribute_at, attributes_at}
+use Rattle.gimli_units.specs.Entry.{Attr, with_value, attribute_at, attributes_at}
 use Rattle.gimli_units.specs.Layout.{Layout, layout_in, layout_of, forms}
-use Rattle.gimli_units.specs.Taking.{with_value, made_at, is_variable, is_variable_in, is_fixed_in}
+use Rattle.gimli_units.specs.Taking.{made_at, is_variable, is_fixed, is_among}
 use Rattle.gimli_units.specs.Taking.{has_fixed_size, has_variable_size}
 use Rattle.gimli_units.proofs.Chains.{direct_value, number_stands}
 
@@ -28,10 +28,6 @@ with_first : {A : Type 0} → (a : A) (xs : List A) (r : Reads (List A))
     → after xs (map_read (λ ys. a ∷ ys) r) ≡ after (xs ++ a ∷ []) r
 with_first a xs (Ok p) = ap (λ ys. Ok (ys, p.1)) (sym (append_assoc xs (a ∷ []) p.0))
 with_first a xs (Err e) = refl
-
-pub with_none : {A : Type 0} → (r : Reads (List A)) → r ≡ after [] r
-with_none (Ok p) = refl
-with_none (Err e) = refl
 
 -- a turn of the loop: the first i attributes are xs
 module _ (limit : ℕ) (encoding : Encoding) (ss : List Specification) (i : ℕ) (all v : View)
@@ -142,16 +138,19 @@ unfolding attribute_at value_at
 made_refused f limit e s v x h = rw (← h) refl
 
 -- a form that is in no list of forms
-in_none : (form : ℕ) (rs : List (ℕ × Layout)) → is_fixed_in form rs ≡ false
-    → is_variable_in form rs ≡ false → layout_in form rs ≡ None
+in_none : (form : ℕ) (rs : List (ℕ × Layout)) → is_among is_fixed form rs ≡ false
+    → is_among is_variable form rs ≡ false → layout_in form rs ≡ None
 in_none form [] fixed variable = refl
 in_none form (r ∷ rs) fixed variable =
     sort (is_variable r.1) (form == r.0) (in_none form rs) fixed variable
   where
-    sort : (t b : Bool) → (is_fixed_in form rs ≡ false → is_variable_in form rs ≡ false
-        → layout_in form rs ≡ None)
-        → (if t then is_fixed_in form rs else if b then true else is_fixed_in form rs) ≡ false
-        → (if t then (if b then true else is_variable_in form rs) else is_variable_in form rs)
+    sort : (t b : Bool) → (is_among is_fixed form rs ≡ false
+        → is_among is_variable form rs ≡ false → layout_in form rs ≡ None)
+        → (if not t then (if b then true else is_among is_fixed form rs)
+        else is_among is_fixed form rs)
+        ≡ false
+        → (if t then (if b then true else is_among is_variable form rs)
+        else is_among is_variable form rs)
         ≡ false
         → (if b then Some r.1 else layout_in form rs) ≡ None
     sort true true others h k = absurd (cc)

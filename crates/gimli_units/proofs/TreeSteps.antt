@@ -18,7 +18,7 @@ use Rattle.gimli_units.specs.RawPlace.{RawPlace, next_offset_of, below_flag, dep
 use Rattle.gimli_units.specs.Rows.{Row, Ahead}
 use Rattle.gimli_units.specs.Unit.{UnitView, whole_length, header_size, in_bounds, range_from}
 use Rattle.gimli_units.specs.Unit.{entries_in, entries_from, some_entry}
-use Rattle.gimli_units.specs.CursorPlace.{Moved, is_entry, has_depth, arrive, skip_until, seek}
+use Rattle.gimli_units.specs.CursorPlace.{is_entry, has_depth, arrive, skip_until, seek}
 use Rattle.gimli_units.specs.CursorPlace.{first_of_rows}
 use Rattle.gimli_units.specs.CursorMoves.{CursorView, next_of, rows_of, place_of, IsHonestFor}
 use Rattle.gimli_units.specs.CursorMoves.{IsTrueEntry, IsSound}

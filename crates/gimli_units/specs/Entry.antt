@@ -10,17 +10,21 @@ use Rattle.gimli_base.specs.Reading.{Reads, ◌>>=◌, map_read, uleb_at}
 use Rattle.gimli_base.specs.Abbreviations.{Specification, Declaration, Map}
 use Rattle.gimli_units.specs.declared.attribute.Attribute.{Attribute}
 use Rattle.gimli_units.specs.declared.entry.DebuggingInformationEntry.{DebuggingInformationEntry}
-use Rattle.gimli_units.specs.Value.{map_attribute}
+use Rattle.gimli_units.specs.Value.{Value, map_attribute}
 use Rattle.gimli_units.specs.Form.{value_at}
 
 -- an attribute at views and numbers
 abbrev pub Attr : Type 0
 Attr = Attribute View ℕ
 
+-- the attribute of a specification that has this value
+abbrev pub with_value : Specification → Value → Attr
+with_value s x = record { name = s.name; form = s.form; value = x }
+
 -- the attribute of a specification
 unfoldable pub attribute_at : ℕ → Encoding → Specification → View → Reads Attr
 attribute_at limit e s v =
-    map_read (λ x. record { name = s.name; form = s.form; value = x })
+    map_read (λ x. with_value s x)
     (value_at limit e s.name.0 s.constant s.form.0 v)
 
 -- the attributes of these specifications, in their order

@@ -1,20 +1,16 @@
--- Attributes that are handed over as they are read (DWARF 5, 7.5.3).
-use Rattle.std.specs.Prelude.{ℕ, Bool, true, false, if◌then◌else◌, ◌==◌, List, [], ◌∷◌, Option}
+-- Attributes that are handed over as they are read, and which sizes their forms have (DWARF 5,
+-- 7.5.3 and 7.5.6).
+use Rattle.std.specs.Prelude.{ℕ, Bool, true, false, not, if◌then◌else◌, ◌==◌, List, [], ◌∷◌, Option}
 use Rattle.std.specs.Prelude.{Some, None, Result, Ok, Err}
 use Rattle.gimli_base.specs.declared.common.Encoding.{Encoding}
 use Rattle.gimli_base.specs.declared.error.Error.{Error}
 use Rattle.gimli_base.specs.View.{View}
 use Rattle.gimli_base.specs.Reading.{Reads, map_read}
 use Rattle.gimli_base.specs.Abbreviations.{Specification}
-use Rattle.gimli_units.specs.Value.{Value}
 use Rattle.gimli_units.specs.Layout.{Layout, uleb, sleb, offset_leb, offset_leb_and, block}
 use Rattle.gimli_units.specs.Layout.{block_leb, text, forms}
 use Rattle.gimli_units.specs.Form.{direct_at}
-use Rattle.gimli_units.specs.Entry.{Attr}
-
--- the attribute of a specification that has this value
-abbrev pub with_value : Specification → Value → Attr
-with_value s x = record { name = s.name; form = s.form; value = x }
+use Rattle.gimli_units.specs.Entry.{Attr, with_value}
 
 -- whether the bytes of a value tell how many they are
 abbrev pub is_variable : Layout → Bool
@@ -27,37 +23,29 @@ is_variable (block_leb f) = true
 is_variable (text f) = true
 is_variable l = false
 
--- whether a form is among those in a list whose bytes tell it, and among those whose bytes do not
-abbrev pub is_variable_in : ℕ → List (ℕ × Layout) → Bool
-is_variable_in form [] = false
-is_variable_in form (r ∷ rs) =
-    if is_variable r.1 then (if form == r.0 then true else is_variable_in form rs)
-    else is_variable_in form rs
+abbrev pub is_fixed : Layout → Bool
+is_fixed l = not (is_variable l)
 
-abbrev pub is_fixed_in : ℕ → List (ℕ × Layout) → Bool
-is_fixed_in form [] = false
-is_fixed_in form (r ∷ rs) =
-    if is_variable r.1 then is_fixed_in form rs
-    else if form == r.0 then true else is_fixed_in form rs
+-- whether a form is in a list, with such a layout
+abbrev pub is_among : (Layout → Bool) → ℕ → List (ℕ × Layout) → Bool
+is_among such form [] = false
+is_among such form (r ∷ rs) =
+    if such r.1 then (if form == r.0 then true else is_among such form rs)
+    else is_among such form rs
 
 -- whether a form has a variable size, and whether its size is known before it is read
 unfoldable pub has_variable_size : ℕ → Bool
 unfolding forms
-has_variable_size form = is_variable_in form forms
+has_variable_size form = is_among is_variable form forms
 
 unfoldable pub has_fixed_size : ℕ → Bool
 unfolding forms
-has_fixed_size form = is_fixed_in form forms
+has_fixed_size form = is_among is_fixed form forms
 
 -- what is made of the attribute of a specification, whose value has a form that is not indirect
 abbrev pub made_at : {A : Type 0} → (Attr → A) → ℕ → Encoding → Specification → ℕ → View → Reads A
 made_at f limit e s form v =
     map_read (λ x. f (with_value s x)) (direct_at limit e s.name.0 s.constant form v)
-
--- what was read, and what a reader is left at that was handed over for it
-abbrev pub read_left : {A B R : Type 0} → (A → B) → (R → View) → Result (A × R) Error → Reads B
-read_left f view (Ok p) = Ok (f p.0, view p.1)
-read_left f view (Err e) = Err e
 
 -- a fact about what was answered, unless nothing was read
 abbrev pub OnTaken : {A : Type 0} → Result (Option A) Error → (Result A Error → Type 0) → Type 0

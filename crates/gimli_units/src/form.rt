@@ -1,6 +1,6 @@
 //! Values as their forms show them.
 
-ghost use Rattle.std.specs.Prelude.{◌≡◌, ◌≤◌, ◌==◌, ◌&&◌, if◌then◌else◌, Ok, None, false};
+ghost use Rattle.std.specs.Prelude.{◌≡◌, ◌==◌, ◌&&◌, if◌then◌else◌, Ok, None, OnErr, false};
 ghost use Rattle.gimli_base.specs.Offset.{answer_of};
 ghost use Rattle.gimli_base.specs.Reading.{read_of, map_read, address_at, uint_offset_at, text_at};
 ghost use Rattle.gimli_base.specs.Reading.{sized_offset_at, offset_at, word_size_of};
@@ -9,8 +9,7 @@ ghost use Rattle.gimli_units.specs.Form.{is_section_name, uleb_offset_at, direct
 ghost use Rattle.gimli_units.specs.Form.{block_after};
 ghost use Rattle.gimli_units.specs.Entry.{attribute_at};
 ghost use Rattle.gimli_units.specs.Layout.{str_index, addr_index};
-ghost use Rattle.gimli_units.specs.Taking.{has_fixed_size, has_variable_size, made_at};
-ghost use Rattle.gimli_units.specs.Taking.{read_left, OnTaken};
+ghost use Rattle.gimli_units.specs.Taking.{has_fixed_size, has_variable_size, made_at, OnTaken};
 
 use crate::attribute::taker::TakeAttribute;
 use crate::{AttributeValue, DebugInfoOffset, UnitOffset};
@@ -84,6 +83,7 @@ fn address<R: Reader>(input: &mut R, size: u8) -> Result<u64>
 }
 
 // The next three bytes as an offset; where they are refused, the input is left anywhere.
+#[inline]
 fn three_byte_offset<R: Reader>(input: &mut R) -> Result<R::Offset>
     ensures { read_of (answer_of R.Offset.number result) (R.view input.new)
         ≡ uint_offset_at R.Offset.limit 3 (R.view input.old) }
@@ -122,7 +122,8 @@ fn uleb128_block<R: Reader>(input: &mut R) -> Result<R>
     input.split(length)
 }
 
-// The bytes of a text; where they are refused, the input is left anywhere.
+// The bytes of a text, as `read_null_terminated_slice` reads them, and without its copy of the
+// input; where they are refused, the input is left anywhere.
 #[inline(always)]
 #[tactic(auto, unfolding(gimli_base::specs::Reading::text_at))]
 fn text<R: Reader>(input: &mut R) -> Result<R>
@@ -146,27 +147,28 @@ fn section_reference<R: Reader>(input: &mut R, encoding: Encoding) -> Result<R::
     if encoding.version != 2 {
         return input.read_offset(encoding.format);
     }
-    let (offset, rest) = read_sized(input.copy(), encoding.address_size)?;
+    let mut rest = input.copy();
+    let offset = sized_offset(&mut rest, encoding.address_size)?;
     *input = rest;
     Ok(offset)
 }
 
-// The next 1, 2, 4 or 8 bytes as an offset, and what is left.
+// The next 1, 2, 4 or 8 bytes as an offset, as `read_sized_offset` reads them, and without its copy
+// of the input; where they are refused, the input is left anywhere.
 #[inline(never)]
 #[tactic(auto, using(gimli_base::proofs::OneByte::one_byte), unfolding(gimli_base::specs::Reading::sized_offset_at))]
-fn read_sized<R: Reader>(input: R, size: u8) -> Result<(R::Offset, R)>
-    ensures { read_left R.Offset.number R.view result
-        ≡ sized_offset_at R.Offset.limit size (R.view input) }
+fn sized_offset<R: Reader>(input: &mut R, size: u8) -> Result<R::Offset>
+    ensures { read_of (answer_of R.Offset.number result) (R.view input.new)
+        ≡ sized_offset_at R.Offset.limit size (R.view input.old) }
 {
-    let mut rest = input;
     let value = match size {
-        1 => u64::from(rest.read_u8()?),
-        2 => u64::from(rest.read_u16()?),
-        4 => u64::from(rest.read_u32()?),
-        8 => rest.read_u64()?,
+        1 => u64::from(input.read_u8()?),
+        2 => u64::from(input.read_u16()?),
+        4 => u64::from(input.read_u32()?),
+        8 => input.read_u64()?,
         _ => return Err(Error::UnsupportedOffsetSize(size)),
     };
-    Ok((R::Offset::from_u64(value)?, rest))
+    R::Offset::from_u64(value)
 }
 
 // The value that is an index into the table of texts.
@@ -197,7 +199,7 @@ macro_rules! hand_over {
 }
 
 // Hands over the value of a form whose size is known before it is read; with any other it answers
-// none, and nothing is read. Where it is refused, the input and the taker are left anywhere.
+// none, and nothing is read. Where it is refused, the taker stays, and the input is left anywhere.
 #[inline(always)]
 #[tactic(auto, unfolding(crate::specs::Form::direct_at, crate::specs::Taking::has_fixed_size, gimli_base::specs::Reading::sized_offset_at))]
 fn read_fixed<R: Reader, T: TakeAttribute<R>>(
@@ -211,6 +213,7 @@ fn read_fixed<R: Reader, T: TakeAttribute<R>>(
     ensures value { OnTaken result (λ answer.
         read_of (answer_of (T.stand taker.new) answer) (R.view input.new)
         ≡ made_at (T.taken taker.old) R.Offset.limit encoding s.now form.0 (R.view input.old)) }
+    ensures refused { OnErr result (taker.new ≡ taker.old) }
     ensures others { result ≡ Ok None → (R.view input.new ≡ R.view input.old)
         × (taker.new ≡ taker.old) × (has_fixed_size form.0 ≡ false) }
 {
@@ -286,6 +289,7 @@ fn read_variable<R: Reader, T: TakeAttribute<R>>(
     ensures value { OnTaken result (λ answer.
         read_of (answer_of (T.stand taker.new) answer) (R.view input.new)
         ≡ made_at (T.taken taker.old) R.Offset.limit encoding s.now form.0 (R.view input.old)) }
+    ensures refused { OnErr result (taker.new ≡ taker.old) }
     ensures others { result ≡ Ok None → (R.view input.new ≡ R.view input.old)
         × (taker.new ≡ taker.old) × (has_variable_size form.0 ≡ false) }
 {
@@ -328,7 +332,7 @@ pub(crate) fn direct_form<R: Reader>(input: &mut R, form: DwForm) -> Result<DwFo
 }
 
 // Hands over the attribute of a specification, whose value has this form, which is not indirect;
-// where it is refused, the input and the taker are left anywhere.
+// where it is refused, the taker stays, and the input is left anywhere.
 #[tactic(auto, using(crate::proofs::AttributeTurns::no_form))]
 fn read_direct<R: Reader, T: TakeAttribute<R>>(
     input: &mut R,
@@ -338,9 +342,10 @@ fn read_direct<R: Reader, T: TakeAttribute<R>>(
     taker: &mut T,
 ) -> Result<T::Answer>
     requires { T.has_room taker.old }
-    ensures { read_of (answer_of (T.stand taker.new) result) (R.view input.new)
+    ensures value { read_of (answer_of (T.stand taker.new) result) (R.view input.new)
         ≡ made_at (T.taken taker.old) R.Offset.limit encoding specification.now form.0
         (R.view input.old) }
+    ensures refused { OnErr result (taker.new ≡ taker.old) }
 {
     if let Some(taken) = read_fixed(input, encoding, specification, form, taker)? {
         return Ok(taken);
@@ -352,7 +357,7 @@ fn read_direct<R: Reader, T: TakeAttribute<R>>(
 }
 
 // Hands over the attribute of a specification, whose form may be indirect; where it is refused, the
-// input and the taker are left anywhere.
+// taker stays, and the input is left anywhere.
 #[inline(never)]
 #[tactic(auto, using(crate::proofs::AttributeTurns::made_chained, crate::proofs::AttributeTurns::made_refused))]
 fn read_any<R: Reader, T: TakeAttribute<R>>(
@@ -362,9 +367,10 @@ fn read_any<R: Reader, T: TakeAttribute<R>>(
     taker: &mut T,
 ) -> Result<T::Answer>
     requires { T.has_room taker.old }
-    ensures { read_of (answer_of (T.stand taker.new) result) (R.view input.new)
+    ensures value { read_of (answer_of (T.stand taker.new) result) (R.view input.new)
         ≡ map_read (T.taken taker.old)
         (attribute_at R.Offset.limit encoding specification.now (R.view input.old)) }
+    ensures refused { OnErr result (taker.new ≡ taker.old) }
 {
     // (it says that the form implicit_const has a number)
     let _ = specification.implicit_const_value();
@@ -372,8 +378,8 @@ fn read_any<R: Reader, T: TakeAttribute<R>>(
     read_direct(input, encoding, specification, form, taker)
 }
 
-/// Hands over the attribute of a specification; where it is refused, the input and the taker are
-/// left anywhere. Each form is put in place with what the taker makes of its value; a chain of
+/// Hands over the attribute of a specification; where it is refused, the taker stays, and the input
+/// is left anywhere. Each form is put in place with what the taker makes of its value; a chain of
 /// indirect forms is followed by a call, where `APART` is set on a reader of its own, so that the
 /// caller's stays in registers.
 #[inline(always)]
@@ -385,9 +391,10 @@ pub(crate) fn read_form<R: Reader, T: TakeAttribute<R>, const APART: bool>(
     taker: &mut T,
 ) -> Result<T::Answer>
     requires { T.has_room taker.old }
-    ensures { read_of (answer_of (T.stand taker.new) result) (R.view input.new)
+    ensures value { read_of (answer_of (T.stand taker.new) result) (R.view input.new)
         ≡ map_read (T.taken taker.old)
         (attribute_at R.Offset.limit encoding specification.now (R.view input.old)) }
+    ensures refused { OnErr result (taker.new ≡ taker.old) }
 {
     // (it says that the form implicit_const has a number)
     let _ = specification.implicit_const_value();
@@ -411,9 +418,10 @@ pub(crate) fn read_of_variable_size<R: Reader, T: TakeAttribute<R>, const APART:
     taker: &mut T,
 ) -> Result<T::Answer>
     requires { T.has_room taker.old }
-    ensures { read_of (answer_of (T.stand taker.new) result) (R.view input.new)
+    ensures value { read_of (answer_of (T.stand taker.new) result) (R.view input.new)
         ≡ map_read (T.taken taker.old)
         (attribute_at R.Offset.limit encoding specification.now (R.view input.old)) }
+    ensures refused { OnErr result (taker.new ≡ taker.old) }
 {
     // (it says that the form implicit_const has a number)
     let _ = specification.implicit_const_value();

@@ -7,10 +7,10 @@ ghost use Rattle.std.specs.Prelude.{[], true, false, unsigned_abs, Some};
 ghost use Rattle.std.specs.Option.{option_copied, option_map};
 ghost use Rattle.std.specs.Ordering.{int_eq};
 ghost use Rattle.gimli_base.specs.Offset.{answer_of};
-ghost use Rattle.gimli_base.specs.View.{View, end_of_view};
+ghost use Rattle.gimli_base.specs.View.{end_of_view};
 ghost use Rattle.gimli_base.specs.Reading.{read_of, answer_leaving, UnlessMemory};
 ghost use Rattle.gimli_base.specs.Reading.{PassesAs, map_read};
-ghost use Rattle.gimli_base.specs.Table.{Table, codes_of};
+ghost use Rattle.gimli_base.specs.Table.{codes_of};
 ghost use Rattle.gimli_units.specs.Value.{map_attribute};
 ghost use Rattle.gimli_units.specs.Entry.{attribute_at, attributes_at, abbreviation_at, entry_at};
 ghost use Rattle.gimli_units.specs.Entry.{entry_of, null_entry, is_null, takes_memory};
@@ -473,10 +473,10 @@ impl<'abbrev, R: Reader, A: Allocator> EntriesRaw<'abbrev, R, A> {
         self.read_attribute_to(&specification, &mut Keep)
     }
 
-    /// Reads the attribute of a specification, and hands it to a taker, put in place where it is
-    /// called.
+    /// Reads the attribute of a specification and hands it to a taker, which has room for it; put in
+    /// place where it is called, as `read_attribute_inline`.
     ///
-    /// Refusals: those of `read_attribute`; the taker is then left anywhere.
+    /// Refusals: those of `read_attribute`; the taker then stays too.
     #[inline(always)]
     pub fn read_attribute_to<T: TakeAttribute<R>>(
         &mut self,
@@ -488,7 +488,7 @@ impl<'abbrev, R: Reader, A: Allocator> EntriesRaw<'abbrev, R, A> {
             ≡ map_read (T.taken taker.old)
             (attribute_at R.Offset.limit self.old.encoding specification.now self.old.rest) }
         ensures same { self.new ≡ record self.old { rest = self.new.rest } }
-        ensures kept { OnErr result (self.new ≡ self.old) }
+        ensures kept { OnErr result ((self.new ≡ self.old) × (taker.new ≡ taker.old)) }
     {
         let mut rest = self.input.copy();
         let taken = read_form::<R, T, false>(&mut rest, self.encoding, specification, taker)?;

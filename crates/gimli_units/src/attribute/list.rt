@@ -3,8 +3,7 @@
 ghost use Rattle.std.specs.Prelude.{◌≡◌, ◌+◌, ◌<◌, ℕ, List, map, ◌++◌, ◌∷◌, []};
 ghost use Rattle.std.specs.Vec.{vec_len, vec_capacity};
 ghost use Rattle.gimli_units.specs.Value.{map_value, map_attribute};
-ghost use Rattle.gimli_units.specs.Entry.{Attr};
-ghost use Rattle.gimli_units.specs.Taking.{with_value};
+ghost use Rattle.gimli_units.specs.Entry.{Attr, with_value};
 
 use super::Attribute;
 use crate::AttributeValue;

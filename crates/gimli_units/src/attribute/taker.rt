@@ -2,14 +2,16 @@
 
 ghost use Rattle.std.specs.Prelude.{◌≡◌};
 ghost use Rattle.gimli_units.specs.Value.{map_value, map_attribute};
-ghost use Rattle.gimli_units.specs.Entry.{Attr};
-ghost use Rattle.gimli_units.specs.Taking.{with_value};
+ghost use Rattle.gimli_units.specs.Entry.{Attr, with_value};
 
 use super::Attribute;
 use crate::AttributeValue;
 use gimli_base::{AttributeSpecification, Reader};
 
 /// What an attribute is handed to, once, when its value is read; where it is refused, it is not.
+///
+/// An impl says what a taker and its answer stand for (`stand`), what that is when an attribute is
+/// taken (`taken`), and when one more can be (`has_room`).
 pub trait TakeAttribute<R: Reader> {
     /// What taking an attribute answers.
     type Answer;

@@ -1,4 +1,4 @@
-use Rattle.std.proofs.Common.{rules, refl, ◌≡◌, Err}
+use Rattle.std.proofs.Common.{rules, refl, ◌≡◌}
 use Rattle.std.specs.Prelude.{◌==◌, true}
 use Rattle.gimli_units.proofs.RunTurns.{reference_refused, behind_refused, reference_found}
 use Rattle.gimli_units.proofs.pass.pass_led.Goals as goal
