@@ -16,19 +16,43 @@ cc -std=c99 -pedantic -Wall -Wextra -Werror -o "$moved/lists" "$here/c/lists.c" 
     $(pkg-config --cflags --libs "$moved/target/gimli.pc")
 "$moved/lists"
 c++ -std=c++11 -pedantic -Wall -Wextra -Werror -fsyntax-only -x c++ "$moved/include/gimli.h"
+c++ -std=c++11 -pedantic -Wall -Wextra -Werror -o "$moved/lists" -x c++ "$here/c/lists.c" -x none \
+    $(pkg-config --cflags --libs "$moved/target/gimli.pc")
+"$moved/lists"
+# ends STATUS WORDS..: a program ends with this status
+ends() {
+    local wanted=$1 status=0
+    shift
+    "$@" > "$moved/told" || status=$?
+    if [ $status != "$wanted" ]; then echo "'$*' ends with $status"; exit 1; fi
+}
+# a pipe has no size, and is refused
+for program in rows attrs memory; do ends 3 "$target/$program" <(echo) /dev/null; done
+# and so is room whose bytes are more than a number says
+ends 4 "$target/rows" "$data/c-gcc-d4.info" "$data/c-gcc-d4.abbrev" first $((1 << 61))
+ends 4 "$target/attrs" "$data/c-gcc-d4.info" "$data/c-gcc-d4.abbrev" $((1 << 61))
+ends 4 "$target/attrs" "$data/c-gcc-d4.info" "$data/c-gcc-d4.abbrev" 1 $((1 << 61))
 files=0
 for info in "$data"/*.info; do
     file=${info%.info}
-    for room in 1 3 64 4096; do
-        "$target/rows" "$info" "$file.abbrev" first "$room" | cmp - "$file.rows"
+    for room in 0 1 3 64 4096; do
+        timeout 60 "$target/rows" "$info" "$file.abbrev" first "$room" | cmp - "$file.rows"
     done
     "$target/memory" "$info" "$file.abbrev" > "$target/memory.txt" || { cat "$target/memory.txt"; exit 1; }
     python3 "$here/python/gimli.py" "$target/libgimli.so" "$info" "$file.abbrev" | cmp - "$file.rows"
     files=$((files + 1))
 done
 echo "C and Python: $files files, same"
+timeout 300 python3 "$here/python/test_gimli.py" "$target/libgimli.so" "$target/attrs" "$data"
 "$here/hostile_some.sh"
-(cd "$here/rust" && cargo test --quiet)
+cd "$here/rust"
+cargo test --quiet
+RUSTDOCFLAGS="-D warnings" cargo doc --quiet --no-deps
+# the crate needs no std
+cargo build --quiet
+rustc --edition 2024 --crate-type rlib --emit metadata -C panic=abort --extern gimli_proved=target/debug/libgimli_proved.rlib \
+    -o target/no_std.rmeta no_std.rs
+cd "$here"
 if pkg-config --exists libelf && [ -d /usr/share/cargo/registry/object-0.30.0 ]; then
     "$here/examples/test.sh"
 else

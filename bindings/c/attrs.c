@@ -1,6 +1,7 @@
 /* attrs INFO ABBREV [ROOM] [SPACE] [REPEAT]: prints the rows of all units with their attributes:
    a line for each row, as rows.c does, then one for each attribute: its name, form and class, its
-   number, and its text where it has one. */
+   number, and its text where it has one. A ROOM of 0 is one of 1, since with none no call gives a
+   row; so is a SPACE of 0. */
 #define _POSIX_C_SOURCE 200809L
 #include "gimli.h"
 #include "read_file.h"
@@ -20,8 +21,11 @@ int main(int argc, char **argv) {
     if (argc > 3) room = strtoull(argv[3], NULL, 10);
     if (argc > 4) space = strtoull(argv[4], NULL, 10);
     int repeat = argc > 5 ? atoi(argv[5]) : 0;
-    gimli_entry_t *rows = malloc((room + 1) * sizeof *rows);
-    gimli_attr_t *attrs = malloc((space + 1) * sizeof *attrs);
+    if (room == 0) room = 1;
+    if (space == 0) space = 1;
+    gimli_entry_t *rows = calloc(room, sizeof *rows);
+    gimli_attr_t *attrs = calloc(space, sizeof *attrs);
+    if (!rows || !attrs) return 4;
     double best = 1e9;
     uint64_t all_rows = 0, all_attrs = 0, folded = 0;
     for (int turn = 0; turn < (repeat ? repeat : 1); turn++) {
@@ -37,7 +41,7 @@ int main(int argc, char **argv) {
                 status = gimli_entries(&sections, offset, &place, rows, room, attrs, space, &filled);
                 if (filled.rows == 0 && filled.wanted > space) {
                     space = filled.wanted;
-                    attrs = realloc(attrs, (space + 1) * sizeof *attrs);
+                    attrs = realloc(attrs, space * sizeof *attrs);
                     if (!attrs) return 4;
                 }
                 all_rows += filled.rows;

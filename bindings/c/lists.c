@@ -58,6 +58,7 @@ static void nulls(void) {
     same("their number", count, 0);
     same("no room for entries", gimli_entries(&s, 0, &place, NULL, 4, NULL, 9, &filled), GIMLI_MORE);
     same("their number", filled.rows + filled.attributes + filled.wanted, 0);
+    same("the place", place.offset, 0x0b);
     list.kind = GIMLI_SEC_OFFSET;
     same("ranges", gimli_ranges(&s, &unit, &list, &bases, NULL, 0, &count), GIMLI_END);
     same("locations", gimli_locations(&s, &unit, &list, &bases, NULL, 0, &count), GIMLI_END);
@@ -86,7 +87,10 @@ static void lists(void) {
     gimli_place_t place = {unit.header_size, 0};
     same("too little space", gimli_entries(&s, 0, &place, &row, 1, attrs, 1, &filled), GIMLI_MORE);
     same("wanted", filled.wanted, 2);
+    same("no rows", filled.rows, 0);
     same("place", place.offset, unit.header_size);
+    same("no more space", gimli_entries(&s, 0, &place, &row, 1, attrs, 1, &filled), GIMLI_MORE);
+    same("wanted again", filled.wanted, 2);
     same("entry", gimli_entries(&s, 0, &place, &row, 1, attrs, 2, &filled), GIMLI_END);
     same("attributes", filled.attributes, 2);
     same("ranges", gimli_ranges(&s, &unit, &attrs[0], &bases, ranges, 4, &count), GIMLI_END);
@@ -105,6 +109,33 @@ static void lists(void) {
     unit.address_size = 8;
     same("cut", gimli_ranges(&s, &unit, &attrs[0], &bases, ranges, 4, &count), GIMLI_ROW_REFUSED + GIMLI_UNEXPECTED_EOF);
     same("count", count, 1);
+}
+
+/* a list with ranges that are left out, and an index without an address, behind which one stands */
+static void ranges_left_out(void) {
+    static const uint8_t rnglists[] = {
+        4, 0x10, 0x20,                                            /* from 0x1000 on */
+        4, 0x30, 0x30, 4, 0x50, 0x40,                             /* not below their ends */
+        7, 0xfe, 0xff, 0xff, 0xff, 0xff, 0xff, 0xff, 0xff, 1,     /* at an address that stands for none */
+        5, 0xff, 0xff, 0xff, 0xff, 0xff, 0xff, 0xff, 0xff, 4, 1, 2, /* from such a base on */
+        5, 0, 0, 0, 0, 0, 0, 0, 0, 4, 0, 1,                       /* at 0 */
+        1, 7, 4, 3, 4, 0};
+    gimli_sections_t s = gimli_no_sections();
+    gimli_unit_t unit;
+    gimli_attr_t list;
+    gimli_bases_t bases = {0x1000, 0, 0, 0, 0};
+    gimli_range_t ranges[4] = {{7, 7}};
+    size_t count;
+    memset(&unit, 0, sizeof unit);
+    memset(&list, 0, sizeof list);
+    unit.version = 5, unit.address_size = 8, unit.offset_size = 4;
+    list.kind = GIMLI_SEC_OFFSET;
+    s.rnglists = gimli_bytes(rnglists, sizeof rnglists);
+    same("no address", gimli_ranges(&s, &unit, &list, &bases, ranges, 4, &count), GIMLI_ROW_REFUSED + GIMLI_UNEXPECTED_EOF);
+    same("those that are kept", count, 2);
+    same("the first", ranges[0].begin, 0x1010);
+    same("the second", ranges[1].begin, 0);
+    same("its end", ranges[1].end, 1);
 }
 
 /* a type unit of version 4 in big endian */
@@ -145,13 +176,49 @@ static void siblings(uint8_t target, uint32_t falsely) {
     same("where", offset, falsely == GIMLI_MORE ? 0x0b : 7);
 }
 
+/* The same entry, where an entry is refused behind what closes it, and before that. */
+static void broken_off(size_t refused, uint32_t falsely) {
+    uint8_t info[] = {0x10, 0, 0, 0, 4, 0, 0, 0, 0, 0, 4, 1, 0x0f, 2, 0, 2, 2, 0, 0, 0};
+    static const uint8_t abbrev[] = {1, 0x2e, 1, 1, 0x11, 0, 0, 2, 0x34, 0, 0, 0, 0};
+    gimli_sections_t s = gimli_no_sections();
+    uint64_t offset = 7;
+    info[refused] = 9;
+    s.units = gimli_bytes(info, sizeof info);
+    s.abbrev = gimli_bytes(abbrev, sizeof abbrev);
+    same("false before a refusal", gimli_first_false(&s, 0, &offset), falsely);
+    same("where", offset, falsely == GIMLI_MORE ? 0x0b : 7);
+}
+
+/* a unit's length is the end of its rows, and no row's offset */
+static void at_the_length(void) {
+    static const uint8_t info[] = {8, 0, 0, 0, 4, 0, 0, 0, 0, 0, 8, 0};
+    gimli_sections_t s = gimli_no_sections();
+    gimli_place_t place = {sizeof info, 3};
+    gimli_row_t row;
+    gimli_entry_t entry;
+    gimli_attr_t attr;
+    gimli_filled_t filled;
+    size_t count = 7;
+    s.units = gimli_bytes(info, sizeof info);
+    s.abbrev = gimli_bytes("", 1);
+    same("rows at the length", gimli_rows(&s, 0, &place, &row, 1, &count), GIMLI_END);
+    same("their number", count, 0);
+    same("entries there", gimli_entries(&s, 0, &place, &entry, 1, &attr, 1, &filled), GIMLI_END);
+    same("their number", filled.rows, 0);
+    same("a sibling there", gimli_sibling(&s, 0, &place, 0, &row), GIMLI_REFUSED + GIMLI_OFFSET_OUT_OF_BOUNDS);
+}
+
 int main(void) {
     empty_sections();
     nulls();
     lists();
+    ranges_left_out();
     types();
     siblings(0x0f, GIMLI_END);
     siblings(0x10, GIMLI_MORE);
+    broken_off(0x0f, GIMLI_END);
+    broken_off(0x0d, GIMLI_MORE);
+    at_the_length();
     if (!bad) puts("same");
     return bad;
 }

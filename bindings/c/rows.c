@@ -1,5 +1,6 @@
 /* rows INFO ABBREV [all|first] [ROOM] [REPEAT]: prints the rows of the units of a section, in the
-   format of gimli_walk_program rows; with REPEAT nothing is printed but the time. */
+   format of gimli_walk_program rows; with REPEAT nothing is printed but the time. A ROOM of 0 is
+   one of 1, since with none no call gives a row. */
 #define _POSIX_C_SOURCE 200809L
 #include "gimli.h"
 #include "read_file.h"
@@ -76,7 +77,8 @@ int main(int argc, char **argv) {
     sections.abbrev = gimli_bytes(abbrev, abbrev_length);
     int first = argc > 3 && strcmp(argv[3], "first") == 0;
     if (argc > 4) room = strtoull(argv[4], NULL, 10);
-    rows = malloc((room + 1) * sizeof *rows);
+    if (room == 0) room = 1;
+    if (!(rows = calloc(room, sizeof *rows))) return 4;
     if (argc > 5) {
         int repeat = atoi(argv[5]);
         double best = 1e9;

@@ -16,7 +16,8 @@ def address_pair(die, low, high):
 
 
 def ranges_of(die, dwarf):
-    """The ranges of a function, without those that have no byte."""
+    """The ranges of a function, without those that have no byte, and those from 0 on, which the linker
+    leaves of a function that it discards."""
     if "DW_AT_low_pc" in die.attributes and "DW_AT_high_pc" in die.attributes:
         pairs = [address_pair(die, "DW_AT_low_pc", "DW_AT_high_pc")]
     elif "DW_AT_ranges" in die.attributes:
@@ -30,17 +31,17 @@ def ranges_of(die, dwarf):
                 pairs.append((entry.begin_offset + add, entry.end_offset + add))
     else:
         pairs = []
-    return [pair for pair in pairs if pair[0] < pair[1]]
+    return [pair for pair in pairs if 0 < pair[0] < pair[1]]
 
 
-def text(die, name):
-    """The attribute of a name, of an entry or of those that it stands for."""
-    while name not in die.attributes:
+def text(die, *names):
+    """The first attribute of these names, of an entry or of those that it stands for."""
+    while not (there := [name for name in names if name in die.attributes]):
         following = [it for it in ("DW_AT_abstract_origin", "DW_AT_specification") if it in die.attributes]
         if not following:
             return None
         die = die.get_DIE_from_attribute(following[0])
-    return die.attributes[name].value.decode()
+    return die.attributes[there[0]].value.decode()
 
 
 def answer(dwarf, address):
@@ -50,8 +51,8 @@ def answer(dwarf, address):
                 continue
             ranges = ranges_of(die, dwarf)
             if any(begin <= address < end for begin, end in ranges):
-                texts = [("file", text(cu.get_top_DIE(), "DW_AT_name")), ("function", text(die, "DW_AT_name")),
-                         ("linkage name", text(die, "DW_AT_linkage_name"))]
+                texts = [("unit name", text(cu.get_top_DIE(), "DW_AT_name")), ("function", text(die, "DW_AT_name")),
+                         ("linkage name", text(die, "DW_AT_linkage_name", "DW_AT_MIPS_linkage_name"))]
                 lines = [f"unit {cu.cu_offset:#x}"] + [f"{word} {it}" for word, it in texts if it is not None]
                 return lines + [f"range {begin:#x} {end:#x}" for begin, end in ranges]
     return [f"no function at {address:#x}"]

@@ -19,10 +19,12 @@ cc -std=gnu11 -O2 -Wall -Wextra -o "$made/function_at_c" "$here/c/function_at.c"
 
 # ask LANGUAGE PROGRAM ADDRESS: what the example of a language prints
 ask() {
-    case $1 in
-        c) "$made/function_at_c" "$2" "$3" ;;
-        rust) "$made/rust/release/function_at" "$2" "$3" ;;
-        python) "$python" "$here/python/function_at.py" "$2" "$3" ;;
+    local language=$1
+    shift
+    case $language in
+        c) "$made/function_at_c" "$@" ;;
+        rust) "$made/rust/release/function_at" "$@" ;;
+        python) "$python" "$here/python/function_at.py" "$@" ;;
     esac
 }
 
@@ -68,32 +70,65 @@ try() {
     programs=$((programs + 1))
 }
 
+two=("$here/programs/first.cc" "$here/programs/second.cc")
 for version in "" -gdwarf-4 -gdwarf-5; do
     for level in -O0 -O2; do
         try "c$version$level" gcc -g $version $level "$here/programs/split.c"
         try "cc$version$level" g++ -g $version $level "$here/programs/shapes.cc"
+        try "two$version$level" g++ -g $version $level "${two[@]}"
     done
 done
+# of version 3 linkage names are those of MIPS
+try cc-3 g++ -gdwarf-3 -O2 "$here/programs/shapes.cc"
+# a function that the linker discards, whose addresses are then those from 0 on
+try two-discarded g++ -g -O2 -ffunction-sections -Wl,--gc-sections "${two[@]}"
+if g++ -flto -O2 -o "$made/flto" "${two[@]}" 2> "$made/told"; then try two-flto g++ -g -O2 -flto "${two[@]}"; fi
 try c-compressed gcc -g -O2 -gz "$here/programs/split.c"
 if command -v clang > "$made/told"; then
     try c-clang clang -g -gdwarf-5 -O2 "$here/programs/split.c"
     try cc-clang clang++ -g -gdwarf-4 -O2 "$here/programs/shapes.cc"
+    try two-clang clang++ -g -gdwarf-5 -O2 "${two[@]}"
 fi
 if [ $split -lt 4 ]; then echo "examples: no function of several ranges was asked for"; exit 1; fi
 
-# messages in place of answers
-for language in c rust python; do
-    for words in "" "$here/test.sh 10" "/none 10" "$made/c-compressed nine" "$made/c-compressed"; do
+# ends STATUS LINES ERRORS TEXT WORDS..: the examples end with the same status and lines, so many of
+# them on stdout and on stderr, of which one has the text
+ends() {
+    local wanted="$1 $2 $3" text=$4 status language
+    shift 4
+    for language in c rust python; do
         status=0
-        ask3() { case $language in
-            c) "$made/function_at_c" "$@" ;;
-            rust) "$made/rust/release/function_at" "$@" ;;
-            python) "$python" "$here/python/function_at.py" "$@" ;;
-        esac; }
-        ask3 $words > "$made/told" 2>&1 || status=$?
-        if [ $status != 2 ] || [ "$(wc -l < "$made/told")" != 1 ]; then
-            echo "$language: '$words' ends with $status:"; cat "$made/told"; exit 1
+        ask $language "$@" > "$made/out" 2> "$made/err" || status=$?
+        cat "$made/out" "$made/err" > "$made/told.$language"
+        if [ "$status $(wc -l < "$made/out") $(wc -l < "$made/err")" != "$wanted" ] || ! grep -q "$text" "$made/told.$language" \
+            || ! cmp "$made/told.c" "$made/told.$language"; then
+            echo "$language: '$*' ends with $status:"; head "$made/told.$language"; exit 1
         fi
     done
-done
+}
+
+# address PROGRAM NAME [MORE]: where a function begins, and so many bytes behind
+address() { printf '%x\n' $(($(nm "$1" | awk -v name="$2" '$3 == name { print "0x" $1 }') + ${3:-0})); }
+
+# messages in place of answers
+for words in "" "$made/c-compressed nine" "$made/c-compressed"; do ends 2 0 1 "^usage: .* inlined" $words; done
+for file in "$here/test.sh" /none; do ends 2 0 1 "^function_at: $file is no linked ELF file\$" "$file" 10; done
+ends 1 1 0 "^no function at 0x10\$" "$made/two-discarded" 10
+
+# a list of more ranges than there is room for at first, behind one that is refused
+gcc -nostdlib -static -o "$made/lists" "$here/programs/lists.s"
+ends 0 70003 0 "^function many\$" "$made/lists" "$(address "$made/lists" many 69999)"
+ends 2 0 1 "^error 1: the ranges of the unit at 0x0\$" "$made/lists" 10
+
+# skeleton units
+skeleton() {
+    local program=$made/skeleton$1
+    shift
+    (cd "$made" && "$@" -gsplit-dwarf -o "$program" "$here/programs/split.c")
+    ends 1 1 0 "^skeleton unit 0x0: its functions are in .*split.dwo\$" "$program" "$(address "$program" add)"
+    ends 1 1 0 "^no function at 0x10\$" "$program" 10
+}
+skeleton 4 gcc -gdwarf-4 -O2
+skeleton 5 gcc -gdwarf-5 -O2
+if command -v clang > "$made/told"; then skeleton -clang clang -gdwarf-5 -O2; fi
 echo "examples: $asked addresses in $programs programs, the same in C, Rust and Python, by pyelftools and by addr2line"

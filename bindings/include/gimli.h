@@ -9,12 +9,23 @@
    - Pointers are valid for the lengths beside them, and lengths are at most 2^63 - 1. A section
      and a buffer may be null, which is one of no bytes and of no room: the end of this header
      sees to that. Who calls the library without it hands over an address that is not null, also
-     where the length is 0.
-   - What is written to overlaps nothing that the same call reads or writes.
-   - The program has 64 bits, and its malloc, realloc and free are of one allocator, which aligns
-     a block to each power of two up to 16 that divides its size.
+     where the length is 0. No other pointer is null, and each is aligned as its type is.
+   - What is written to overlaps nothing that the same call reads or writes, and no byte that a
+     call reads changes before it answers.
+   - The program has 64 bits, its processor has what x86-64-v2 asks for, and its malloc, realloc
+     and free are of one allocator, which aligns a block to each power of two up to 16 that
+     divides its size.
    - No call is made from a signal handler, or in the forked child of a process with threads.
-   Buffers need not be set before a call. */
+   Buffers need not be set before a call; sections are, each field.
+
+   Memory is asked for by gimli_rows, gimli_entries, gimli_sibling and gimli_first_false, and given
+   back before they answer. Each of their calls reads the whole table of the unit's abbreviations.
+   A declaration takes 256 bytes in memory, and up to some 600 with what is kept free beside it,
+   where in the section it may have 5 to 7: of a hostile .debug_abbrev a table takes 40 to 100
+   times the size, and more for a moment while a list of them is moved. Memory that is refused is
+   GIMLI_REFUSED + GIMLI_OUT_OF_MEMORY (280) for the table, and GIMLI_ROW_REFUSED +
+   GIMLI_OUT_OF_MEMORY (536) for the attributes of a row, in gimli_entries and gimli_sibling.
+   gimli_first_false takes 24 bytes for each open entry besides, which its 280 may mean. */
 #ifndef GIMLI_H
 #define GIMLI_H
 
@@ -27,7 +38,7 @@ extern "C" {
 
 /* Statuses. Each call says which of them it answers, and what it has written then. */
 enum {
-    GIMLI_MORE = 0,          /* something was found, and there may be more */
+    GIMLI_MORE = 0,          /* something was found, and there may be more; of rows with no room: nothing was, see there */
     GIMLI_END = 1,           /* nothing is left */
     GIMLI_TOO_DEEP = 2,      /* the depth of the place is so great that depths behind it may be out of range */
     GIMLI_NO_LIST = 3,       /* the attribute's value names no list */
@@ -53,7 +64,8 @@ typedef struct {
     size_t length;
 } gimli_bytes_t;
 
-/* The sections. Each call reads those alone that it names; the others may be empty. */
+/* The sections. All fields are set in every call: begin with gimli_no_sections(). A call reads the
+   bytes of those alone that it names, so the others may be empty. */
 typedef struct {
     gimli_bytes_t units;     /* .debug_info, or .debug_types, as `types` says */
     gimli_bytes_t abbrev;    /* .debug_abbrev */
@@ -116,12 +128,33 @@ typedef struct {
     uint32_t kind;   /* GIMLI_ADDR .. */
 } gimli_attr_t;
 
-/* The kinds of values. */
+/* The kinds of values, and what `number` is. */
 enum {
-    GIMLI_ADDR = 1, GIMLI_BLOCK, GIMLI_DATA1, GIMLI_DATA2, GIMLI_DATA4, GIMLI_DATA8, GIMLI_DATA16, GIMLI_SDATA,
-    GIMLI_UDATA, GIMLI_EXPRLOC, GIMLI_FLAG, GIMLI_SEC_OFFSET, GIMLI_ADDR_INDEX = 14, GIMLI_UNIT_REF, GIMLI_INFO_REF,
-    GIMLI_INFO_REF_SUP, GIMLI_LOC_LISTS_INDEX = 21, GIMLI_RNG_LISTS_INDEX = 26, GIMLI_TYPES_REF, GIMLI_STR_REF,
-    GIMLI_STR_REF_SUP, GIMLI_STR_OFFSETS_INDEX = 31, GIMLI_LINE_STR_REF, GIMLI_STRING, GIMLI_ADDR_INDEX_OFFSET = 48
+    GIMLI_ADDR = 1,               /* an address */
+    GIMLI_BLOCK,                  /* where the bytes lie in `units` */
+    GIMLI_DATA1,                  /* 1 byte, zero-extended: the attribute's name says if it has a sign */
+    GIMLI_DATA2,                  /* 2 bytes, zero-extended */
+    GIMLI_DATA4,                  /* 4 bytes, zero-extended */
+    GIMLI_DATA8,                  /* 8 bytes */
+    GIMLI_DATA16,                 /* the low 8 of 16 bytes */
+    GIMLI_SDATA,                  /* a number with a sign */
+    GIMLI_UDATA,                  /* a number without one */
+    GIMLI_EXPRLOC,                /* where the expression lies in `units` */
+    GIMLI_FLAG,                   /* 0 or 1 */
+    GIMLI_SEC_OFFSET,             /* an offset of the section that the attribute's name says */
+    GIMLI_ADDR_INDEX = 14,        /* an index of addresses in .debug_addr, from DW_AT_addr_base on */
+    GIMLI_UNIT_REF,               /* an offset of the unit */
+    GIMLI_INFO_REF,               /* an offset of .debug_info */
+    GIMLI_INFO_REF_SUP,           /* an offset of .debug_info of the supplementary file */
+    GIMLI_LOC_LISTS_INDEX = 21,   /* an index of offsets in .debug_loclists, from DW_AT_loclists_base on */
+    GIMLI_RNG_LISTS_INDEX = 26,   /* an index of offsets in .debug_rnglists, from DW_AT_rnglists_base on */
+    GIMLI_TYPES_REF,              /* the signature of a type unit: its `id` */
+    GIMLI_STR_REF,                /* an offset of .debug_str */
+    GIMLI_STR_REF_SUP,            /* an offset of .debug_str of the supplementary file */
+    GIMLI_STR_OFFSETS_INDEX = 31, /* an index of offsets in .debug_str_offsets, from DW_AT_str_offsets_base on */
+    GIMLI_LINE_STR_REF,           /* an offset of .debug_line_str */
+    GIMLI_STRING,                 /* where the text lies in `units` */
+    GIMLI_ADDR_INDEX_OFFSET = 48  /* an index as GIMLI_ADDR_INDEX, and `more` is added to the address there */
 };
 
 /* How much gimli_entries wrote. */
@@ -131,12 +164,16 @@ typedef struct {
     size_t wanted; /* where the next row was left since its attributes have no space: their number; else 0 */
 } gimli_filled_t;
 
-/* What the lists of a unit are resolved against: all but `dwo` are values of attributes of its root. */
+/* What the lists of a unit are resolved against: all but `dwo` are values of attributes of its root.
+   Of a split unit `address`, `addresses` and the section of addresses are the skeleton's. In GNU's
+   split units of version 4 DW_AT_ranges counts from the skeleton's DW_AT_GNU_ranges_base on, which
+   the caller adds to the `number` of the attribute. */
 typedef struct {
-    uint64_t address;   /* DW_AT_low_pc, or 0 */
+    uint64_t address;   /* DW_AT_low_pc, or 0: the address itself, also where the attribute is an index (GIMLI_ADDR_INDEX, as
+                           clang writes it in version 5) and `number` is none */
     uint64_t addresses; /* DW_AT_addr_base */
-    uint64_t rnglists;  /* DW_AT_rnglists_base */
-    uint64_t loclists;  /* DW_AT_loclists_base */
+    uint64_t rnglists;  /* DW_AT_rnglists_base; a split unit may have none: then 12 (20 where offset_size is 8), not 0 */
+    uint64_t loclists;  /* DW_AT_loclists_base; where a split unit has none the same */
     uint8_t dwo;        /* not 0: location lists of a split file */
 } gimli_bases_t;
 
@@ -183,33 +220,41 @@ uint32_t gimli_unit(const gimli_sections_t *sections, uint64_t offset, gimli_uni
 /* Rows of the unit at an offset of `units`, from a place on: `count` of them from the front of
    all that are left. The place is left behind them, and `rows` is as it was behind them. `units`
    and `abbrev` are read.
-   MORE: the buffer is full, and there is more. END: none is left. ROW_REFUSED: what stands at the
-   place was refused.
+   MORE: the buffer is full, and there is more. END: none is left, as at the offset that is the
+   unit's length. ROW_REFUSED: what stands at the place was refused.
    TOO_DEEP, or REFUSED of the unit, of its abbreviations or of the place's offset: no row, and
-   the place is as it was. Memory is asked for the abbreviations alone. */
+   the place is as it was. Memory is asked for the abbreviations alone.
+   With no room (0, or a null buffer) MORE comes with no row, and the place stays: a loop that goes
+   on while there is MORE never ends, unless there is room for a row. */
 uint32_t gimli_rows(const gimli_sections_t *sections, uint64_t unit, gimli_place_t *place, gimli_row_t *rows, size_t room,
                     size_t *count);
 
 /* The same with the attributes of each row, one row's after those of the row before. Rows are
    written as long as there is room for them and space for all their attributes. MORE with
-   filled->wanted not 0: the next row wants so much space. Memory is asked for the attributes of a
-   row too: where it was refused, the rows that were written are right, and the next call goes on. */
+   filled->wanted not 0: the next row wants so much space. Where that is more than `space`, the
+   next call writes no row and answers the same: a loop that hands over no more never ends, nor
+   does one with no room, as of gimli_rows. Memory is asked for the attributes of a row too: where
+   it was refused, the rows that were written are right, and the next call goes on. */
 uint32_t gimli_entries(const gimli_sections_t *sections, uint64_t unit, gimli_place_t *place, gimli_entry_t *rows, size_t room,
                        gimli_attr_t *attrs, size_t space, gimli_filled_t *filled);
 
 /* The next sibling of the row at a place: the next entry of its depth, before the null that
    closes their list. `units` and `abbrev` are read. With `follows` 0 all rows between are read;
    else the references of entries (DW_AT_sibling) are followed, and the answer is the same where
-   gimli_first_false finds none in the unit; where it finds one, the answer may be any.
-   MORE: `row` is it. Else `row` is as it was. END: there is none, or a null stands at the place.
-   ROW_REFUSED: what stands at the place or behind was refused. REFUSED: of the unit, of its
-   abbreviations or of the offset. */
+   gimli_first_false finds none in the unit; where it finds one, the answer may be any. So a loop
+   that follows references of hostile bytes from sibling to sibling has a bound of its own, unless
+   gimli_first_false has answered END: no clause says yet that it never goes back, as it does not.
+   MORE: `row` is it, and its depth is the place's. Else `row` is as it was. END: there is none, or
+   a null stands at the place. ROW_REFUSED: what stands at the place or behind was refused.
+   REFUSED: of the unit, of its abbreviations or of the offset, as that of the unit's length is. */
 uint32_t gimli_sibling(const gimli_sections_t *sections, uint64_t unit, const gimli_place_t *place, uint8_t follows,
                        gimli_row_t *row);
 
 /* The first row of a unit whose sibling reference can be followed and does not lead just past the
    null that closes its children. `units` and `abbrev` are read.
-   MORE: it stands at `offset` of the unit. Else `offset` is as it was. END: there is none.
+   MORE: it stands at `offset` of the unit. Else `offset` is as it was. END: there is none, or none
+   before a row that is refused, where the rows of the unit break off. An entry whose null does not
+   come before that is a false one, if its reference can be followed.
    REFUSED: of the unit or of its abbreviations. */
 uint32_t gimli_first_false(const gimli_sections_t *sections, uint64_t unit, uint64_t *offset);
 
@@ -222,7 +267,9 @@ uint32_t gimli_unit_of_address(const gimli_sections_t *sections, uint64_t addres
 /* The ranges of the list that an attribute's value names (GIMLI_SEC_OFFSET,
    GIMLI_RNG_LISTS_INDEX), as gimli_entries writes it for DW_AT_ranges of a row of `unit`: `count`
    are all before the first that is refused, of which as many are written as there is room for.
-   `ranges` or `rnglists` is read, and `addresses`.
+   `ranges` or `rnglists` is read, and `addresses`. Left out are ranges that do not begin below their
+   end, and those whose beginning or base is one of the two highest addresses of the unit's size,
+   which stand for none. What stands behind a refused one can't be had.
    MORE: there are more than there is room for. END: all were written. ROW_REFUSED: all were
    written, and what stands behind them was refused. NO_LIST, or REFUSED of the size of addresses,
    of the index or of the offset: none. */

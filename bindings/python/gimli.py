@@ -6,8 +6,9 @@
         for row, attributes in dwarf.entries(unit):
             ...
 
-Rows are tuples (offset, depth, tag, has_children); with numpy, `array` gives those of a unit as a structured array. What
-each call of the library gives is proved; this module is not.
+Rows are tuples (offset, depth, tag, has_children); with numpy, `array` gives those of a unit as a structured array. Where
+room is asked for, one of 0 is one of 1, since with none no call gives a row. What each call of the library gives is proved;
+this module is not.
 """
 import ctypes
 import sys
@@ -77,6 +78,10 @@ class Location(Structure):
     _fields_ = [("begin", c_uint64), ("end", c_uint64), ("place", c_uint64), ("length", c_uint64)]
 
 
+# The sizes that the library takes these types to have, as at the end of gimli.h.
+assert [ctypes.sizeof(it) for it in (Bytes, Sections, Unit, Place, Row, Entry, Attr, Filled, Bases, Range, Location)] \
+    == [16, 136, 56, 16, 24, 40, 24, 24, 40, 16, 32]
+
 # The kinds of values, as gimli names them; those that only names give do not occur.
 KINDS = {1: "Addr", 2: "Block", 3: "Data1", 4: "Data2", 5: "Data4", 6: "Data8", 7: "Data16", 8: "Sdata", 9: "Udata",
          10: "Exprloc", 11: "Flag", 12: "SecOffset", 14: "DebugAddrIndex", 15: "UnitRef", 16: "DebugInfoRef",
@@ -86,13 +91,15 @@ KINDS = {1: "Addr", 2: "Block", 3: "Data1", 4: "Data2", 5: "Data4", 6: "Data8", 
 
 
 class Refused(Exception):
-    """A refusal: its number and gimli's name, and where it stands in the unit if a row was refused."""
+    """A refusal: its number and gimli's name, where it stands in the unit if a row was refused, and what was found of a list
+    before it."""
 
-    def __init__(self, status, offset=None):
+    def __init__(self, status, offset=None, found=()):
         self.number = status % 256 if status >= REFUSED else 0
         self.name = NAMES[self.number - 1] if self.number else {TOO_DEEP: "TooDeep", NO_LIST: "NoList"}[status]
-        self.offset = offset if status >= ROW_REFUSED else None
-        super().__init__(f"error {self.number}" + ("" if self.offset is None else f" {self.offset:x}"))
+        self.offset, self.found = offset if status >= ROW_REFUSED else None, list(found)
+        number = f" (error {self.number})" if self.number else ""
+        super().__init__(self.name + number + ("" if self.offset is None else f" at {self.offset:#x}"))
 
 
 def load(path):
@@ -151,6 +158,7 @@ class Dwarf:
 
     def blocks(self, unit, room):
         """Buffers of rows, and how many of each were written."""
+        room = max(room, 1)
         place, rows, count, status = Place(unit.header_size, 0), (Row * room)(), c_size_t(), MORE
         while status == MORE:
             status = self.call("rows", unit.offset, byref(place), rows, room, byref(count))
@@ -184,14 +192,16 @@ class Dwarf:
         return kind, bool(attr.number) if kind == "Flag" else attr.number
 
     def raw_entries(self, unit, room=1024, space=8192, place=None):
-        """Pairs of a row and its attributes as the library writes them, from a place on."""
-        place = place or Place(unit.header_size, 0)
+        """Pairs of a row and its attributes as the library writes them, from a place on, which stays as it is."""
+        room, space = max(room, 1), max(space, 0)
+        place = Place(unit.header_size, 0) if place is None else Place(place.offset, place.depth)
         rows, attrs, filled, status = (Entry * room)(), (Attr * space)(), Filled(), MORE
         while status == MORE:
             status = self.call("entries", unit.offset, byref(place), rows, room, attrs, space, byref(filled))
+            written = (Attr * filled.attributes).from_buffer_copy(attrs)
             for i in range(filled.rows):
                 row = rows[i]
-                yield row_of(row), attrs[row.first:row.first + row.attributes]
+                yield row_of(row), written[row.first:row.first + row.attributes]
             if filled.rows == 0 and filled.wanted > space:
                 space = filled.wanted
                 attrs = (Attr * space)()
@@ -222,26 +232,28 @@ class Dwarf:
         offset = self.found("unit_of_address", c_uint64(), address)
         return None if offset is None else offset.value
 
-    def listed(self, name, kind, unit, attr, bases):
-        room, count = 16, c_size_t()
-        while True:
+    def listed(self, name, kind, tuple_of, unit, attr, bases):
+        room, count, status = 16, c_size_t(), MORE
+        while status == MORE:
             into = (kind * room)()
             status = self.call(name, byref(unit), byref(attr), byref(bases), into, room, byref(count))
-            if status == END:
-                return into[:count.value]
-            if status != MORE:
-                raise Refused(status)
             room = count.value
+        found = [tuple_of(it) for it in into[:room]]
+        if status != END:
+            raise Refused(status, found=found)
+        return found
 
     def ranges(self, unit, attr, bases=Bases()):
-        """The ranges of the list that an attribute of `raw_entries` names."""
-        return [(r.begin, r.end) for r in self.listed("ranges", Range, unit, attr, bases)]
+        """The ranges of the list that an attribute of `raw_entries` names. Where one is refused, `found` of the exception has
+        those before it."""
+        return self.listed("ranges", Range, lambda r: (r.begin, r.end), unit, attr, bases)
 
     def locations(self, unit, attr, bases=Bases()):
-        """The locations of the list that an attribute of `raw_entries` names, each (begin, end, expression)."""
+        """The locations of the list that an attribute of `raw_entries` names, each (begin, end, expression). Where one is
+        refused, `found` of the exception has those before it."""
         section = self.kept[7 if unit.version >= 5 else 6]
-        return [(r.begin, r.end, section[r.place:r.place + r.length])
-                for r in self.listed("locations", Location, unit, attr, bases)]
+        return self.listed("locations", Location, lambda r: (r.begin, r.end, section[r.place:r.place + r.length]), unit, attr,
+                           bases)
 
 
 def main(library, info, abbrev):
@@ -257,7 +269,7 @@ def main(library, info, abbrev):
                 lines.append("%x %d %x %d" % row)
             lines.append("end")
     except Refused as refused:
-        lines.append(str(refused))
+        lines.append(f"error {refused.number}" + ("" if refused.offset is None else f" {refused.offset:x}"))
     print("\n".join(lines))
 
 

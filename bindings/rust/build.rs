@@ -1,4 +1,5 @@
-// Links the library that bindings/build.sh leaves in bindings/target; GIMLI_LIBRARY names another folder of it.
+// Links the library that bindings/build.sh leaves in bindings/target; GIMLI_LIBRARY names another
+// folder of it.
 use std::{env, path::PathBuf};
 
 fn main() {

@@ -1,6 +1,7 @@
 /* function_at ELF ADDRESS: prints the unit, the name and the ranges of the function at an address
-   of a linked program. The sections are read by libelf: cc function_at.c $(pkg-config --cflags
-   --libs ../../target/gimli.pc libelf). */
+   of a linked program: the one whose code is there, and not one that is inlined into it. The exit
+   status is 1 where there is none, and 2 where something is refused. The sections are read by
+   libelf: cc function_at.c $(pkg-config --cflags --libs ../../target/gimli.pc libelf). */
 #include "gimli.h"
 #include <errno.h>
 #include <fcntl.h>
@@ -13,8 +14,9 @@
 #include <unistd.h>
 
 enum { TAG_SUBPROGRAM = 0x2e, NAME = 0x03, LOW_PC = 0x11, HIGH_PC = 0x12, ORIGIN = 0x31, SPECIFICATION = 0x47, RANGES = 0x55,
-       LINKAGE_NAME = 0x6e, STR_OFFSETS_BASE = 0x72, ADDR_BASE = 0x73, RNGLISTS_BASE = 0x74 };
-enum { ROOM = 4096, MOST_RANGES = 65536, MOST_STEPS = 16 };
+       LINKAGE_NAME = 0x6e, STR_OFFSETS_BASE = 0x72, ADDR_BASE = 0x73, RNGLISTS_BASE = 0x74, DWO_NAME = 0x76,
+       MIPS_LINKAGE_NAME = 0x2007, GNU_DWO_NAME = 0x2130 };
+enum { SKELETON = 4, ROOM = 4096, MOST_STEPS = 16 };
 
 static gimli_sections_t sections;
 static gimli_bytes_t texts, line_texts, text_offsets; /* .debug_str, .debug_line_str, .debug_str_offsets */
@@ -36,12 +38,23 @@ static struct unit unit;
 static gimli_entry_t rows[ROOM];
 static gimli_attr_t *attrs;
 static size_t space = 4 * ROOM;
-static gimli_range_t ranges[MOST_RANGES];
+static gimli_range_t *ranges;
+static size_t ranges_room = 16;
+
+/* What is met on the way, and told where no function is found: the first skeleton unit that has the
+   address, and the unit of the first list of ranges that is refused, with its status. */
+static struct {
+    bool is_skeleton;
+    uint64_t skeleton;
+    gimli_bytes_t split_file;
+    uint32_t status;
+    uint64_t refused;
+} met;
 
 /* Ends the program where the library refuses what it reads. */
 static void refused(const char *what, uint64_t offset, uint32_t status) {
-    printf("error %u: %s 0x%" PRIx64 "\n", status % 256, what, offset);
-    exit(1);
+    fprintf(stderr, "error %u: %s 0x%" PRIx64 "\n", status % 256, what, offset);
+    exit(2);
 }
 
 /* The section of a name in an ELF file, decompressed; none where there is no such section. */
@@ -134,18 +147,38 @@ static uint64_t end_of(const gimli_attr_t *high, uint64_t begin) {
     return (high->kind >= GIMLI_DATA1 && high->kind <= GIMLI_DATA8) || high->kind == GIMLI_UDATA ? begin + high->number : begin;
 }
 
-/* The ranges of an entry: how many there are in `ranges`. */
+/* The ranges of a list: how many there are in `ranges`; none where one is refused. */
+static size_t listed(const gimli_attr_t *list) {
+    size_t count = 0;
+    uint32_t status = GIMLI_MORE;
+    while (status == GIMLI_MORE) {
+        status = gimli_ranges(&sections, &unit.header, list, &unit.bases, ranges, ranges_room, &count);
+        if (status == GIMLI_MORE && !(ranges = realloc(ranges, (ranges_room = count) * sizeof *ranges))) exit(3);
+    }
+    if (status < GIMLI_REFUSED) return count;
+    if (!met.status) met.status = status, met.refused = unit.header.offset;
+    return 0;
+}
+
+/* The ranges of an entry, without those from 0 on, which the linker leaves of a function that it
+   discards: how many there are in `ranges`. */
 static size_t ranges_of(struct entry entry) {
     const gimli_attr_t *low = find(entry, LOW_PC), *high = find(entry, HIGH_PC), *list = find(entry, RANGES);
-    size_t count = 0;
+    size_t count = 0, kept = 0;
     if (low && high && address_of(low, &ranges[0].begin)) {
         ranges[0].end = end_of(high, ranges[0].begin);
-        return ranges[0].begin < ranges[0].end;
-    }
-    if (!list) return 0;
-    uint32_t status = gimli_ranges(&sections, &unit.header, list, &unit.bases, ranges, MOST_RANGES, &count);
-    if (status >= GIMLI_REFUSED) refused("the ranges of the unit at", unit.header.offset, status);
-    return count < MOST_RANGES ? count : MOST_RANGES;
+        count = ranges[0].begin < ranges[0].end;
+    } else if (list) count = listed(list);
+    for (size_t i = 0; i < count; i++)
+        if (ranges[i].begin != 0) ranges[kept++] = ranges[i];
+    return kept;
+}
+
+/* Whether one of so many of `ranges` has an address. */
+static bool is_in_ranges(size_t count, uint64_t address) {
+    for (size_t i = 0; i < count; i++)
+        if (ranges[i].begin <= address && address < ranges[i].end) return true;
+    return false;
 }
 
 /* The attributes of the entry at an offset of the unit, in a list of their own. */
@@ -196,12 +229,13 @@ static struct entry followed(const gimli_attr_t *attr) {
     return none;
 }
 
-/* The text of the first attribute of a name, of an entry or of the entries that it stands for. */
-static void print_text(const char *word, struct entry entry, unsigned name) {
+/* The text of the first attribute of a name, or else of another, of an entry or of the entries that
+   it stands for. */
+static void print_text(const char *word, struct entry entry, unsigned name, unsigned other) {
     struct unit of = unit;
     for (int step = 0; step < MOST_STEPS; step++) {
         const gimli_attr_t *attr = find(entry, name), *next = find(entry, ORIGIN);
-        if (attr) {
+        if (attr || (attr = find(entry, other))) {
             gimli_bytes_t text = text_of(attr);
             printf("%s ", word);
             fwrite(text.bytes, 1, text.length, stdout);
@@ -217,15 +251,25 @@ static void print_text(const char *word, struct entry entry, unsigned name) {
 /* Whether an entry is the function of an address; then it is printed. */
 static bool is_function(struct entry entry, uint64_t address) {
     size_t count = ranges_of(entry);
-    bool holds = false;
-    for (size_t i = 0; i < count; i++) holds |= ranges[i].begin <= address && address < ranges[i].end;
-    if (!holds) return false;
+    if (!is_in_ranges(count, address)) return false;
     printf("unit 0x%" PRIx64 "\n", unit.header.offset);
-    print_text("file", entry_at(unit.header.header_size), NAME);
-    print_text("function", entry, NAME);
-    print_text("linkage name", entry, LINKAGE_NAME);
+    print_text("unit name", entry_at(unit.header.header_size), NAME, NAME);
+    print_text("function", entry, NAME, NAME);
+    print_text("linkage name", entry, LINKAGE_NAME, MIPS_LINKAGE_NAME);
     for (size_t i = 0; i < count; i++) printf("range 0x%" PRIx64 " 0x%" PRIx64 "\n", ranges[i].begin, ranges[i].end);
     return true;
+}
+
+/* Keeps in mind that the unit of a root has the address but is a skeleton, whose functions are in
+   another file. */
+static void meet_root(struct entry root, uint64_t address) {
+    const gimli_attr_t *name = find(root, DWO_NAME);
+    if (!name) name = find(root, GNU_DWO_NAME);
+    if (met.is_skeleton || (!name && unit.header.kind != SKELETON)) return;
+    if (!is_in_ranges(ranges_of(root), address)) return;
+    met.is_skeleton = true;
+    met.skeleton = unit.header.offset;
+    met.split_file = name ? text_of(name) : gimli_bytes(NULL, 0);
 }
 
 /* Looks for the function of an address in `unit`. */
@@ -237,12 +281,24 @@ static bool function_in_unit(uint64_t address) {
         status = gimli_entries(&sections, unit.header.offset, &place, rows, ROOM, attrs, space, &filled);
         for (size_t i = 0; i < filled.rows; i++) {
             struct entry entry = {attrs + rows[i].first, rows[i].attributes};
+            if (rows[i].offset == unit.header.header_size) meet_root(entry, address);
             if (rows[i].tag == TAG_SUBPROGRAM && is_function(entry, address)) return true;
         }
         if (filled.wanted > space && !(attrs = realloc(attrs, (space = filled.wanted) * sizeof *attrs))) exit(3);
     }
     if (status != GIMLI_END) refused("the entry at", unit.header.offset + place.offset, status);
     return false;
+}
+
+/* Tells why no function was found; the exit status. */
+static int none(uint64_t address) {
+    if (met.is_skeleton) {
+        printf("skeleton unit 0x%" PRIx64 ": its functions are in ", met.skeleton);
+        fwrite(met.split_file.bytes, 1, met.split_file.length, stdout);
+        putchar('\n');
+    } else if (met.status) refused("the ranges of the unit at", met.refused, met.status);
+    else printf("no function at 0x%" PRIx64 "\n", address);
+    return 1;
 }
 
 /* A hexadecimal number, with 0x before it or not. */
@@ -256,15 +312,15 @@ static bool read_address(const char *text, uint64_t *address) {
 
 int main(int argc, char **argv) {
     uint64_t offset = 0, address;
-    if (argc != 3 || !read_address(argv[2], &address)) return fprintf(stderr, "usage: function_at ELF ADDRESS\n"), 2;
+    if (argc != 3 || !read_address(argv[2], &address))
+        return fprintf(stderr, "usage: function_at ELF ADDRESS (functions that are inlined there are passed over)\n"), 2;
     if (!read_sections(argv[1])) return fprintf(stderr, "function_at: %s is no linked ELF file\n", argv[1]), 2;
-    if (!(attrs = malloc(space * sizeof *attrs))) return 3;
+    if (!(attrs = malloc(space * sizeof *attrs)) || !(ranges = malloc(ranges_room * sizeof *ranges))) return 3;
     if (gimli_unit_of_address(&sections, address, &offset) == GIMLI_MORE) {
         if (begin_unit(offset) && function_in_unit(address)) return 0;
     } else {
         for (offset = 0; begin_unit(offset); offset += unit.header.length)
             if (function_in_unit(address)) return 0;
     }
-    printf("no function at 0x%" PRIx64 "\n", address);
-    return 1;
+    return none(address);
 }

@@ -1,6 +1,7 @@
 #!/usr/bin/env python3
 """function_at.py ELF ADDRESS: prints the unit, the name and the ranges of the function at an
-address of a linked program.
+address of a linked program: the one whose code is there, and not one that is inlined into it. The
+exit status is 1 where there is none, and 2 where something is refused.
 
 The sections are read by pyelftools, and what is in them by the proved library: GIMLI_LIBRARY
 names libgimli.so, where it is not where bindings/build.sh leaves it.
@@ -18,8 +19,9 @@ sys.path.insert(0, str(BINDINGS / "python"))
 import gimli  # noqa: E402
 
 SUBPROGRAM, NAME, LOW_PC, HIGH_PC, ORIGIN, SPECIFICATION, RANGES = 0x2e, 0x03, 0x11, 0x12, 0x31, 0x47, 0x55
-LINKAGE_NAME, STR_OFFSETS_BASE, ADDR_BASE, RNGLISTS_BASE = 0x6e, 0x72, 0x73, 0x74
-MOST_STEPS = 16
+LINKAGE_NAME, STR_OFFSETS_BASE, ADDR_BASE, RNGLISTS_BASE, DWO_NAME = 0x6e, 0x72, 0x73, 0x74, 0x76
+MIPS_LINKAGE_NAME, GNU_DWO_NAME = 0x2007, 0x2130
+SKELETON, MOST_STEPS = 4, 16
 
 
 class Stopped(Exception):
@@ -44,9 +46,13 @@ def read_sections(path):
 
 
 class File:
-    """The sections of a file, and the library over them."""
+    """The sections of a file, and the library over them. Beside them what is met on the way, and told
+    where no function is found: the first skeleton unit that has the address, with the name of its
+    other file, and the first list of ranges that is refused.
+    """
 
     def __init__(self, little, sections):
+        self.skeleton, self.refused = None, None
         bytes_of = dict(zip(NAMES, sections))
         self.little, self.addr = little, bytes_of["addr"]
         self.texts, self.line_texts, self.text_offsets = (bytes_of.pop(name) for name in ("str", "line_str", "str_offsets"))
@@ -71,6 +77,15 @@ class File:
         while (unit := self.unit_at(offset)) is not None:
             yield unit
             offset += unit.header.length
+
+    def none(self, out, address):
+        """Tells why no function was found."""
+        if self.skeleton:
+            out += b"skeleton unit %#x: its functions are in " % self.skeleton[0], self.skeleton[1], b"\n"
+        elif self.refused:
+            raise self.refused
+        else:
+            out.append(b"no function at %#x\n" % address)
 
     def print_function(self, out, address):
         """Writes the function of an address; false where there is none."""
@@ -140,19 +155,28 @@ class Unit:
             end = begin + value if kind in ("Data1", "Data2", "Data4", "Data8", "Udata", "Sdata") else begin
         return end % 2**64
 
+    def listed(self, attr):
+        """The ranges of a list; none where one is refused."""
+        try:
+            return self.file.dwarf.ranges(self.header, attr, self.bases)
+        except gimli.Refused as refused:
+            if refused.name != "NoList" and not self.file.refused:
+                self.file.refused = Stopped(refused, "the ranges of the unit at", self.header.offset)
+            return []
+
     def ranges_of(self, attrs):
-        begin = self.address_of(attrs.get(LOW_PC))
+        """The ranges of an entry, without those from 0 on, which the linker leaves of a function that it
+        discards."""
+        begin, pairs = self.address_of(attrs.get(LOW_PC)), []
         if begin is not None and HIGH_PC in attrs:
             end = self.end_of(attrs[HIGH_PC], begin)
-            return [(begin, end)] if begin < end else []
-        if RANGES not in attrs:
-            return []
-        try:
-            return self.file.dwarf.ranges(self.header, attrs[RANGES], self.bases)
-        except gimli.Refused as refused:
-            if refused.name == "NoList":
-                return []
-            raise Stopped(refused, "the ranges of the unit at", self.header.offset) from None
+            pairs = [(begin, end)] if begin < end else []
+        elif RANGES in attrs:
+            pairs = self.listed(attrs[RANGES])
+        return [pair for pair in pairs if pair[0] != 0]
+
+    def has_address(self, attrs, address):
+        return any(begin <= address < end for begin, end in self.ranges_of(attrs))
 
     def followed(self, attr):
         """The unit and the attributes of the entry that an attribute names, or None."""
@@ -165,12 +189,13 @@ class Unit:
                     return unit, unit.entry_at(value - unit.header.offset)
         return None
 
-    def print_text(self, out, word, attrs, name):
-        """Writes the first attribute of a name, of an entry or of the entries that it stands for."""
+    def print_text(self, out, word, attrs, name, other):
+        """Writes the first attribute of a name, or else of another, of an entry or of the entries that
+        it stands for."""
         unit = self
         for _ in range(MOST_STEPS):
-            if name in attrs:
-                out += word, b" ", unit.text_of(attrs[name]), b"\n"
+            if attr := attrs.get(name) or attrs.get(other):
+                out += word, b" ", unit.text_of(attr), b"\n"
                 return
             following = attrs.get(ORIGIN) or attrs.get(SPECIFICATION)
             found = following and unit.followed(following)
@@ -178,11 +203,22 @@ class Unit:
                 return
             unit, attrs = found
 
+    def meet_root(self, root, address):
+        """Keeps in mind that the unit of a root has the address but is a skeleton, whose functions are in
+        another file."""
+        name = root.get(DWO_NAME) or root.get(GNU_DWO_NAME)
+        if self.file.skeleton or (not name and self.header.kind != SKELETON):
+            return
+        if self.has_address(root, address):
+            self.file.skeleton = self.header.offset, self.text_of(name) if name else b""
+
     def print_function(self, out, address):
         """Writes the function of an address, where it is one of this unit."""
         entries = self.file.dwarf.raw_entries(self.header)
         try:
             for row, attrs in entries:
+                if row[0] == self.header.header_size:
+                    self.meet_root(self.by_name(attrs), address)
                 if row[2] == SUBPROGRAM and self.is_function(out, self.by_name(attrs), address):
                     return True
         except gimli.Refused as refused:
@@ -191,14 +227,13 @@ class Unit:
         return False
 
     def is_function(self, out, attrs, address):
-        ranges = self.ranges_of(attrs)
-        if not any(begin <= address < end for begin, end in ranges):
+        if not self.has_address(attrs, address):
             return False
         out.append(b"unit %#x\n" % self.header.offset)
-        self.print_text(out, b"file", self.entry_at(self.header.header_size), NAME)
-        self.print_text(out, b"function", attrs, NAME)
-        self.print_text(out, b"linkage name", attrs, LINKAGE_NAME)
-        out += [b"range %#x %#x\n" % pair for pair in ranges]
+        self.print_text(out, b"unit name", self.entry_at(self.header.header_size), NAME, NAME)
+        self.print_text(out, b"function", attrs, NAME, NAME)
+        self.print_text(out, b"linkage name", attrs, LINKAGE_NAME, MIPS_LINKAGE_NAME)
+        out += [b"range %#x %#x\n" % pair for pair in self.ranges_of(attrs)]
         return True
 
 
@@ -209,22 +244,23 @@ def main(words):
         if not 0 <= address < 2**64:
             raise ValueError
     except ValueError:
-        print("usage: function_at ELF ADDRESS", file=sys.stderr)
+        print("usage: function_at ELF ADDRESS (functions that are inlined there are passed over)", file=sys.stderr)
         return 2
     try:
         little, sections = read_sections(path)
     except Exception:  # pyelftools lets through whatever it stumbles over
         print(f"function_at: {path} is no linked ELF file", file=sys.stderr)
         return 2
-    out, found, file = [], False, File(little, sections)
+    out, status, file = [], 0, File(little, sections)
     try:
-        found = file.print_function(out, address)
-        if not found:
-            out.append(b"no function at %#x\n" % address)
+        if not file.print_function(out, address):
+            status = 1
+            file.none(out, address)
     except Stopped as stopped:
-        out.append(f"{stopped}\n".encode())
+        status = 2
+        print(stopped, file=sys.stderr)
     sys.stdout.buffer.write(b"".join(out))
-    return 0 if found else 1
+    return status
 
 
 if __name__ == "__main__":

@@ -1,127 +1,254 @@
 //! Rows, and entries with their attributes.
 
-use crate::{Attribute, END, Error, MORE, Place, Result, Row, sys};
+use crate::{Attribute, END, Error, MORE, Place, ROW_REFUSED, Result, Row, Sections, UnitHeader};
+use crate::{reserve, sys};
 use alloc::vec::Vec;
+use core::fmt;
 
-/// The rows of a unit, up to the first that is refused.
-pub struct Rows<'a> {
-    sections: sys::Sections<'a>,
-    unit: u64,
-    place: Place,
-    rows: Vec<Row>,
-    at: usize,
-    status: u32,
+// The rows that a unit can still have from a place on, as each takes a byte; no more than `room`,
+// and 1 at least.
+fn room_for(unit: &UnitHeader, place: Place, room: usize) -> usize {
+    let left = unit.length_including_self().saturating_sub(place.offset);
+    room.min(usize::try_from(left).unwrap_or(usize::MAX)).max(1)
 }
 
-impl<'a> Rows<'a> {
-    pub(crate) fn new(sections: sys::Sections<'a>, unit: u64, place: Place, room: usize) -> Self {
-        let rows = Vec::with_capacity(room.max(1));
-        Rows {
-            sections,
-            unit,
+// Where an iterator over a unit stands.
+struct Reading<'a> {
+    sections: Sections<'a>,
+    unit: UnitHeader,
+    // after the rows of the buffer
+    place: Place,
+    // how many rows a call may give
+    room: usize,
+    // the index of the next row in the buffer
+    at: usize,
+    // of the last call
+    status: u32,
+    row_refused: bool,
+}
+
+impl<'a> Reading<'a> {
+    fn new(sections: &Sections<'a>, unit: &UnitHeader, place: Place, room: usize) -> Self {
+        Reading {
+            sections: *sections,
+            unit: *unit,
             place,
-            rows,
+            room: room_for(unit, place, room),
             at: 0,
             status: MORE,
+            row_refused: false,
         }
     }
 
-    /// The place after the rows that were read from the section; after a refusal that of what was refused.
+    // Whether there is something to read after the buffer. A refusal is told once, and is the end.
+    fn goes_on(&mut self) -> Result<bool> {
+        match self.status {
+            MORE => Ok(true),
+            END => Ok(false),
+            status => {
+                self.row_refused = status >= ROW_REFUSED;
+                self.status = END;
+                Err(Error::of_status(status))
+            }
+        }
+    }
+
+    // Empties the buffer and sees to its room; where memory for it is refused, that is the end.
+    fn start<T>(&mut self, rows: &mut Vec<T>) -> Result<()> {
+        self.at = 0;
+        self.status = END;
+        self.row_refused = false;
+        rows.clear();
+        reserve(rows, self.room)
+    }
+
+    fn debug(&self, name: &str, place: Place, f: &mut fmt::Formatter<'_>) -> fmt::Result {
+        f.debug_struct(name)
+            .field("unit", &self.unit.offset())
+            .field("place", &place)
+            .field("room", &self.room)
+            .finish_non_exhaustive()
+    }
+}
+
+/// The rows of a unit, up to the first that is refused.
+///
+/// A refusal is the last item. After one of memory ([`Error::OutOfMemory`]) `rows_from` goes on at
+/// the place, where there is memory then.
+pub struct Rows<'a> {
+    reading: Reading<'a>,
+    rows: Vec<Row>,
+}
+
+impl<'a> Rows<'a> {
+    pub(crate) fn new(
+        sections: &Sections<'a>,
+        unit: &UnitHeader,
+        place: Place,
+        room: usize,
+    ) -> Self {
+        Rows {
+            reading: Reading::new(sections, unit, place, room),
+            rows: Vec::new(),
+        }
+    }
+
+    /// The place of the next item: `rows_from` goes on with it there. At the end it is the place
+    /// after the last row; after a refusal that of what was refused, or where it was not of a row
+    /// (`is_row_refused`), the one at which reading was to go on.
+    #[inline]
     pub fn place(&self) -> Place {
-        self.place
+        self.rows
+            .get(self.reading.at)
+            .map_or(self.reading.place, Row::place)
+    }
+
+    /// Whether the last item is the refusal of a row, that at the place. Other refusals are of the
+    /// unit, of its abbreviations, of the place, or of memory for the buffer.
+    #[inline]
+    pub fn is_row_refused(&self) -> bool {
+        self.reading.row_refused
+    }
+
+    // Reads on where the buffer has no more rows; false at the end.
+    fn fill(&mut self) -> Result<bool> {
+        while self.reading.at == self.rows.len() {
+            if !self.reading.goes_on()? {
+                return Ok(false);
+            }
+            let Reading { sections, unit, .. } = self.reading;
+            self.reading.start(&mut self.rows)?;
+            self.reading.status = sys::rows(
+                &sections.raw(unit.types),
+                unit.offset(),
+                &mut self.reading.place,
+                &mut self.rows,
+            );
+        }
+        Ok(true)
+    }
+}
+
+impl fmt::Debug for Rows<'_> {
+    fn fmt(&self, f: &mut fmt::Formatter<'_>) -> fmt::Result {
+        self.reading.debug("Rows", self.place(), f)
     }
 }
 
 impl Iterator for Rows<'_> {
     type Item = Result<Row>;
 
+    #[inline]
     fn next(&mut self) -> Option<Self::Item> {
-        if self.at == self.rows.len() && self.status == MORE {
-            self.at = 0;
-            self.status = sys::rows(&self.sections, self.unit, &mut self.place, &mut self.rows);
+        if self.reading.at == self.rows.len() {
+            match self.fill() {
+                Ok(true) => {}
+                Ok(false) => return None,
+                Err(error) => return Some(Err(error)),
+            }
         }
-        if self.at < self.rows.len() {
-            self.at += 1;
-            return Some(Ok(self.rows[self.at - 1]));
-        }
-        match core::mem::replace(&mut self.status, END) {
-            END => None,
-            status => Some(Err(Error::of_status(status))),
-        }
+        let row = self.rows[self.reading.at];
+        self.reading.at += 1;
+        Some(Ok(row))
     }
 }
 
 /// The entries of a unit with their attributes, up to the first that is refused.
+///
+/// After a refusal comes the end. After one of memory ([`Error::OutOfMemory`]) `entries_from` goes
+/// on at the place, where there is memory then.
 pub struct Entries<'a> {
-    sections: sys::Sections<'a>,
+    reading: Reading<'a>,
     units: &'a [u8],
-    unit: u64,
-    place: Place,
     rows: Vec<sys::Entry>,
     attrs: Vec<sys::Attr>,
+    space: usize,
     filled: sys::Filled,
-    at: usize,
-    status: u32,
 }
 
 impl<'a> Entries<'a> {
     pub(crate) fn new(
-        sections: sys::Sections<'a>,
-        units: &'a [u8],
-        unit: u64,
+        sections: &Sections<'a>,
+        unit: &UnitHeader,
         place: Place,
         room: usize,
         space: usize,
     ) -> Self {
         Entries {
-            sections,
-            units,
-            unit,
-            place,
-            rows: Vec::with_capacity(room.max(1)),
-            attrs: Vec::with_capacity(space),
+            reading: Reading::new(sections, unit, place, room),
+            units: sections.section_of(unit),
+            rows: Vec::new(),
+            attrs: Vec::new(),
+            space,
             filled: sys::Filled::default(),
-            at: 0,
-            status: MORE,
         }
     }
 
-    /// The place after the entries that were read from the section; after a refusal that of what was refused.
+    /// All entries of a unit, so many at a time as it can have, and four attributes for each.
+    pub(crate) fn of_unit(sections: &Sections<'a>, unit: &UnitHeader) -> Self {
+        let room = room_for(unit, unit.root(), 8192);
+        Entries::new(sections, unit, unit.root(), room, 4 * room)
+    }
+
+    /// The place of the next entry: `entries_from` goes on with it there. At the end it is the
+    /// place after the last entry; after a refusal that of what was refused, or where it was not of
+    /// an entry (`is_row_refused`), the one at which reading was to go on.
+    #[inline]
     pub fn place(&self) -> Place {
-        self.place
+        self.rows
+            .get(self.reading.at)
+            .map_or(self.reading.place, sys::Entry::place)
+    }
+
+    /// Whether the last answer is the refusal of an entry, that at the place. Other refusals are of
+    /// the unit, of its abbreviations, of the place, or of memory for the buffers.
+    #[inline]
+    pub fn is_row_refused(&self) -> bool {
+        self.reading.row_refused
     }
 
     /// The next entry, a null too; none at the end, and after a refusal.
+    #[inline]
     pub fn next_entry(&mut self) -> Result<Option<Entry<'a, '_>>> {
-        while self.at == self.rows.len() && self.status == MORE {
-            if self.rows.is_empty() {
-                self.attrs.clear();
-                self.attrs.reserve(self.filled.wanted);
+        if self.reading.at == self.rows.len() && !self.fill()? {
+            return Ok(None);
+        }
+        let row = &self.rows[self.reading.at];
+        self.reading.at += 1;
+        let attrs = &self.attrs[row.first..row.first + row.attributes];
+        Ok(Some(Entry {
+            row,
+            attrs,
+            units: self.units,
+        }))
+    }
+
+    // Reads on where the buffer has no more entries; false at the end.
+    fn fill(&mut self) -> Result<bool> {
+        while self.reading.at == self.rows.len() {
+            if !self.reading.goes_on()? {
+                return Ok(false);
             }
-            self.at = 0;
-            self.status = sys::entries(
-                &self.sections,
-                self.unit,
-                &mut self.place,
+            let Reading { sections, unit, .. } = self.reading;
+            self.reading.start(&mut self.rows)?;
+            self.attrs.clear();
+            reserve(&mut self.attrs, self.space.max(self.filled.wanted))?;
+            self.reading.status = sys::entries(
+                &sections.raw(unit.types),
+                unit.offset(),
+                &mut self.reading.place,
                 &mut self.rows,
                 &mut self.attrs,
                 &mut self.filled,
             );
         }
-        if self.at < self.rows.len() {
-            let row = &self.rows[self.at];
-            self.at += 1;
-            let attrs = &self.attrs[row.first..row.first + row.attributes];
-            return Ok(Some(Entry {
-                row,
-                attrs,
-                units: self.units,
-            }));
-        }
-        match core::mem::replace(&mut self.status, END) {
-            END => Ok(None),
-            status => Err(Error::of_status(status)),
-        }
+        Ok(true)
+    }
+}
+
+impl fmt::Debug for Entries<'_> {
+    fn fmt(&self, f: &mut fmt::Formatter<'_>) -> fmt::Result {
+        self.reading.debug("Entries", self.place(), f)
     }
 }
 
@@ -135,39 +262,43 @@ pub struct Entry<'a, 'b> {
 
 impl<'a, 'b> Entry<'a, 'b> {
     /// Where it stands in the unit.
+    #[inline]
     pub fn offset(&self) -> u64 {
         self.row.offset
     }
 
     /// How deep it stands.
+    #[inline]
     pub fn depth(&self) -> isize {
         self.row.depth
     }
 
     /// The place at which it stands.
+    #[inline]
     pub fn place(&self) -> Place {
-        Place {
-            offset: self.row.offset,
-            depth: self.row.depth,
-        }
+        self.row.place()
     }
 
     /// Its tag, a `DW_TAG` number; 0 of a null.
+    #[inline]
     pub fn tag(&self) -> u16 {
         self.row.tag
     }
 
     /// Whether it is a null.
+    #[inline]
     pub fn is_null(&self) -> bool {
         self.row.tag == 0
     }
 
     /// Whether children follow it.
+    #[inline]
     pub fn has_children(&self) -> bool {
         self.row.has_children != 0
     }
 
     /// Its attributes, in order.
+    #[inline]
     pub fn attrs(&self) -> impl ExactSizeIterator<Item = Attribute<'a>> + use<'a, 'b> {
         let units = self.units;
         self.attrs
@@ -176,6 +307,7 @@ impl<'a, 'b> Entry<'a, 'b> {
     }
 
     /// The first attribute of a name.
+    #[inline]
     pub fn attr(&self, name: u16) -> Option<Attribute<'a>> {
         self.attrs().find(|a| a.name() == name)
     }

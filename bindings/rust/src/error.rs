@@ -1,6 +1,12 @@
 //! Refusals.
 
+use crate::ROW_REFUSED;
 use core::fmt;
+
+const TOO_DEEP: u32 = 2;
+const NO_LIST: u32 = 3;
+const REFUSED: u32 = 256;
+const LAST: u32 = ROW_REFUSED + 255;
 
 macro_rules! errors {
     ($($number:literal $name:ident $text:literal)*) => {
@@ -13,22 +19,27 @@ macro_rules! errors {
             TooDeep,
             /// The value of an attribute names no list.
             NoList,
+            /// The library's status is none that this crate knows.
+            UnknownStatus,
         }
 
         impl Error {
-            /// The number by which the library's tools name it; 0 of those that only a caller's numbers lead to.
+            /// The number by which the library's tools name it; 0 of those that only a caller's
+            /// numbers lead to, and of a status that is not known.
             pub fn number(self) -> u8 {
                 match self {
                     $(Error::$name => $number,)*
-                    Error::TooDeep | Error::NoList => 0,
+                    Error::TooDeep | Error::NoList | Error::UnknownStatus => 0,
                 }
             }
 
+            // Of a status that is neither MORE nor END.
             pub(crate) fn of_status(status: u32) -> Error {
-                match status & 255 {
-                    $($number if status >= 256 => Error::$name,)*
-                    2 => Error::TooDeep,
-                    _ => Error::NoList,
+                match (status, status & 255) {
+                    (TOO_DEEP, _) => Error::TooDeep,
+                    (NO_LIST, _) => Error::NoList,
+                    $((REFUSED..=LAST, $number) => Error::$name,)*
+                    _ => Error::UnknownStatus,
                 }
             }
 
@@ -37,6 +48,7 @@ macro_rules! errors {
                     $(Error::$name => $text,)*
                     Error::TooDeep => "The depth of the place is too great.",
                     Error::NoList => "The value names no list.",
+                    Error::UnknownStatus => "The status is unknown.",
                 }
             }
         }
@@ -77,3 +89,22 @@ impl fmt::Display for Error {
 }
 
 impl core::error::Error for Error {}
+
+#[cfg(test)]
+mod tests {
+    use super::{Error, LAST};
+
+    #[test]
+    fn statuses() {
+        assert_eq!(Error::of_status(2), Error::TooDeep);
+        assert_eq!(Error::of_status(3), Error::NoList);
+        assert_eq!(Error::of_status(256 + 2), Error::BadUnsignedLeb128);
+        assert_eq!(Error::of_status(512 + 2), Error::BadUnsignedLeb128);
+        assert_eq!(Error::of_status(256 + 24), Error::OutOfMemory);
+        assert_eq!(Error::of_status(512 + 24).number(), 24);
+        assert_eq!(Error::UnknownStatus.number(), 0);
+        for status in [4, 255, 256, 256 + 25, 512, LAST, LAST + 2, u32::MAX] {
+            assert_eq!(Error::of_status(status), Error::UnknownStatus, "{status}");
+        }
+    }
+}

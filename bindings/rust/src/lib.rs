@@ -1,7 +1,11 @@
-//! Safe Rust over the proved DWARF reader: units, rows, entries with attributes, siblings, ranges and locations.
+//! Safe Rust over the proved DWARF reader: units, rows, entries with attributes, siblings, ranges
+//! and locations.
 //!
-//! What each call of the library gives is proved on the other side, for all bytes; this crate is not, and adds nothing but
-//! iterators over buffers. Names are gimli's where they fit.
+//! What each call of the library gives is proved on the other side, for all bytes; this crate is
+//! not, and adds nothing but iterators over buffers. Names are gimli's where they fit.
+//!
+//! Nothing aborts or panics where memory is refused: the answer is [`Error::OutOfMemory`], and the
+//! call may be made again.
 //!
 //! ```
 //! use gimli_proved::{AttributeValue, Sections};
@@ -12,9 +16,9 @@
 //!     for unit in sections.units() {
 //!         let mut entries = sections.entries(&unit?);
 //!         while let Some(entry) = entries.next_entry()? {
-//!             match entry.attr(0x03).map(|name| name.raw_value()) {
-//!                 Some(AttributeValue::String(text)) => names.push(String::from_utf8_lossy(text).into_owned()),
-//!                 _ => {}
+//!             let name = entry.attr(0x03).map(|name| name.raw_value());
+//!             if let Some(AttributeValue::String(text)) = name {
+//!                 names.push(String::from_utf8_lossy(text).into_owned());
 //!             }
 //!         }
 //!     }
@@ -32,20 +36,20 @@ mod entries;
 mod error;
 #[allow(unsafe_code)]
 mod sys;
-#[allow(missing_docs)]
 mod value;
 
 pub use entries::{Entries, Entry, Rows};
 pub use error::Error;
 pub use value::{Attribute, AttributeValue};
 
-use alloc::{vec, vec::Vec};
+use alloc::vec::Vec;
 
 /// The result of a call that may be refused.
 pub type Result<T> = core::result::Result<T, Error>;
 
 pub(crate) const MORE: u32 = 0;
 pub(crate) const END: u32 = 1;
+pub(crate) const ROW_REFUSED: u32 = 512;
 
 /// A byte order.
 #[derive(Clone, Copy, Debug, Default, PartialEq, Eq, Hash)]
@@ -59,17 +63,26 @@ pub enum Endian {
 
 /// The sections of a file; those that no call needs may be empty.
 #[derive(Clone, Copy, Debug, Default)]
-#[allow(missing_docs)]
 pub struct Sections<'a> {
+    /// `.debug_info`: the units.
     pub debug_info: &'a [u8],
+    /// `.debug_types`: type units of version 4.
     pub debug_types: &'a [u8],
+    /// `.debug_abbrev`: how the entries of units are laid out.
     pub debug_abbrev: &'a [u8],
+    /// `.debug_addr`: the addresses that lists name by an index.
     pub debug_addr: &'a [u8],
+    /// `.debug_aranges`: the addresses of each unit.
     pub debug_aranges: &'a [u8],
+    /// `.debug_ranges`: the range lists of units up to version 4.
     pub debug_ranges: &'a [u8],
+    /// `.debug_rnglists`: those of version 5.
     pub debug_rnglists: &'a [u8],
+    /// `.debug_loc`: the location lists of units up to version 4.
     pub debug_loc: &'a [u8],
+    /// `.debug_loclists`: those of version 5.
     pub debug_loclists: &'a [u8],
+    /// The byte order of all of them.
     pub endian: Endian,
 }
 
@@ -82,61 +95,73 @@ pub struct UnitHeader {
 
 impl UnitHeader {
     /// Where the unit begins in its section.
+    #[inline]
     pub fn offset(&self) -> u64 {
         self.unit.offset
     }
 
     /// The number of its bytes: the next unit begins after them.
+    #[inline]
     pub fn length_including_self(&self) -> u64 {
         self.unit.length
     }
 
     /// The offset of the first entry in the unit.
+    #[inline]
     pub fn header_size(&self) -> u64 {
         self.unit.header_size
     }
 
     /// Where its abbreviations are in `.debug_abbrev`.
+    #[inline]
     pub fn debug_abbrev_offset(&self) -> u64 {
         self.unit.abbreviations
     }
 
     /// The version of DWARF.
+    #[inline]
     pub fn version(&self) -> u16 {
         self.unit.version
     }
 
     /// The type of the unit, a `DW_UT` number; 2 of units of `.debug_types`.
+    #[inline]
     pub fn kind(&self) -> u8 {
         self.unit.kind
     }
 
     /// The number of bytes of an address.
+    #[inline]
     pub fn address_size(&self) -> u8 {
         self.unit.address_size
     }
 
     /// The number of bytes of an offset.
+    #[inline]
     pub fn offset_size(&self) -> u8 {
         self.unit.offset_size
     }
 
     /// The signature of a type unit, or the id of a skeleton or split unit; else 0.
+    #[inline]
     pub fn id(&self) -> u64 {
         self.unit.id
     }
 
     /// Where a type unit's type stands in the unit; else 0.
+    #[inline]
     pub fn type_offset(&self) -> u64 {
         self.unit.type_offset
     }
 
     /// Whether the unit lies in `.debug_types`.
+    #[inline]
     pub fn is_in_debug_types(&self) -> bool {
         self.types
     }
 
     /// The place before its first row.
+    #[inline]
     pub fn root(&self) -> Place {
         Place {
             offset: self.unit.header_size,
@@ -170,16 +195,19 @@ pub struct Row {
 
 impl Row {
     /// Whether children follow it.
+    #[inline]
     pub fn has_children(&self) -> bool {
         self.has_children != 0
     }
 
     /// Whether it is a null.
+    #[inline]
     pub fn is_null(&self) -> bool {
         self.tag == 0
     }
 
     /// The place at which it stands.
+    #[inline]
     pub fn place(&self) -> Place {
         Place {
             offset: self.offset,
@@ -229,7 +257,7 @@ pub struct Location {
 }
 
 impl<'a> Sections<'a> {
-    fn raw(&self, types: bool) -> sys::Sections<'a> {
+    pub(crate) fn raw(&self, types: bool) -> sys::Sections<'a> {
         sys::Sections::new(self, types)
     }
 
@@ -275,17 +303,20 @@ impl<'a> Sections<'a> {
         self.rows_from(unit, unit.root(), 16384)
     }
 
-    /// The rows of a unit from a place on, read so many at a time.
+    /// The rows of a unit from a place on, read so many at a time: fewer where the unit's bytes
+    /// can't have so many, and 1 at least.
     pub fn rows_from(&self, unit: &UnitHeader, place: Place, room: usize) -> Rows<'a> {
-        Rows::new(self.raw(unit.types), unit.unit.offset, place, room)
+        Rows::new(self, unit, place, room)
     }
 
     /// The entries of a unit with their attributes.
     pub fn entries(&self, unit: &UnitHeader) -> Entries<'a> {
-        self.entries_from(unit, unit.root(), 8192, 4 * 8192)
+        Entries::of_unit(self, unit)
     }
 
-    /// The entries of a unit from a place on, read so many at a time, with so many attributes at a time or more.
+    /// The entries of a unit from a place on, read so many at a time (as in `rows_from`), with so
+    /// many attributes at a time or more. Where there is no memory for so many attributes,
+    /// `next_entry` is refused it.
     pub fn entries_from(
         &self,
         unit: &UnitHeader,
@@ -293,18 +324,12 @@ impl<'a> Sections<'a> {
         room: usize,
         space: usize,
     ) -> Entries<'a> {
-        Entries::new(
-            self.raw(unit.types),
-            self.section_of(unit),
-            unit.unit.offset,
-            place,
-            room,
-            space,
-        )
+        Entries::new(self, unit, place, room, space)
     }
 
-    /// The next sibling of the row at a place, if there is one. With `follows` references are followed: the answer is the
-    /// same where `first_false_sibling` finds none in the unit; where it finds one, it may be any row.
+    /// The next sibling of the row at a place, if there is one. With `follows` references are
+    /// followed: the answer is the same where `first_false_sibling` finds none in the unit; where
+    /// it finds one, it may be any row.
     pub fn next_sibling(
         &self,
         unit: &UnitHeader,
@@ -345,29 +370,72 @@ impl<'a> Sections<'a> {
         }
     }
 
-    /// The ranges of the list that an attribute of a unit's entry names.
+    /// The ranges of the list that an attribute of a unit's entry names: all of them, or the
+    /// refusal that stands after those before it. `attr_ranges` has those too.
     pub fn ranges(
         &self,
         unit: &UnitHeader,
         attribute: &Attribute<'_>,
         bases: &Bases,
     ) -> Result<Vec<Range>> {
-        let raw = self.raw(unit.types);
-        whole(|into, count| sys::ranges(&raw, &unit.unit, &attribute.attr, bases, into, count))
+        self.found_ranges(unit, attribute, bases)?.whole()
     }
 
-    /// The locations of the list that an attribute of a unit's entry names.
+    /// The same one by one, and then the refusal if there is one; none where the value names no
+    /// list. Refused memory and refusals of the size of addresses, of the list's index or of its
+    /// offset come at once.
+    pub fn attr_ranges(
+        &self,
+        unit: &UnitHeader,
+        attribute: &Attribute<'_>,
+        bases: &Bases,
+    ) -> Result<Option<impl Iterator<Item = Result<Range>> + use<>>> {
+        one_by_one(self.found_ranges(unit, attribute, bases))
+    }
+
+    /// The locations of the list that an attribute of a unit's entry names: all of them, or the
+    /// refusal that stands after those before it. `attr_locations` has those too.
     pub fn locations(
         &self,
         unit: &UnitHeader,
         attribute: &Attribute<'_>,
         bases: &Bases,
     ) -> Result<Vec<Location>> {
+        self.found_locations(unit, attribute, bases)?.whole()
+    }
+
+    /// The same one by one, as `attr_ranges` has ranges.
+    pub fn attr_locations(
+        &self,
+        unit: &UnitHeader,
+        attribute: &Attribute<'_>,
+        bases: &Bases,
+    ) -> Result<Option<impl Iterator<Item = Result<Location>> + use<>>> {
+        one_by_one(self.found_locations(unit, attribute, bases))
+    }
+
+    fn found_ranges(
+        &self,
+        unit: &UnitHeader,
+        attribute: &Attribute<'_>,
+        bases: &Bases,
+    ) -> Result<Found<Range>> {
         let raw = self.raw(unit.types);
-        whole(|into, count| sys::locations(&raw, &unit.unit, &attribute.attr, bases, into, count))
+        found(|into, count| sys::ranges(&raw, &unit.unit, &attribute.attr, bases, into, count))
+    }
+
+    fn found_locations(
+        &self,
+        unit: &UnitHeader,
+        attribute: &Attribute<'_>,
+        bases: &Bases,
+    ) -> Result<Found<Location>> {
+        let raw = self.raw(unit.types);
+        found(|into, count| sys::locations(&raw, &unit.unit, &attribute.attr, bases, into, count))
     }
 
     /// The bytes of a location's expression.
+    #[inline]
     pub fn expression(&self, unit: &UnitHeader, location: &Location) -> &'a [u8] {
         let section = if unit.unit.version >= 5 {
             self.debug_loclists
@@ -381,20 +449,55 @@ impl<'a> Sections<'a> {
     }
 }
 
-// All that a call finds, with as much room as it says that it wants.
-fn whole<T: Clone + Default>(mut call: impl FnMut(&mut [T], &mut usize) -> u32) -> Result<Vec<T>> {
-    let mut found = vec![T::default(); 16];
-    let mut count = 0;
-    loop {
-        match call(&mut found, &mut count) {
-            MORE => found.resize(count, T::default()),
-            END => {
-                found.truncate(count);
-                return Ok(found);
-            }
-            status => return Err(Error::of_status(status)),
-        }
+// The items of a list, and the refusal of what stands after them.
+struct Found<T> {
+    items: Vec<T>,
+    refusal: Option<Error>,
+}
+
+impl<T> Found<T> {
+    fn whole(self) -> Result<Vec<T>> {
+        self.refusal.map_or(Ok(self.items), Err)
     }
+}
+
+// All that a call finds, with as much room as it says that it wants.
+fn found<T: Clone + Default>(
+    mut call: impl FnMut(&mut [T], &mut usize) -> u32,
+) -> Result<Found<T>> {
+    let mut items = Vec::new();
+    let mut count = 16;
+    loop {
+        let more = count - items.len();
+        reserve(&mut items, more)?;
+        items.resize(count, T::default());
+        let refusal = match call(&mut items, &mut count) {
+            MORE => continue,
+            END => None,
+            status if status < ROW_REFUSED => return Err(Error::of_status(status)),
+            status => Some(Error::of_status(status)),
+        };
+        items.truncate(count);
+        return Ok(Found { items, refusal });
+    }
+}
+
+// Each item and then the refusal; none where the value names no list.
+fn one_by_one<T>(found: Result<Found<T>>) -> Result<Option<impl Iterator<Item = Result<T>>>> {
+    match found {
+        Ok(Found { items, refusal }) => {
+            let items = items.into_iter().map(Ok);
+            Ok(Some(items.chain(refusal.map(Err))))
+        }
+        Err(Error::NoList) => Ok(None),
+        Err(error) => Err(error),
+    }
+}
+
+// Makes room for so many more.
+fn reserve<T>(buffer: &mut Vec<T>, more: usize) -> Result<()> {
+    let reserved = buffer.try_reserve_exact(more);
+    reserved.map_err(|_| Error::OutOfMemory)
 }
 
 /// The units of a section.

@@ -1,8 +1,9 @@
 //! The declarations of the library, and the only code of this crate that is `unsafe`.
 //!
-//! Each call is allowed for all numbers and all slices: the library's functions have no precondition but that pointers are
-//! valid for the lengths beside them, and that what is written to overlaps nothing else, which references and slices
-//! guarantee. A slice's pointer is never null, and its length is below 2^63.
+//! Each call is allowed for all numbers and all slices: the library's functions have no
+//! precondition but that pointers are valid for the lengths beside them, and that what is written
+//! to overlaps nothing else, which references and slices guarantee. A slice's pointer is never
+//! null, and its length is below 2^63.
 
 use crate::{Bases, Location, Place, Range, Row};
 use alloc::vec::Vec;
@@ -90,6 +91,16 @@ pub(crate) struct Entry {
     pub(crate) has_children: u8,
 }
 
+impl Entry {
+    #[inline]
+    pub(crate) fn place(&self) -> Place {
+        Place {
+            offset: self.offset,
+            depth: self.depth,
+        }
+    }
+}
+
 #[repr(C)]
 #[derive(Clone, Copy, Debug, Default)]
 pub(crate) struct Attr {
@@ -107,6 +118,14 @@ pub(crate) struct Filled {
     pub(crate) attributes: usize,
     pub(crate) wanted: usize,
 }
+
+// The sizes that the header says too.
+const _: () = {
+    assert!(size_of::<Bytes>() == 16 && size_of::<Sections<'_>>() == 136);
+    assert!(size_of::<Unit>() == 56 && size_of::<Place>() == 16 && size_of::<Row>() == 24);
+    assert!(size_of::<Entry>() == 40 && size_of::<Attr>() == 24 && size_of::<Filled>() == 24);
+    assert!(size_of::<Bases>() == 40 && size_of::<Range>() == 16 && size_of::<Location>() == 32);
+};
 
 mod raw {
     use super::{Attr, Entry, Filled, Sections, Unit};
@@ -139,7 +158,8 @@ pub(crate) fn rows(
 ) -> u32 {
     rows.clear();
     let mut count = 0;
-    // SAFETY: the module's text. A buffer need not be set before, and the first `count` rows are written by the call.
+    // SAFETY: the module's text. A buffer need not be set before, and the first `count` rows are
+    // written by the call.
     unsafe {
         let status = raw::gimli_rows(
             sections,
@@ -166,7 +186,8 @@ pub(crate) fn entries(
     rows.clear();
     attrs.clear();
     let (room, space) = (rows.capacity(), attrs.capacity());
-    // SAFETY: the module's text. Buffers need not be set before, and as many rows and attributes as `filled` says are written.
+    // SAFETY: the module's text. Buffers need not be set before, and as many rows and attributes as
+    // `filled` says are written.
     unsafe {
         let (to, and) = (rows.as_mut_ptr(), attrs.as_mut_ptr());
         let status = raw::gimli_entries(sections, unit, place, to, room, and, space, filled);

@@ -6,33 +6,53 @@ use crate::sys::Attr;
 #[derive(Clone, Copy, Debug, PartialEq, Eq)]
 #[non_exhaustive]
 pub enum AttributeValue<'a> {
+    /// An address.
     Addr(u64),
+    /// The bytes of a block.
     Block(&'a [u8]),
+    /// A constant of one byte, with or without a sign.
     Data1(u8),
+    /// One of two bytes.
     Data2(u16),
+    /// One of four bytes.
     Data4(u32),
+    /// One of eight bytes.
     Data8(u64),
+    /// One of sixteen bytes.
     Data16(u128),
+    /// A constant with a sign.
     Sdata(i64),
+    /// A constant without a sign.
     Udata(u64),
     /// The bytes of an expression.
     Exprloc(&'a [u8]),
+    /// A flag.
     Flag(bool),
+    /// An offset in the section that the attribute's name says.
     SecOffset(u64),
+    /// An index of the unit's table in `.debug_addr`.
     DebugAddrIndex(u64),
     /// The address at an index, and what is added to it.
     DebugAddrIndexOffset(u64, u32),
     /// An offset in the unit.
     UnitRef(u64),
+    /// An offset in `.debug_info`.
     DebugInfoRef(u64),
+    /// An offset in `.debug_info` of the supplementary file.
     DebugInfoRefSup(u64),
+    /// An index of the unit's table in `.debug_loclists`.
     DebugLocListsIndex(u64),
+    /// An index of the unit's table in `.debug_rnglists`.
     DebugRngListsIndex(u64),
     /// The signature of a type unit.
     DebugTypesRef(u64),
+    /// An offset in `.debug_str`.
     DebugStrRef(u64),
+    /// An offset in `.debug_str` of the supplementary file.
     DebugStrRefSup(u64),
+    /// An index of the unit's table in `.debug_str_offsets`.
     DebugStrOffsetsIndex(u64),
+    /// An offset in `.debug_line_str`.
     DebugLineStrRef(u64),
     /// A text, without the zero that ends it.
     String(&'a [u8]),
@@ -49,16 +69,20 @@ pub struct Attribute<'a> {
 
 impl<'a> Attribute<'a> {
     /// The name, a `DW_AT` number.
+    #[inline]
     pub fn name(&self) -> u16 {
         self.attr.name
     }
 
     /// The form of the declaration, a `DW_FORM` number.
+    #[inline]
     pub fn form(&self) -> u16 {
         self.attr.form
     }
 
     /// The value, as it is read.
+    // (always, so that this match and the caller's become one)
+    #[inline(always)]
     pub fn raw_value(&self) -> AttributeValue<'a> {
         use AttributeValue::*;
         let a = &self.attr;
@@ -92,8 +116,25 @@ impl<'a> Attribute<'a> {
         }
     }
 
-    /// The value as a number without a sign, where it is one: an address, a constant, an offset, an index or a flag.
+    /// The value as a constant without a sign, where it is one: of one to eight bytes, or one that
+    /// is not below 0. As in gimli, no address, offset, index or flag is one; `number` has those.
+    #[inline]
     pub fn udata_value(&self) -> Option<u64> {
+        use AttributeValue::*;
+        match self.raw_value() {
+            Data1(number) => Some(number.into()),
+            Data2(number) => Some(number.into()),
+            Data4(number) => Some(number.into()),
+            Data8(number) | Udata(number) => Some(number),
+            Sdata(number) => u64::try_from(number).ok(),
+            _ => None,
+        }
+    }
+
+    /// The number of the value, where it is a single one without a sign: an address, a constant of
+    /// up to eight bytes that is not below 0, an offset, an index, a signature or a flag.
+    #[inline]
+    pub fn number(&self) -> Option<u64> {
         match self.attr.kind {
             2 | 7 | 10 | 33 | 48 => None,
             8 => u64::try_from(self.attr.number as i64).ok(),
@@ -101,6 +142,7 @@ impl<'a> Attribute<'a> {
         }
     }
 
+    #[inline]
     fn bytes(&self) -> &'a [u8] {
         let start = self.attr.number as usize;
         let end = start.saturating_add(self.attr.more as usize);

@@ -1,6 +1,8 @@
 //! The repository's real files, and answers beside each other.
 
-use gimli_proved::{AttributeValue, Bases, Endian, Error, Row, Sections};
+use gimli_proved::{
+    AttributeValue, Bases, Endian, Entries, Error, Place, Row, Rows, Sections, UnitHeader, Units,
+};
 use std::{env, fs, path::PathBuf};
 
 struct File {
@@ -215,7 +217,8 @@ fn siblings() {
 
 #[test]
 fn big_endian_type_unit() {
-    // a type unit of version 4: its length, version, abbreviations, address size, signature and type, and one entry
+    // a type unit of version 4: its length, version, abbreviations, address size, signature and
+    // type, and one entry
     let types = [
         0, 0, 0, 0x18, 0, 4, 0, 0, 0, 0, 8, 1, 2, 3, 4, 5, 6, 7, 8, 0, 0, 0, 0x17, 1, 0x12, 0x34,
         0, 0,
@@ -247,11 +250,11 @@ fn big_endian_type_unit() {
 
 #[test]
 fn ranges_and_locations() {
-    // a unit of version 5 whose entry has ranges at an offset, and a location list
+    // a unit of version 5 whose entry has ranges at an offset, a location list, and a byte
     let info = [
-        0x11, 0, 0, 0, 5, 0, 1, 8, 0, 0, 0, 0, 1, 0, 0, 0, 0, 0, 0, 0, 0,
+        0x12, 0, 0, 0, 5, 0, 1, 8, 0, 0, 0, 0, 1, 0, 0, 0, 0, 0, 0, 0, 0, 7,
     ];
-    let abbrev = [1, 0x11, 0, 0x55, 0x17, 2, 0x17, 0, 0, 0];
+    let abbrev = [1, 0x11, 0, 0x55, 0x17, 2, 0x17, 3, 0x0b, 0, 0, 0];
     let rnglists = [4, 0x10, 0x20, 4, 0x30, 0x40, 0];
     let loclists = [4, 1, 2, 1, 0x9c, 0];
     let sections = Sections {
@@ -281,13 +284,50 @@ fn ranges_and_locations() {
         (1, 0x1001, 0x1002)
     );
     assert_eq!(sections.expression(&unit, &locations[0]), [0x9c]);
-    assert_eq!(
-        Sections {
-            debug_rnglists: &rnglists[..4],
-            ..sections
-        }
-        .ranges(&unit, &entry.attr(0x55).unwrap(), &bases),
-        Err(Error::UnexpectedEof)
+    // lists with an item that is refused, after one of ranges and one of locations
+    let short = Sections {
+        debug_rnglists: &rnglists[..4],
+        debug_loclists: &[4, 1, 2, 1, 0x9c, 0x63],
+        ..sections
+    };
+    let (first, second) = (entry.attr(0x55).unwrap(), entry.attr(2).unwrap());
+    let (cut, unknown) = (Error::UnexpectedEof, Error::UnknownLocListsEntry);
+    assert_eq!(short.ranges(&unit, &first, &bases), Err(cut));
+    assert_eq!(short.locations(&unit, &second, &bases), Err(unknown));
+    let mut one_by_one = short.attr_ranges(&unit, &first, &bases).unwrap().unwrap();
+    assert_eq!(one_by_one.next(), Some(Ok(ranges[0])));
+    assert_eq!(one_by_one.next(), Some(Err(cut)));
+    assert_eq!(one_by_one.next(), None);
+    let one_by_one = short.attr_locations(&unit, &second, &bases).unwrap();
+    let told: Vec<_> = one_by_one.unwrap().collect();
+    assert_eq!(told, [Ok(locations[0]), Err(unknown)]);
+    let one_by_one = sections.attr_ranges(&unit, &first, &bases).unwrap();
+    let told: Result<Vec<_>, Error> = one_by_one.unwrap().collect();
+    assert_eq!(told, Ok(ranges));
+    // a list outside of its section, and a value that names none
+    let mut far = info;
+    far[13] = 200;
+    let far = Sections {
+        debug_info: &far,
+        ..sections
+    };
+    let mut entries = far.entries(&unit);
+    let outside = entries.next_entry().unwrap().unwrap().attr(0x55).unwrap();
+    assert_eq!(far.ranges(&unit, &outside, &bases), Err(cut));
+    assert_eq!(far.attr_ranges(&unit, &outside, &bases).err(), Some(cut));
+    let name = entry.attr(3).unwrap();
+    assert_eq!(sections.ranges(&unit, &name, &bases), Err(Error::NoList));
+    assert!(
+        sections
+            .attr_ranges(&unit, &name, &bases)
+            .unwrap()
+            .is_none()
+    );
+    assert!(
+        sections
+            .attr_locations(&unit, &name, &bases)
+            .unwrap()
+            .is_none()
     );
 }
 
@@ -309,4 +349,179 @@ fn unit_of_an_address() {
         ..Sections::default()
     };
     assert_eq!(short.unit_of_address(0), Err(Error::UnexpectedEof));
+}
+
+#[test]
+fn threads_may_share() {
+    fn is<T: Send + Sync>() {}
+    is::<Rows<'_>>();
+    is::<Entries<'_>>();
+    is::<Units<'_>>();
+    is::<Sections<'_>>();
+    is::<UnitHeader>();
+}
+
+// Some numbers of items from none to all.
+fn some_of(all: usize) -> impl Iterator<Item = usize> {
+    (0..=all).filter(move |k| *k < 4 || k % 61 < 2 || *k + 2 > all)
+}
+
+#[test]
+fn rows_go_on_at_the_place() {
+    for file in files() {
+        let sections = file.sections();
+        let unit = sections.units().next().unwrap().unwrap();
+        let all: Vec<Row> = sections.rows(&unit).map(|row| row.unwrap()).collect();
+        if all.len() > 2000 {
+            continue;
+        }
+        for room in [1, 3, 64, 4096] {
+            for k in some_of(all.len()) {
+                let mut rows = sections.rows_from(&unit, unit.root(), room);
+                let mut told: Vec<Row> = rows.by_ref().take(k).map(|row| row.unwrap()).collect();
+                let rest = sections.rows_from(&unit, rows.place(), room);
+                told.extend(rest.map(|row| row.unwrap()));
+                assert!(told == all, "{} {room} {k}", file.name);
+            }
+        }
+    }
+}
+
+// So many entries at most, as their places and the names of their attributes.
+fn some_entries(entries: &mut Entries<'_>, most: usize) -> Vec<(Place, Vec<u16>)> {
+    let mut some = Vec::new();
+    while some.len() < most {
+        let Some(entry) = entries.next_entry().unwrap() else {
+            break;
+        };
+        some.push((entry.place(), entry.attrs().map(|a| a.name()).collect()));
+    }
+    some
+}
+
+#[test]
+fn entries_go_on_at_the_place() {
+    for file in files() {
+        let sections = file.sections();
+        let unit = sections.units().next().unwrap().unwrap();
+        let all = some_entries(&mut sections.entries(&unit), usize::MAX);
+        if all.len() > 2000 {
+            continue;
+        }
+        for (room, space) in [(1, 0), (3, 7), (64, 1), (4096, 65536)] {
+            for k in some_of(all.len()) {
+                let mut entries = sections.entries_from(&unit, unit.root(), room, space);
+                let mut told = some_entries(&mut entries, k);
+                let mut rest = sections.entries_from(&unit, entries.place(), room, space);
+                told.extend(some_entries(&mut rest, usize::MAX));
+                assert!(told == all, "{} {room} {space} {k}", file.name);
+            }
+        }
+    }
+}
+
+#[test]
+fn refusals_of_rows() {
+    // a unit of version 4: its root, two entries, and a code that is not declared
+    let info = [11, 0, 0, 0, 4, 0, 0, 0, 0, 0, 8, 1, 2, 2, 9];
+    let abbrev = [1, 0x11, 1, 0, 0, 2, 0x34, 0, 0, 0, 0];
+    let sections = Sections {
+        debug_info: &info,
+        debug_abbrev: &abbrev,
+        ..Sections::default()
+    };
+    let unit = sections.units().next().unwrap().unwrap();
+    let refused = Place {
+        offset: 14,
+        depth: 1,
+    };
+    for room in [0, 1, 2, 3, 4, usize::MAX] {
+        let mut rows = sections.rows_from(&unit, unit.root(), room);
+        let mut entries = sections.entries_from(&unit, unit.root(), room, 0);
+        for offset in 11..14 {
+            assert_eq!(rows.place().offset, offset, "{room}");
+            assert_eq!(entries.place().offset, offset, "{room}");
+            assert_eq!(rows.next().unwrap().unwrap().offset, offset);
+            assert_eq!(entries.next_entry().unwrap().unwrap().offset(), offset);
+            assert!(!rows.is_row_refused() && !entries.is_row_refused());
+        }
+        let error = Error::InvalidAbbreviationCode;
+        assert_eq!(rows.next(), Some(Err(error)));
+        assert_eq!(entries.next_entry().err(), Some(error));
+        for _ in 0..2 {
+            assert_eq!((rows.place(), entries.place()), (refused, refused));
+            assert!(rows.is_row_refused() && entries.is_row_refused());
+            assert_eq!(rows.next(), None);
+            assert!(entries.next_entry().unwrap().is_none());
+        }
+        let mut rest = sections.rows_from(&unit, refused, room);
+        assert_eq!((rest.next(), rest.next()), (Some(Err(error)), None));
+    }
+    // abbreviations that end too early
+    let short = Sections {
+        debug_abbrev: &abbrev[..2],
+        ..sections
+    };
+    let (mut rows, mut entries) = (short.rows(&unit), short.entries(&unit));
+    assert_eq!(rows.next(), Some(Err(Error::UnexpectedEof)));
+    assert_eq!(entries.next_entry().err(), Some(Error::UnexpectedEof));
+    assert_eq!((rows.place(), entries.place()), (unit.root(), unit.root()));
+    assert!(!rows.is_row_refused() && !entries.is_row_refused());
+    assert!(rows.next().is_none() && entries.next_entry().unwrap().is_none());
+    assert_eq!(
+        format!("{rows:?}"),
+        "Rows { unit: 0, place: Place { offset: 11, depth: 0 }, room: 4, .. }"
+    );
+    assert!(format!("{entries:?}").starts_with("Entries { unit: 0, place: Place { offset: 11,"));
+}
+
+#[test]
+fn numbers() {
+    // a unit of version 5 whose entry has an attribute of each form, with its number and its
+    // constant
+    type Case = (u8, &'static [u8], Option<u64>, Option<u64>);
+    let forms: [Case; 15] = [
+        (0x0b, &[0xff], Some(255), Some(255)),
+        (0x05, &[0xff, 0xff], Some(65535), Some(65535)),
+        (0x06, &[1, 0, 0, 0x80], Some(0x80000001), Some(0x80000001)),
+        (
+            0x07,
+            &[1, 0, 0, 0, 0, 0, 0, 1],
+            Some(1 << 56 | 1),
+            Some(1 << 56 | 1),
+        ),
+        (0x0d, &[0x3f], Some(63), Some(63)),
+        (0x0d, &[0x7f], None, None),
+        (0x0f, &[0x7f], Some(127), Some(127)),
+        (0x1e, &[1; 16], None, None),
+        (0x01, &[2, 0, 0, 0, 0, 0, 0, 0], Some(2), None),
+        (0x0c, &[1], Some(1), None),
+        (0x13, &[3, 0, 0, 0], Some(3), None),
+        (0x17, &[4, 0, 0, 0], Some(4), None),
+        (0x23, &[5], Some(5), None),
+        (0x08, &[b'a', 0], None, None),
+        (0x0a, &[1, 6], None, None),
+    ];
+    let mut info = vec![0, 0, 0, 0, 5, 0, 1, 8, 0, 0, 0, 0, 1];
+    let mut abbrev = vec![1, 0x11, 0];
+    for (name, (form, bytes, ..)) in (1..).zip(&forms) {
+        abbrev.extend([name, *form]);
+        info.extend_from_slice(bytes);
+    }
+    abbrev.extend([0, 0, 0]);
+    info[0] = (info.len() - 4) as u8;
+    let sections = Sections {
+        debug_info: &info,
+        debug_abbrev: &abbrev,
+        ..Sections::default()
+    };
+    let unit = sections.units().next().unwrap().unwrap();
+    let mut entries = sections.entries(&unit);
+    let entry = entries.next_entry().unwrap().unwrap();
+    assert_eq!(entry.attrs().len(), forms.len());
+    for (attr, (form, _, number, constant)) in entry.attrs().zip(forms) {
+        assert_eq!(attr.form(), form.into());
+        assert_eq!(attr.number(), number, "{form:x}");
+        assert_eq!(attr.udata_value(), constant, "{form:x}");
+    }
 }

@@ -1,9 +1,11 @@
 //! `function_at ELF ADDRESS`: prints the unit, the name and the ranges of the function at an
-//! address of a linked program. The sections are read by the crate `object`.
+//! address of a linked program: the one whose code is there, and not one that is inlined into it.
+//! The exit status is 1 where there is none, and 2 where something is refused. The sections are
+//! read by the crate `object`.
 
 use gimli_proved::{Attribute, AttributeValue, Bases, Entry, Error, Place, Range, Sections, UnitHeader};
 use object::{Object, ObjectKind, ObjectSection};
-use std::{borrow::Cow, io::Write, process::ExitCode};
+use std::{borrow::Cow, cell::Cell, io::Write, process::ExitCode};
 
 const SUBPROGRAM: u16 = 0x2e;
 const NAME: u16 = 0x03;
@@ -16,6 +18,10 @@ const LINKAGE_NAME: u16 = 0x6e;
 const STR_OFFSETS_BASE: u16 = 0x72;
 const ADDR_BASE: u16 = 0x73;
 const RNGLISTS_BASE: u16 = 0x74;
+const DWO_NAME: u16 = 0x76;
+const MIPS_LINKAGE_NAME: u16 = 0x2007;
+const GNU_DWO_NAME: u16 = 0x2130;
+const SKELETON: u8 = 4;
 const MOST_STEPS: usize = 16;
 
 /// The sections that are read.
@@ -31,17 +37,24 @@ const NAMES: [&str; 9] = [
     ".debug_str_offsets",
 ];
 
+const USAGE: &str = "usage: function_at ELF ADDRESS (functions that are inlined there are passed over)";
+
 /// What the library refuses, with what stands there and where.
+#[derive(Clone, Copy)]
 struct Refused(Error, &'static str, u64);
 
 type Result<T> = std::result::Result<T, Refused>;
 
-/// The sections of a file, as bytes that live as long as it.
+/// The sections of a file, as bytes that live as long as it. Beside them what is met on the way, and
+/// told where no function is found: the first skeleton unit that has the address, with the name of
+/// its other file, and the first list of ranges that is refused.
 struct File<'a> {
     dwarf: Sections<'a>,
     texts: &'a [u8],
     line_texts: &'a [u8],
     text_offsets: &'a [u8],
+    skeleton: Cell<Option<(u64, &'a [u8])>>,
+    refused: Cell<Option<Refused>>,
 }
 
 /// A unit, and the attributes of its root that others are read by.
@@ -60,7 +73,11 @@ fn find<'a>(attrs: &[Attribute<'a>], name: u16) -> Option<Attribute<'a>> {
 
 /// The number of an attribute that is an offset; 0 where it is not there.
 fn number_of(attrs: &[Attribute<'_>], name: u16) -> u64 {
-    find(attrs, name).and_then(|a| a.udata_value()).unwrap_or(0)
+    find(attrs, name).and_then(|a| a.number()).unwrap_or(0)
+}
+
+fn has_address(ranges: &[Range], address: u64) -> bool {
+    ranges.iter().any(|range| (range.begin..range.end).contains(&address))
 }
 
 fn attrs_of<'a>(entry: &Entry<'a, '_>) -> Attrs<'a> {
@@ -118,19 +135,33 @@ impl<'a> File<'a> {
         })
     }
 
-    /// The ranges of an entry.
-    fn ranges_of(&self, unit: &Unit, attrs: &[Attribute<'_>]) -> Result<Vec<Range>> {
+    /// The ranges of a list; none where one is refused.
+    fn listed(&self, unit: &Unit, list: &Attribute<'_>) -> Vec<Range> {
+        match self.dwarf.ranges(&unit.header, list, &unit.bases) {
+            Ok(ranges) => return ranges,
+            Err(Error::NoList) => {}
+            Err(error) => {
+                let refused = Refused(error, "the ranges of the unit at", unit.header.offset());
+                self.refused.set(self.refused.get().or(Some(refused)));
+            }
+        }
+        vec![]
+    }
+
+    /// The ranges of an entry, without those from 0 on, which the linker leaves of a function that
+    /// it discards.
+    fn ranges_of(&self, unit: &Unit, attrs: &[Attribute<'_>]) -> Vec<Range> {
         let low = find(attrs, LOW_PC).and_then(|low| self.address_of(unit, &low));
-        if let Some((begin, high)) = low.zip(find(attrs, HIGH_PC)) {
+        let mut ranges = if let Some((begin, high)) = low.zip(find(attrs, HIGH_PC)) {
             let end = self.end_of(unit, &high, begin);
-            return Ok(if begin < end { vec![Range { begin, end }] } else { vec![] });
-        }
-        let Some(list) = find(attrs, RANGES) else { return Ok(vec![]) };
-        match self.dwarf.ranges(&unit.header, &list, &unit.bases) {
-            Err(Error::NoList) => Ok(vec![]),
-            Err(error) => Err(Refused(error, "the ranges of the unit at", unit.header.offset())),
-            Ok(ranges) => Ok(ranges),
-        }
+            if begin < end { vec![Range { begin, end }] } else { vec![] }
+        } else if let Some(list) = find(attrs, RANGES) {
+            self.listed(unit, &list)
+        } else {
+            vec![]
+        };
+        ranges.retain(|range| range.begin != 0);
+        ranges
     }
 
     /// The attributes of the entry at an offset of a unit.
@@ -174,11 +205,12 @@ impl<'a> File<'a> {
         }
     }
 
-    /// The text of the first attribute of a name, of an entry or of the entries that it stands for.
-    fn print_text(&self, out: &mut Vec<u8>, word: &str, of: &Unit, attrs: &Attrs<'a>, name: u16) -> Result<()> {
+    /// The text of the first attribute of a name, or else of another, of an entry or of the entries
+    /// that it stands for.
+    fn print_text(&self, out: &mut Vec<u8>, word: &str, of: &Unit, attrs: &Attrs<'a>, names: [u16; 2]) -> Result<()> {
         let (mut unit, mut attrs) = (*of, attrs.clone());
         for _ in 0..MOST_STEPS {
-            if let Some(attr) = find(&attrs, name) {
+            if let Some(attr) = find(&attrs, names[0]).or(find(&attrs, names[1])) {
                 let text = self.text_of(&unit, &attr);
                 out.extend([word.as_bytes(), b" ", text, b"\n"].concat());
                 return Ok(());
@@ -194,19 +226,32 @@ impl<'a> File<'a> {
 
     /// Whether an entry is the function of an address; then it is printed.
     fn is_function(&self, out: &mut Vec<u8>, unit: &Unit, attrs: &Attrs<'a>, address: u64) -> Result<bool> {
-        let ranges = self.ranges_of(unit, attrs)?;
-        if !ranges.iter().any(|r| (r.begin..r.end).contains(&address)) {
+        let ranges = self.ranges_of(unit, attrs);
+        if !has_address(&ranges, address) {
             return Ok(false);
         }
         out.extend(format!("unit {:#x}\n", unit.header.offset()).bytes());
         let root = self.entry_at(&unit.header, unit.header.header_size())?;
-        self.print_text(out, "file", unit, &root, NAME)?;
-        self.print_text(out, "function", unit, attrs, NAME)?;
-        self.print_text(out, "linkage name", unit, attrs, LINKAGE_NAME)?;
+        self.print_text(out, "unit name", unit, &root, [NAME, NAME])?;
+        self.print_text(out, "function", unit, attrs, [NAME, NAME])?;
+        self.print_text(out, "linkage name", unit, attrs, [LINKAGE_NAME, MIPS_LINKAGE_NAME])?;
         for range in ranges {
             out.extend(format!("range {:#x} {:#x}\n", range.begin, range.end).bytes());
         }
         Ok(true)
+    }
+
+    /// Keeps in mind that the unit of a root has the address but is a skeleton, whose functions are
+    /// in another file.
+    fn meet_root(&self, unit: &Unit, root: &Attrs<'a>, address: u64) {
+        let name = find(root, DWO_NAME).or(find(root, GNU_DWO_NAME));
+        if self.skeleton.get().is_some() || (name.is_none() && unit.header.kind() != SKELETON) {
+            return;
+        }
+        if has_address(&self.ranges_of(unit, root), address) {
+            let text = name.map_or(&[][..], |name| self.text_of(unit, &name));
+            self.skeleton.set(Some((unit.header.offset(), text)));
+        }
     }
 
     /// Looks for the function of an address in a unit.
@@ -216,6 +261,9 @@ impl<'a> File<'a> {
             match entries.next_entry() {
                 Ok(None) => return Ok(false),
                 Ok(Some(entry)) => {
+                    if entry.offset() == unit.header.header_size() {
+                        self.meet_root(unit, &attrs_of(&entry), address);
+                    }
                     if entry.tag() == SUBPROGRAM && self.is_function(out, unit, &attrs_of(&entry), address)? {
                         return Ok(true);
                     }
@@ -226,6 +274,19 @@ impl<'a> File<'a> {
                 }
             }
         }
+    }
+
+    /// Tells why no function was found.
+    fn none(&self, out: &mut Vec<u8>, address: u64) -> Result<()> {
+        if let Some((unit, name)) = self.skeleton.get() {
+            let skeleton = format!("skeleton unit {unit:#x}: its functions are in ");
+            out.extend([skeleton.as_bytes(), name, b"\n"].concat());
+        } else if let Some(refused) = self.refused.get() {
+            return Err(refused);
+        } else {
+            out.extend(format!("no function at {address:#x}\n").bytes());
+        }
+        Ok(())
     }
 
     /// Prints the function of an address; false where there is none.
@@ -247,8 +308,8 @@ impl<'a> File<'a> {
     }
 }
 
-/// Prints the answer, whose exit status is 0 where there is a function and else 1; none where the
-/// file is no linked ELF file.
+/// Prints the answer, whose exit status is 0 where there is a function, 1 where there is none and 2
+/// where something is refused; none where the file is no linked ELF file.
 fn answer(bytes: &[u8], address: u64) -> Option<u8> {
     let elf = object::File::parse(bytes).ok()?;
     if !matches!(elf.kind(), ObjectKind::Executable | ObjectKind::Dynamic) {
@@ -281,27 +342,27 @@ fn answer(bytes: &[u8], address: u64) -> Option<u8> {
         ..Sections::default()
     };
     let mut out = vec![];
-    let file = File { dwarf, texts, line_texts, text_offsets };
-    let found = file.print_function(&mut out, address);
-    match found {
-        Ok(true) => {}
-        Ok(false) => out.extend(format!("no function at {address:#x}\n").bytes()),
-        Err(Refused(error, what, offset)) => {
-            out.extend(format!("error {}: {what} {offset:#x}\n", error.number()).bytes());
-        }
-    }
+    let file = File { dwarf, texts, line_texts, text_offsets, skeleton: Cell::new(None), refused: Cell::new(None) };
+    let status = match file.print_function(&mut out, address) {
+        Ok(true) => Ok(0),
+        Ok(false) => file.none(&mut out, address).map(|()| 1),
+        Err(refused) => Err(refused),
+    };
     std::io::stdout().write_all(&out).ok()?;
-    Some(u8::from(!matches!(found, Ok(true))))
+    Some(status.unwrap_or_else(|Refused(error, what, offset)| {
+        eprintln!("error {}: {what} {offset:#x}", error.number());
+        2
+    }))
 }
 
 fn main() -> ExitCode {
     let words: Vec<String> = std::env::args().skip(1).collect();
     let [file, address] = &words[..] else {
-        eprintln!("usage: function_at ELF ADDRESS");
+        eprintln!("{USAGE}");
         return ExitCode::from(2);
     };
     let Ok(address) = u64::from_str_radix(address.trim_start_matches("0x"), 16) else {
-        eprintln!("usage: function_at ELF ADDRESS");
+        eprintln!("{USAGE}");
         return ExitCode::from(2);
     };
     match std::fs::read(file).ok().and_then(|bytes| answer(&bytes, address)) {
