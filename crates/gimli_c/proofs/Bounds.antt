@@ -100,6 +100,8 @@ module _ (limit : ℕ) (u : UnitView) (t : Table) (place : GimliPlace) (old : Li
       rw (test, is, stop) (record {
         rows = refl;
         behind = refl;
+        fits = omega arith;
+        none = λ _. refl;
         whole =
             λ _. (omega arith, rw (le-ltb (length old) 0 (omega arith)) refl);
       })
@@ -161,6 +163,8 @@ module _ (limit : ℕ) (u : UnitView) (place : GimliPlace) (old : List GimliRow)
     rows = refl;
     behind = first_at limit u.encoding declared (whole_length u) place.depth
         (cut (place.offset - header_size u) u.entries) place here refl;
+    fits = omega arith;
+    none = λ _. refl;
     whole = λ h. absurd (h refl);
   }
 

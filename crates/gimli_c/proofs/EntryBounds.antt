@@ -50,6 +50,9 @@ module _ (limit : ℕ) (u : UnitView) (t : Table) (place : GimliPlace) (old : Li
         attributes = refl;
         used_is = refl;
         behind = refl;
+        fits = omega arith;
+        none = λ _. refl;
+        short = λ h. absurd (omega (arith, h));
         whole = λ _ _. (
           sym (fit-nil (length old) (length attrs)),
           none_wanted (length old) 0,
@@ -126,6 +129,9 @@ module _ (limit : ℕ) (u : UnitView) (place : GimliPlace) (old : List GimliEntr
     used_is = refl;
     behind = first_at limit u.encoding declared (whole_length u) place.depth
         (cut (place.offset - header_size u) u.entries) place here refl;
+    fits = omega arith;
+    none = λ _. refl;
+    short = λ h. absurd (omega (arith, h));
     whole = λ h _. absurd (h refl);
   }
 

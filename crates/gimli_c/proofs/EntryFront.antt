@@ -221,12 +221,14 @@ entries_if : (taken : List Row) (left : Ahead) (old new : List GimliEntry)
     → new ≡ number_rows 0 taken ++ drop n old → attrs ≡ map attr_of (all_attributes taken)
     ++ drop used old_attrs
     → place ≡ first_place left.rows left.stop left.stop_depth
+    → (status ≡ memory_refused → ⊥)
+    → (status ≡ row_memory_refused → (n < length old) × (wanted ≡ 0))
     → ((status ≡ memory_refused → ⊥) → (status ≡ row_memory_refused → ⊥)
     → Said old old_attrs left n used wanted status)
     → FilledEntries (before_rows taken left) old old_attrs place new attrs (wrote n used wanted)
     status
 entries_if taken left old new old_attrs attrs place n used wanted status count room used_is space
-    rows attributes behind whole =
+    rows attributes behind never short whole =
     let front : take n (taken ++ left.rows) ≡ taken =
     rw (← count) (take-append_seam taken left.rows) in
     let others : drop n (taken ++ left.rows) ≡ left.rows =
@@ -243,6 +245,9 @@ entries_if taken left old new old_attrs attrs place n used wanted status count r
           (sym front);
       used_is = sym used_is ∙ ap (λ (t : List Row). length (all_attributes t)) (sym front);
       behind = behind ∙ ap (λ (t : List Row). first_place t left.stop left.stop_depth) (sym others);
+      fits = omega (arith, room, all);
+      none = λ h. absurd (never h);
+      short = short;
       whole = λ h k. let w = whole h k in (omega (arith, fits, w.0), rw others w.1, rw all w.2);
     }
 
@@ -250,14 +255,16 @@ module _ (limit : ℕ) (base : ℤ) (start now : RawPlace) (old new : List Gimli
     (old_attrs attrs : List GimliAttr) (place : GimliPlace) (n used : ℕ)
     (f : EntryFront limit base start now old new old_attrs attrs n used) (offset : place.offset
     ≡ next_offset_of now) (depth : place.depth ≡ base +ℤ now.depth) where
-  told : (wanted status : ℕ) → ((status ≡ memory_refused → ⊥) → (status ≡ row_memory_refused → ⊥)
+  told : (wanted status : ℕ) → (status ≡ memory_refused → ⊥)
+      → (status ≡ row_memory_refused → (n < length old) × (wanted ≡ 0))
+      → ((status ≡ memory_refused → ⊥) → (status ≡ row_memory_refused → ⊥)
       → Said old old_attrs (ahead_of limit base now) n used wanted status)
       → FilledEntries (ahead_of limit base start) old old_attrs place new attrs
       (wrote n used wanted) status
-  told wanted status whole =
+  told wanted status never short whole =
       rw f.ahead (entries_if f.taken (ahead_of limit base now) old new old_attrs attrs place n used
       wanted status f.count f.room f.used_is f.space f.rows f.attributes
-      (first_ahead limit base now place offset depth) whole)
+      (first_ahead limit base now place offset depth) never short whole)
 
   -- no row is left
   pub entries_ended : length now.rest.bytes ≡ 0 → FilledEntries (ahead_of limit base start) old
@@ -266,7 +273,7 @@ module _ (limit : ℕ) (base : ℤ) (start now : RawPlace) (old new : List Gimli
       let is : ahead_of limit base now ≡ no_row None (next_offset_of now) (base +ℤ now.depth) =
       ahead_ended (entry_at limit now.encoding (codes_of now.abbreviations)) now.end
       (base +ℤ now.depth) now.rest none in
-      told 0 end (λ _ _. rw is (
+      told 0 end (λ h. omega (arith, h)) (λ h. absurd (omega (arith, h))) (λ _ _. rw is (
         fit-nil (length old - n) (length old_attrs - used),
         none_wanted (length old) n,
         rw add-zero (at_end (length old) n),
@@ -279,7 +286,7 @@ module _ (limit : ℕ) (base : ℤ) (start now : RawPlace) (old new : List Gimli
   entries_full some full =
       let left = ahead_of limit base now in
       let none : length old - n ≡ 0 = omega (arith, full) in
-      told 0 more (λ _ _. (
+      told 0 more (λ h. omega (arith, h)) (λ h. absurd (omega (arith, h))) (λ _ _. (
         rw none refl,
         rw (le-ltb n (length old) full) refl,
         at_more (length old) n (n + length left.rows) left.refusal full (λ is. let k =
@@ -293,7 +300,7 @@ module _ (limit : ℕ) (base : ℤ) (start now : RawPlace) (old new : List Gimli
       → FilledEntries (ahead_of limit base start) old old_attrs place new attrs (wrote n used 0)
       (row_refused e)
   entries_refused e some room read =
-      told 0 (row_refused e) (λ _ other. whole
+      told 0 (row_refused e) (λ h. omega (arith, h)) (λ _. (room, refl)) (λ _ other. whole
       (ahead_refused (entry_at limit now.encoding (codes_of now.abbreviations)) now.end
       (base +ℤ now.depth) now.rest e some (read other)))
     where
@@ -320,7 +327,8 @@ module _ (limit : ℕ) (base : ℤ) (start now : RawPlace) (old new : List Gimli
             base +ℤ now.depth;
         entry = e;
       } in
-      told (length e.attributes) more (λ _ _. rw (step limit base now e w some read) (
+      told (length e.attributes) more (λ h. omega (arith, h)) (λ h. absurd (omega (arith, h)))
+      (λ _ _. rw (step limit base now e w some read) (
         fit-large (length old - n) (length old_attrs - used) r behind.rows large,
         rw (lt-ltb n (length old) room) refl,
         at_some (length old) n (n + suc (length behind.rows)) behind.refusal (omega arith),

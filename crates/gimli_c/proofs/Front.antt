@@ -179,10 +179,11 @@ filled_if : (taken : List Row) (left : Ahead) (old new : List GimliRow) (place :
     (n status : ℕ)
     → length taken ≡ n → new ≡ map told_row taken ++ drop n old → place
     ≡ first_place left.rows left.stop left.stop_depth
+    → n ≤ length old → (status ≡ memory_refused → n ≡ 0)
     → ((status ≡ memory_refused → ⊥) → (n ≡ min (length old) (n + length left.rows))
     × (status ≡ status_at (length old) (n + length left.rows) left.refusal))
     → Filled (before_rows taken left) old place new n status
-filled_if taken left old new place n status count rows behind whole =
+filled_if taken left old new place n status count rows behind room none whole =
     let front : take n (taken ++ left.rows) ≡ taken =
     rw (← count) (take-append_seam taken left.rows) in
     let others : drop n (taken ++ left.rows) ≡ left.rows =
@@ -191,6 +192,8 @@ filled_if taken left old new place n status count rows behind whole =
     record {
       rows = rows ∙ ap (λ (t : List Row). map told_row t ++ drop n old) (sym front);
       behind = behind ∙ ap (λ (t : List Row). first_place t left.stop left.stop_depth) (sym others);
+      fits = omega (arith, room, all);
+      none = none;
       whole = rw all whole;
     }
 
@@ -208,7 +211,7 @@ module _ (limit : ℕ) (base : ℤ) (start now : RawPlace) (old new : List Gimli
       let rows : length left.rows ≡ 0 = ap (λ (a : Ahead). length a.rows) is in
       let refusal : left.refusal ≡ None = ap (λ (a : Ahead). a.refusal) is in
       rw f.ahead (filled_if f.taken left old new place n end f.count f.rows
-      (first_ahead limit base now place offset depth)
+      (first_ahead limit base now place offset depth) f.room (λ h. omega (arith, h))
       (λ _. (
         omega (arith, rows, f.room),
         rw (refusal) (at_end (length old) (n + length left.rows) (omega (arith, rows, f.room))),
@@ -222,7 +225,7 @@ module _ (limit : ℕ) (base : ℤ) (start now : RawPlace) (old new : List Gimli
   filled_full f some full offset depth =
       let left = ahead_of limit base now in
       rw f.ahead (filled_if f.taken left old new place n more f.count f.rows
-      (first_ahead limit base now place offset depth)
+      (first_ahead limit base now place offset depth) f.room (λ h. omega (arith, h))
       (λ _. (
         omega (arith, f.room, full),
         at_more (length old) (n + length left.rows) left.refusal (omega (arith, full))
@@ -238,7 +241,7 @@ module _ (limit : ℕ) (base : ℤ) (start now : RawPlace) (old new : List Gimli
   filled_refused e f some room read offset depth =
       let left = ahead_of limit base now in
       rw f.ahead (filled_if f.taken left old new place n (row_refused e) f.count f.rows
-      (first_ahead limit base now place offset depth)
+      (first_ahead limit base now place offset depth) f.room (λ h. omega (arith, h))
       (λ _. whole (ahead_refused (entry_at limit now.encoding (codes_of now.abbreviations))
       now.end (base +ℤ now.depth) now.rest e some read)))
     where

@@ -38,42 +38,49 @@ module _ (limit : ℕ) (e : Encoding) (ss : List Specification) (i : ℕ) (all v
       let next = drop_more ss i s lt ∙ ap (λ x. x ∷ drop (i + 1) ss) (sym is) in
       so_far ∙ ap (λ ss. after ns (numbers_at limit e ss v)) next
 
-  pub numbers_refused : (s : Specification) (x : Error) → i < length ss → s ≡ get_or ss i s
-      → Err x ≡ map_read attr_of (attribute_at limit e s v) → Err x ≡ numbers_at limit e ss all
-  unfolding attributes_at
-  numbers_refused s x lt is h = cases (attribute_at limit e s v) refl h
-    where
-      cases : (r : Reads Attr) → attribute_at limit e s v ≡ r → Err x ≡ map_read attr_of r
-          → Err x ≡ numbers_at limit e ss all
-      cases (Ok p) read given = absurd (cc)
-      cases (Err y) read given =
-          let same : x ≡ y = cc in rw same (sym (others s lt is ∙ rw read refl))
+  -- their numbers were put onto those before them, beside what does not depend on them
+  module _ {B : Type 0} (b : B) (s : Specification) (lt : i < length ss) (is : s ≡ get_or ss i s) where
+    abbrev onto : Reads Attr → Reads (List GimliAttr × B)
+    onto r = map_read {B = List GimliAttr × B} (λ a. (ns ++ attr_of a ∷ [], b)) r
 
-  pub numbers_more : (s : Specification) (n : GimliAttr) (w : View) → i < length ss
-      → s ≡ get_or ss i s → Ok (n, w) ≡ map_read attr_of (attribute_at limit e s v)
-      → numbers_at limit e ss all
-      ≡ after (ns ++ n ∷ []) (numbers_at limit e (drop (i + 1) ss) w)
-  unfolding attributes_at
-  numbers_more s n w lt is h = cases (attribute_at limit e s v) refl h
-    where
-      first : (a : Attr) (r : Reads (List Attr))
-          → after ns (map_read (map attr_of) (map_read (λ xs. a ∷ xs) r))
-          ≡ after (ns ++ attr_of a ∷ []) (map_read (map attr_of) r)
-      first a (Ok p) = ap (λ (ys : List GimliAttr). Ok (ys, p.1))
-          (sym (append_assoc ns (attr_of a ∷ []) (map attr_of p.0)))
-      first a (Err y) = refl
+    first : (a : Attr) (r : Reads (List Attr))
+        → after ns (map_read (map attr_of) (map_read (λ xs. a ∷ xs) r))
+        ≡ after (ns ++ attr_of a ∷ []) (map_read (map attr_of) r)
+    first a (Ok p) = ap (λ (ys : List GimliAttr). Ok (ys, p.1))
+        (sym (append_assoc ns (attr_of a ∷ []) (map attr_of p.0)))
+    first a (Err y) = refl
 
-      cases : (r : Reads Attr) → attribute_at limit e s v ≡ r
-          → Ok (n, w) ≡ map_read attr_of r
-          → numbers_at limit e ss all
-          ≡ after (ns ++ n ∷ []) (numbers_at limit e (drop (i + 1) ss) w)
-      cases (Ok p) read given =
-          let both : ◌≡◌ {A = GimliAttr × View} (n, w) (attr_of p.0, p.1) = cc in
-          let number : n ≡ attr_of p.0 = ap (λ (q : GimliAttr × View). q.0) both in
-          let left : w ≡ p.1 = ap (λ (q : GimliAttr × View). q.1) both in
-          rw (number, left)
-          (others s lt is ∙ rw read (first p.0 (attributes_at limit e (drop (i + 1) ss) p.1)))
-      cases (Err y) read given = absurd (cc)
+    pub numbers_onto : (ms : List GimliAttr) (c : B) (w : View)
+        → Ok ((ms, c), w) ≡ onto (attribute_at limit e s v)
+        → (numbers_at limit e ss all ≡ after ms (numbers_at limit e (drop (i + 1) ss) w)) × (c ≡ b)
+    unfolding attributes_at
+    numbers_onto ms c w h = cases (attribute_at limit e s v) refl h
+      where
+        cases : (r : Reads Attr) → attribute_at limit e s v ≡ r → Ok ((ms, c), w) ≡ onto r
+            → (numbers_at limit e ss all
+            ≡ after ms (numbers_at limit e (drop (i + 1) ss) w)) × (c ≡ b)
+        cases (Ok p) read given =
+            let both : ◌≡◌ {A = (List GimliAttr × B) × View} ((ms, c), w)
+            ((ns ++ attr_of p.0 ∷ [], b), p.1) = cc in
+            let items : ms ≡ ns ++ attr_of p.0 ∷ []
+            = ap (λ (q : (List GimliAttr × B) × View). q.0.0) both in
+            let left : w ≡ p.1 = ap (λ (q : (List GimliAttr × B) × View). q.1) both in (
+              rw (items, left)
+                  (others s lt is ∙ rw read (first p.0 (attributes_at limit e (drop (i + 1) ss) p.1))),
+              ap (λ (q : (List GimliAttr × B) × View). q.0.1) both,
+            )
+        cases (Err y) read given = absurd (cc)
+
+    pub numbers_not : (x : Error) → Err x ≡ onto (attribute_at limit e s v)
+        → Err x ≡ numbers_at limit e ss all
+    unfolding attributes_at
+    numbers_not x h = cases (attribute_at limit e s v) refl h
+      where
+        cases : (r : Reads Attr) → attribute_at limit e s v ≡ r → Err x ≡ onto r
+            → Err x ≡ numbers_at limit e ss all
+        cases (Ok p) read given = absurd (cc)
+        cases (Err y) read given =
+            let same : x ≡ y = cc in rw same (sym (others s lt is ∙ rw read refl))
 
   pub numbers_end : length ss ≤ i → Ok (ns, v) ≡ numbers_at limit e ss all
   unfolding attributes_at

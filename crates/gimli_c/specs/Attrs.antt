@@ -34,18 +34,18 @@ use Rattle.gimli_units.specs.declared.value.AttributeValue.TheVariants.{CallingC
 use Rattle.gimli_units.specs.declared.value.AttributeValue.TheVariants.{Ordering, FileIndex, DwoId}
 use Rattle.gimli_units.specs.declared.value.AttributeValue.TheVariants.{DebugAddrIndexOffset}
 use Rattle.gimli_c.specs.declared.attrs.GimliAttr.{GimliAttr}
-use Rattle.gimli_c.specs.declared.attrs.Numbers.{Numbers}
+use Rattle.gimli_c.specs.declared.attrs.ValueNumbers.{ValueNumbers}
 
 -- a kind, a number and another
-abbrev pub numbers : ℕ → ℕ → ℕ → Numbers
+abbrev pub numbers : ℕ → ℕ → ℕ → ValueNumbers
 numbers kind number more = record { kind = kind; number = number; more = more }
 
 -- where bytes lie in their section, and how many they are
-abbrev pub place_numbers : ℕ → View → Numbers
+abbrev pub place_numbers : ℕ → View → ValueNumbers
 place_numbers kind v = numbers kind v.place (length v.bytes)
 
 -- a value: its kind, and a number or where its bytes lie
-abbrev pub values_of : Value → Numbers
+abbrev pub values_of : Value → ValueNumbers
 values_of (Addr x) = numbers 1 x 0
 values_of (Block v) = place_numbers 2 v
 values_of (Data1 x) = numbers 3 x 0

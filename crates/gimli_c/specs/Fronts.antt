@@ -1,5 +1,5 @@
 -- The rows that a call writes, of those ahead of a place (DWARF 5, 2.3).
-use Rattle.std.specs.Prelude.{◌≡◌, ℕ, ◌+◌, ◌-◌, ◌^◌, ◌==◌, nat_lt, min, ℤ, ◌+ℤ◌, unsigned_abs, cond}
+use Rattle.std.specs.Prelude.{◌≡◌, ℕ, ◌+◌, ◌-◌, ◌≤◌, ◌^◌, ◌==◌, nat_lt, min, ℤ, ◌+ℤ◌, unsigned_abs, cond}
 use Rattle.std.specs.Prelude.{if◌then◌else◌, List, [], ◌∷◌, ◌++◌, map, take, drop, length, Option}
 use Rattle.std.specs.Prelude.{Some, None, Result, Ok, Err}
 use Rattle.gimli_base.specs.declared.common.SectionId.{SectionId}
@@ -86,11 +86,14 @@ status_at room count None = if nat_lt room count then more else end
 status_at room count (Some e) = if nat_lt count room then row_refused e else more
 
 -- Rows from the front of those ahead are written, the rest stays as it was, and the place is after
--- them. They are all, or as many as there is room for, unless memory was refused for the table.
+-- them. They are all, or as many as there is room for; where memory was refused for the table there
+-- is none.
 pub record Filled (ahead : Ahead) (old : List GimliRow) (place : GimliPlace) (new : List GimliRow)
     (count status : ℕ) : Type 0 where
   pub rows : new ≡ map told_row (take count ahead.rows) ++ drop count old
   pub behind : place ≡ first_place (drop count ahead.rows) ahead.stop ahead.stop_depth
+  pub fits : count ≤ min (length old) (length ahead.rows)
+  pub none : status ≡ memory_refused → count ≡ 0
   pub whole : (status ≡ memory_refused → ⊥)
       → (count ≡ min (length old) (length ahead.rows))
       × (status ≡ status_at (length old) (length ahead.rows) ahead.refusal)

@@ -1,12 +1,15 @@
 //! Attributes, as numbers.
 
-ghost use Rattle.std.specs.Prelude.{◌≡◌, ◌+◌, ◌≤◌, ◌++◌, ◌%◌, ◌/◌, ◌^◌, take, drop, length};
+ghost use Rattle.std.specs.Prelude.{◌≡◌, ◌+◌, ◌<◌, ◌≤◌, ◌++◌, ◌∷◌, [], ◌%◌, ◌/◌, ◌^◌, ℕ, List};
+ghost use Rattle.std.specs.Prelude.{take, drop, length};
+ghost use Rattle.std.specs.Vec.{vec_len, vec_capacity};
 ghost use Rattle.gimli_units.specs.Value.{map_value};
 ghost use Rattle.gimli_units.specs.Entry.{with_value};
 ghost use Rattle.gimli_c.specs.Attrs.{numbers, place_numbers, values_of, attr_of};
 
 use gimli_base::{AttributeSpecification, Reader, ReaderOffset};
 use gimli_units::{AttributeValue, TakeAttribute};
+use std::alloc::Allocator;
 
 /// An attribute of an entry.
 #[repr(C)]
@@ -28,7 +31,7 @@ pub struct GimliAttr {
 
 // A value.
 #[derive(Clone, Copy)]
-struct Numbers {
+struct ValueNumbers {
     kind: u32,
     number: u64,
     more: u64,
@@ -36,7 +39,7 @@ struct Numbers {
 
 // A number.
 #[inline(always)]
-fn one_number(kind: u32, number: u64) -> Numbers
+fn one_number(kind: u32, number: u64) -> ValueNumbers
     ensures { result ≡ numbers kind number 0 }
 {
     two_numbers(kind, number, 0)
@@ -44,15 +47,15 @@ fn one_number(kind: u32, number: u64) -> Numbers
 
 // Two numbers.
 #[inline(always)]
-fn two_numbers(kind: u32, number: u64, more: u64) -> Numbers
+fn two_numbers(kind: u32, number: u64, more: u64) -> ValueNumbers
     ensures { result ≡ numbers kind number more }
 {
-    Numbers { kind, number, more }
+    ValueNumbers { kind, number, more }
 }
 
 // A number of 16 bytes.
 #[inline(always)]
-fn wide_numbers(kind: u32, number: u128) -> Numbers
+fn wide_numbers(kind: u32, number: u128) -> ValueNumbers
     ensures { result ≡ numbers kind (number % 2 ^ 64) (number / 2 ^ 64) }
 {
     two_numbers(
@@ -64,7 +67,7 @@ fn wide_numbers(kind: u32, number: u128) -> Numbers
 
 // Bytes of the section.
 #[inline(always)]
-fn place_numbers<R: Reader>(kind: u32, bytes: &R) -> Numbers
+fn place_numbers<R: Reader>(kind: u32, bytes: &R) -> ValueNumbers
     ensures { result ≡ place_numbers kind (R.view bytes.now) }
 {
     two_numbers(kind, bytes.offset_id().0, bytes.len().into_u64())
@@ -72,7 +75,7 @@ fn place_numbers<R: Reader>(kind: u32, bytes: &R) -> Numbers
 
 // A value's numbers.
 #[inline]
-fn values_of<R: Reader>(value: &AttributeValue<R>) -> Numbers
+fn values_of<R: Reader>(value: &AttributeValue<R>) -> ValueNumbers
     ensures { result ≡ values_of (map_value R.view R.Offset.number value.now) }
 {
     match value {
@@ -129,40 +132,46 @@ fn values_of<R: Reader>(value: &AttributeValue<R>) -> Numbers
     }
 }
 
-/// A taker that answers an attribute's numbers.
+/// A list that takes attributes onto its end, as numbers.
 #[derive(Drop)]
-pub(crate) struct Numbered;
+pub(crate) struct Numbers<A: Allocator>(pub(crate) Vec<GimliAttr, A>);
 
-impl<R: Reader> TakeAttribute<R> for Numbered {
+// A list that has room: it stands for what it holds, and for how many they are and may be.
+impl<R: Reader, A: Allocator> TakeAttribute<R> for Numbers<A> {
     ghost use Rattle.gimli_c.specs.declared.attrs.GimliAttr.{GimliAttr};
 
-    type Answer = GimliAttr;
+    type Answer = ();
 
-    ghost Stand = { GimliAttr };
+    ghost Stand = { List GimliAttr × (ℕ × ℕ) };
 
-    ghost stand = { λ _ a. a };
+    ghost stand = { λ l _. (l.0.items, (vec_len l.0, vec_capacity l.0)) };
 
-    ghost taken = { λ _ a. attr_of a };
+    ghost taken = { λ l a. (
+      l.0.items ++ attr_of a ∷ [],
+      (vec_len l.0 + 1, vec_capacity l.0),
+    ) };
 
-    ghost has_room = { λ _. Unit {0} };
+    ghost has_room = { λ l. vec_len l.0 < vec_capacity l.0 };
 
     #[inline(always)]
-    fn take(
-        &mut self,
-        specification: &AttributeSpecification,
-        value: AttributeValue<R>,
-    ) -> GimliAttr
-        ensures { result
-            ≡ attr_of (with_value specification.now (map_value R.view R.Offset.number value)) }
+    fn take(&mut self, specification: &AttributeSpecification, value: AttributeValue<R>)
+        requires { vec_len self.old.0 < vec_capacity self.old.0 }
+        ensures { ◌≡◌ {A = List GimliAttr × (ℕ × ℕ)}
+            (self.new.0.items, (vec_len self.new.0, vec_capacity self.new.0)) (
+              self.old.0.items
+                  ++ attr_of (with_value specification.now
+                  (map_value R.view R.Offset.number value)) ∷ [],
+              (vec_len self.old.0 + 1, vec_capacity self.old.0),
+            ) }
     {
         let values = values_of(&value);
-        GimliAttr {
+        self.0.push_reserved(GimliAttr {
             number: values.number,
             more: values.more,
             name: specification.name().0,
             form: specification.form().0,
             kind: values.kind,
-        }
+        });
     }
 }
 

@@ -7,7 +7,7 @@ ghost use Rattle.gimli_c.specs.Units.{section_id};
 ghost use Rattle.gimli_c.specs.Fronts.{at, ahead_of, unit_ahead, rows_ahead, Resumes};
 ghost use Rattle.gimli_c.specs.Entries.{wrote, FilledEntries, AreTold};
 
-use crate::attrs::{GimliAttr, write_attrs};
+use crate::attrs::{GimliAttr, Numbers, write_attrs};
 use crate::reading::read_numbers;
 use crate::rows::{GimliPlace, place_of};
 use crate::sections::{UnitSections, header_in};
@@ -145,7 +145,7 @@ fn fill_entries<R: Reader, A: Allocator>(
         FilledEntries ahead rows.old attrs.old result.place rows.new attrs.new
         result.filled result.status }
 {
-    let mut numbers = Vec::new(alloc);
+    let mut numbers = Numbers(Vec::new(alloc));
     let mut count = 0;
     let mut used = 0;
     'rows: while count < rows.len() && !entries.is_empty() {
@@ -154,7 +154,7 @@ fn fill_entries<R: Reader, A: Allocator>(
             Ok(head) => head,
             Err(error) => return told_entries(row_refused(error), wrote(count, used, 0), place),
         };
-        let numbers_read = numbers.as_slice();
+        let numbers_read = numbers.0.as_slice();
         let attributes = numbers_read.len();
         if attributes > attrs.len() - used {
             return told_entries(MORE, wrote(count, used, attributes), place);

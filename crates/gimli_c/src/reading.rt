@@ -8,7 +8,7 @@ ghost use Rattle.gimli_base.specs.declared.error.Error.TheVariants.{OutOfMemory}
 ghost use Rattle.gimli_c.specs.Attrs.{attr_of};
 ghost use Rattle.gimli_c.specs.Heads.{null_head, declared_head, IsReadPast, IsReadWith};
 
-use crate::attrs::{GimliAttr, Numbered};
+use crate::attrs::Numbers;
 use gimli_base::{Abbreviation, AttributeSpecification, Reader, Result};
 use gimli_units::EntriesRaw;
 use std::alloc::Allocator;
@@ -66,16 +66,16 @@ pub(crate) fn pass_entry<R: Reader, A: Allocator>(
 #[inline(always)]
 pub(crate) fn read_numbers<R: Reader, A: Allocator>(
     entries: &mut EntriesRaw<'_, R, A>,
-    numbers: &mut Vec<GimliAttr, A>,
+    numbers: &mut Numbers<A>,
 ) -> Result<Head>
     ensures past { IfOk result
-        (λ head. IsReadWith R.Offset.limit entries.old head numbers.new.items entries.new) }
+        (λ head. IsReadWith R.Offset.limit entries.old head numbers.new.0.items entries.new) }
     ensures refused { IfErr result (λ e. (e ≡ OutOfMemory → ⊥) → Err e
         ≡ entry_at R.Offset.limit entries.old.encoding (codes_of entries.old.abbreviations)
         entries.old.rest) }
     ensures kept { OnErr result (entries.new ≡ entries.old) }
 {
-    numbers.clear();
+    numbers.0.clear();
     let mut rest = entries.copy();
     let Some(declared) = rest.read_abbreviation()? else {
         *entries = rest;
@@ -92,19 +92,18 @@ pub(crate) fn read_numbers<R: Reader, A: Allocator>(
 fn push_numbers<R: Reader, A: Allocator>(
     entries: &mut EntriesRaw<'_, R, A>,
     specifications: &[AttributeSpecification],
-    numbers: &mut Vec<GimliAttr, A>,
+    numbers: &mut Numbers<A>,
 ) -> Result<()>
-    requires { numbers.old.items ≡ [] }
+    requires { numbers.old.0.items ≡ [] }
     ensures value { UnlessMemory result
-        (read_of (answer_leaving numbers.new.items result) entries.new.rest
+        (read_of (answer_leaving numbers.new.0.items result) entries.new.rest
         ≡ map_read (map attr_of)
         (attributes_at R.Offset.limit entries.old.encoding specifications.now entries.old.rest)) }
     ensures same { entries.new ≡ record entries.old { rest = entries.new.rest } }
 {
-    numbers.reserve(specifications.len())?;
+    numbers.0.reserve(specifications.len())?;
     for specification in specifications {
-        let attribute = entries.read_attribute_to(specification, &mut Numbered)?;
-        numbers.push_reserved(attribute);
+        entries.read_attribute_to(specification, numbers)?;
     }
     Ok(())
 }

@@ -10,9 +10,9 @@ invariant-loop-specification g l =
     let e = l.initial.entries.encoding in
     record {
       read : numbers_at limit e l.specifications l.initial.entries.rest
-          ≡ after l.numbers.items
+          ≡ after l.numbers.0.items
           (numbers_at limit e (drop l.specification-index l.specifications) l.entries.rest);
       same : l.entries ≡ record l.initial.entries { rest = l.entries.rest };
-      room : vec_len l.numbers + (length l.specifications - l.specification-index)
-          ≤ vec_capacity l.numbers;
+      room : vec_len l.numbers.0 + (length l.specifications - l.specification-index)
+          ≤ vec_capacity l.numbers.0;
     }

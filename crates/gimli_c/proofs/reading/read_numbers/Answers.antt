@@ -35,7 +35,7 @@ returns-clause-past g c =
     let e = rw (c.copy-rest.ensures, c.in-Some.is) at c.in_ok-declared.ensures in
     let encoding = ap (λ (p : RawPlace). p.encoding) e.same in
     let moved = e.same ∙ ap (λ (d : ℤ). record p { rest = middle; depth = d }) e.depth in
-    let n = numbers_of _ _ _ _ q.rest c.push_numbers.new.numbers.items
+    let n = numbers_of _ _ _ _ q.rest c.push_numbers.new.numbers.0.items
     (rw (encoding, c.attributes.ensures) at c.in_ok-push_numbers.ensures.value) in
     rw c.declared_head.ensures.value (entry_with _ p q c.in-Some.declared.now middle e.value n.0
     c.declared_head.ensures.set
