@@ -4,25 +4,33 @@ ghost use Rattle.std.specs.Prelude.{◌≡◌};
 
 use gimli_base::{
     Abbreviations, DebugAbbrev, DebugAbbrevOffset, Encoding, EndianSlice, Endianity, Error, Format,
-    LittleEndian, Reader, ReaderOffset, ReaderOffsetId, Result, SectionId, WholeSlice,
+    LittleEndian, Reader, ReaderOffset, ReaderOffsetId, SectionId, WholeSlice,
 };
-use gimli_units::{UnitHeader, UnitSectionOffset, UnitType};
+use gimli_units::{DebuggingInformationEntry, EntriesRaw, UnitHeader, UnitSectionOffset, UnitType};
 use std::alloc::Global;
 use std::fmt::Debug;
 use std::hash::{DefaultHasher, Hash, Hasher};
 use std::process::Abort;
+use std::test::Fail;
 
 /// Code 1: the tag 0x2e, children, and the attribute 0x03 of form string.
 pub(crate) const TABLE_NESTED_STRINGS: [u8; 8] = [0x01, 0x2e, 0x01, 0x03, 0x08, 0x00, 0x00, 0x00];
 
 /// A unit of three nested strings, each the child of the one before, and the three nulls that close their lists.
-pub(crate) const THREE_NESTED: [u8; 29] = [
-    0x19, 0x00, 0x00, 0x00, 0x04, 0x00, 0x00, 0x00, 0x00, 0x00, 0x04, 0x01, 0x66, 0x6f, 0x6f, 0x00,
-    0x01, 0x66, 0x6f, 0x6f, 0x00, 0x01, 0x66, 0x6f, 0x6f, 0x00, 0x00, 0x00, 0x00,
-];
+pub(crate) const THREE_NESTED: &[u8; 29] =
+    b"\x19\0\0\0\x04\0\0\0\0\0\x04\x01foo\0\x01foo\0\x01foo\0\0\0\0";
 
 /// A reader of the kind that most tests take.
 pub(crate) type Part<'a> = EndianSlice<'a, LittleEndian>;
+
+/// A reader of entries one after the other.
+pub(crate) type Raw<'a, R> = EntriesRaw<'a, R, Global>;
+
+/// An entry.
+pub(crate) type Entry<R> = DebuggingInformationEntry<R, Global>;
+
+/// A table of declarations.
+pub(crate) type Table = Abbreviations<Global>;
 
 /// A reader that keeps what is left of these bytes, from the place 100 on.
 pub(crate) fn part<E: Endianity>(bytes: &[u8], endian: E) -> EndianSlice<'_, E> {
@@ -41,8 +49,18 @@ pub(crate) fn whole<'a, E: Endianity>(
 }
 
 /// The table with which these bytes begin.
-pub(crate) fn table_of(alloc: Global, bytes: &[u8]) -> Result<Abbreviations<Global>> {
+pub(crate) fn table_of(alloc: Global, bytes: &[u8]) -> gimli_base::Result<Table> {
     DebugAbbrev::new(bytes, LittleEndian).abbreviations(alloc, DebugAbbrevOffset(0))
+}
+
+/// The table of one declaration, with the code 1, the tag 0x34, this flag, and so many times these attributes.
+pub(crate) fn table_with(alloc: Global, flag: u8, attrs: &[u8], count: u32) -> Result<Table, Fail> {
+    let mut bytes = Vec::from_slice(alloc, &[0x01, 0x34, flag])?;
+    for _ in 0..count {
+        bytes.extend_from_slice(attrs)?;
+    }
+    bytes.extend_from_slice(&[0x00, 0x00, 0x00])?;
+    Ok(table_of(alloc, bytes.as_slice())?)
 }
 
 /// The 32-bit format, a version, and a number of bytes of an address.
@@ -82,6 +100,11 @@ pub(crate) fn next_of<I: Iterator>(items: &mut I) -> Option<I::Item>
     items.next()
 }
 
+/// What a call finds that refuses nothing, and has something left.
+pub(crate) fn found<T>(rt: &impl Abort, answer: gimli_base::Result<Option<T>>) -> T {
+    answer.expect(rt, "refused").expect(rt, "nothing left")
+}
+
 /// The refusal of missing bytes at a place.
 pub(crate) fn end_at(place: u64) -> Error {
     Error::UnexpectedEof(ReaderOffsetId(place))
@@ -89,18 +112,13 @@ pub(crate) fn end_at(place: u64) -> Error {
 
 /// Whether a reader has these bytes left, the first of them at a place, and no other.
 pub(crate) fn has_bytes_at<R: Reader>(reader: &R, bytes: &[u8], place: u64) -> bool {
-    has_bytes(reader, bytes) && reader.offset_id() == ReaderOffsetId(place)
-}
-
-/// Whether a reader has these bytes left, and no other.
-pub(crate) fn has_bytes<R: Reader>(reader: &R, bytes: &[u8]) -> bool {
     let mut rest = reader.copy();
     for byte in bytes {
         if rest.read_u8() != Ok(*byte) {
             return false;
         }
     }
-    rest.is_empty()
+    rest.is_empty() && reader.offset_id() == ReaderOffsetId(place)
 }
 
 /// What a hash function makes of a value.

@@ -24,6 +24,27 @@ pub(crate) fn holds<R: Reader, S: Section<R> + Drop>(
     assert!(rt; has_bytes_at(copy.reader(), bytes, place), "{id:?} copied");
 }
 
+// Tries what a section of two items lends, and copies of the section, of the reader of its items, and of each item:
+// a step of a copy leaves the reader that it is a copy of.
+macro_rules! tries_copies {
+    ($rt:expr, $section:ident, $items:ident, $reader:expr, $bytes:expr) => {{
+        let section = $section::from($reader);
+        let lent = section.borrow(|reader| reader.copy());
+        holds($rt, &lent, SectionId::$section, ($bytes, 100));
+        let mut items = section.copy().$items();
+        for _ in 0..2 {
+            let mut copy = items.copy();
+            let by_copy = copy.next().expect($rt, "refused");
+            let item = found($rt, items.next());
+            assert!($rt; by_copy == Some(item.copy()) && by_copy == Some(item));
+            assert!($rt; copy.next() == items.copy().next());
+        }
+        assert!($rt; (items.copy().next(), items.next()) == (Ok(None), Ok(None)));
+    }};
+}
+
+pub(crate) use tries_copies;
+
 // Tries a section of a reader of `BYTES`, and the one that is there by default.
 fn tries_section<R: Reader, S: Section<R> + Default + Drop>(
     rt: &impl Abort,

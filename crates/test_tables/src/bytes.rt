@@ -4,32 +4,26 @@ use std::alloc::{AllocError, Global};
 
 /// The bytes that a table has given names.
 #[derive(Drop)]
-pub struct Names {
+pub(crate) struct Names {
     alloc: Global,
     named: Vec<(String, Vec<u8>)>,
 }
 
 impl Names {
     /// No names.
-    pub fn new(alloc: Global) -> Names {
+    pub(crate) fn new(alloc: Global) -> Names {
         Names {
             alloc,
             named: Vec::new(alloc),
         }
     }
 
-    /// Takes a line `NAME := BYTES`, and answers whether it is one.
-    pub fn take_line(&mut self, line: &str) -> bool {
-        let Some((name, text)) = line.split_once(" := ") else {
-            return false;
-        };
-        let Some(bytes) = self.parse(text) else {
-            return false;
-        };
-        let Ok(name) = String::from_str(self.alloc, name.trim()) else {
-            return false;
-        };
-        self.named.push((name, bytes)).is_ok()
+    /// Takes a line `NAME := BYTES`, if it is one.
+    pub(crate) fn take_line(&mut self, line: &str) -> Option<()> {
+        let (name, text) = line.split_once(" := ")?;
+        let bytes = self.parse(text)?;
+        let name = String::from_str(self.alloc, name.trim()).ok()?;
+        self.named.push((name, bytes)).ok()
     }
 
     // The bytes of a name.
@@ -44,7 +38,7 @@ impl Names {
 
     /// The bytes of a text: words of pairs of hexadecimal digits, `PAIRS*COUNT` for bytes that come several
     /// times, and `$NAME` for those of a name.
-    pub fn parse(&self, text: &str) -> Option<Vec<u8>> {
+    pub(crate) fn parse(&self, text: &str) -> Option<Vec<u8>> {
         let mut bytes = Vec::new(self.alloc);
         for word in text.split_ascii_whitespace() {
             if let Some(name) = word.strip_prefix("$") {
@@ -68,9 +62,8 @@ impl Names {
             let &[high, low] = pair else {
                 return None;
             };
-            bytes
-                .push(parse_digit(high)? << 4 | parse_digit(low)?)
-                .ok()?;
+            let byte = parse_digit(high)? << 4 | parse_digit(low)?;
+            bytes.push(byte).ok()?;
         }
         Some(bytes)
     }

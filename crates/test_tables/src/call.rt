@@ -30,6 +30,11 @@ impl<'a, R: Reader> Call<'a, R> {
         }
     }
 
+    /// The word at an index.
+    pub fn word(&self, index: usize) -> Outcome<&str> {
+        self.case.word(index).ok_or(Stop::Lacks("no word"))
+    }
+
     /// The number at an index of the words.
     pub fn number(&self, index: usize) -> Outcome<u64> {
         self.case.number(index).ok_or(Stop::Lacks("no number"))
@@ -57,16 +62,9 @@ impl<'a, R: Reader> Call<'a, R> {
     pub fn sized_encoding(&self, index: usize) -> Outcome<Encoding>
         ensures { IfOk result (λ e. IsTrue (is_size e.address_size)) }
     {
-        let Encoding {
-            format,
-            version,
-            ..
-        } = self.encoding(index)?;
-        Ok(Encoding {
-            format,
-            version,
-            address_size: self.size(index.saturating_add(2))?,
-        })
+        let mut encoding = self.encoding(index)?;
+        encoding.address_size = self.size(index.saturating_add(2))?;
+        Ok(encoding)
     }
 
     /// The offset at an index of the words, or none where there is no number.
@@ -84,10 +82,8 @@ impl<'a, R: Reader> Call<'a, R> {
 
     /// The section of an index.
     pub fn section(&self, index: usize) -> Outcome<R> {
-        match self.sections.get(index) {
-            Some(section) => Ok(section.copy()),
-            None => Err(Stop::Lacks("no section")),
-        }
+        let section = self.sections.get(index);
+        Ok(section.ok_or(Stop::Lacks("no section"))?.copy())
     }
 
     /// The second section, or the end of the first where the case has one alone.

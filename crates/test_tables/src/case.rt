@@ -5,27 +5,6 @@ use gimli_base::{Encoding, Format, RunTimeEndian};
 use std::alloc::{AllocError, Global};
 use std::io;
 
-/// The byte orders in which a case is tried.
-#[derive(Clone, Copy, Debug, PartialEq, Eq)]
-pub enum Order {
-    /// The lowest byte first.
-    Little,
-    /// The highest byte first.
-    Big,
-    /// Each of both.
-    Each,
-}
-
-impl Order {
-    /// Whether a case is tried in a byte order.
-    pub fn has(self, endian: RunTimeEndian) -> bool {
-        match endian {
-            RunTimeEndian::Little => self != Order::Big,
-            RunTimeEndian::Big => self != Order::Little,
-        }
-    }
-}
-
 /// Whose calls the rows of a table name.
 #[derive(Clone, Copy, Debug, PartialEq, Eq)]
 pub enum Calls {
@@ -54,8 +33,8 @@ impl Calls {
 pub struct Case {
     /// Whose call it is.
     pub calls: Calls,
-    /// The byte orders.
-    pub order: Order,
+    /// The byte orders in which it is tried.
+    pub orders: &'static [RunTimeEndian],
     /// The call, and after it its arguments.
     pub words: Vec<String>,
     /// The sections, each the bytes after a `:`.
@@ -107,13 +86,12 @@ impl Case {
         for word in self.words.iter().skip(index) {
             words.push(String::from_str(alloc, word)?)?;
         }
-        let mut sections = Vec::new(alloc);
-        sections.push(Vec::from_slice(alloc, bytes)?)?;
+        let section = Vec::from_slice(alloc, bytes)?;
         Ok(Case {
             calls: self.calls,
-            order: self.order,
+            orders: self.orders,
             words,
-            sections,
+            sections: vec![in alloc; section]?,
             places: Vec::from_slice(alloc, &self.places)?,
             wide: String::new(alloc),
             narrow: String::new(alloc),
@@ -143,11 +121,11 @@ pub(crate) fn parse_case(alloc: Global, names: &Names, calls: Calls, line: &str)
     let mut parts = call.split(" :");
     let mut words = Vec::new(alloc);
     let mut places = Vec::new(alloc);
-    let mut order = Order::Little;
+    let mut orders: &[RunTimeEndian] = &[RunTimeEndian::Little];
     for word in parts.next()?.split_ascii_whitespace() {
         match word {
-            "big" if words.is_empty() => order = Order::Big,
-            "each" if words.is_empty() => order = Order::Each,
+            "big" if words.is_empty() => orders = &[RunTimeEndian::Big],
+            "each" if words.is_empty() => orders = &[RunTimeEndian::Little, RunTimeEndian::Big],
             _ => match word.strip_prefix("@") {
                 Some(place) => places.push(place.parse::<u64>().ok()?).ok()?,
                 None => words.push(String::from_str(alloc, word).ok()?).ok()?,
@@ -160,7 +138,7 @@ pub(crate) fn parse_case(alloc: Global, names: &Names, calls: Calls, line: &str)
     }
     Some(Case {
         calls,
-        order,
+        orders,
         words,
         sections,
         places,

@@ -15,100 +15,67 @@ pub trait Program {
     fn answer<R: Reader + PartialEq>(&self, call: &Call<'_, R>, out: &mut Vec<u8>) -> Outcome;
 }
 
-// A kind of readers: whether offsets have 64 bits, or else 32, and the byte order.
-#[derive(Clone, Copy)]
-pub(crate) struct Kind {
+// A program, and a kind of readers: whether offsets have 64 bits, or else 32, and the byte order.
+#[derive(Drop)]
+pub(crate) struct Trial<'a, P> {
+    pub(crate) program: &'a P,
+    pub(crate) alloc: Global,
     pub(crate) is_wide: bool,
     pub(crate) endian: RunTimeEndian,
 }
 
-// What the call of a case answers over readers of a kind.
-pub(crate) fn answer_over<P: Program>(
-    program: &P,
-    alloc: Global,
-    case: &Case,
-    kind: Kind,
-) -> io::Result<Vec<u8>> {
-    let mut found = Vec::new(alloc);
-    let given = Given {
-        program,
-        alloc,
-        case,
-    };
-    let outcome = match (kind.is_wide, kind.endian) {
-        (true, RunTimeEndian::Little) => {
-            let sections = given.parts(LittleEndian);
-            given.answer(&case.wide, sections, &mut found)
+// The call of a case over readers that are made by a call, if the bytes have places and offsets of 32 bits.
+macro_rules! call_over {
+    ($reader:ident, $alloc:expr, $case:expr, $wanted:expr, $endian:expr) => {{
+        let mut sections = Vec::new($alloc);
+        for index in 0..$case.sections.len().max(2) {
+            let bytes = $case.section(index).unwrap_or(&[]);
+            let place = $case.place(index);
+            if bytes.len() > 0xffff_ffff || place.checked_add(bytes.len() as u64).is_none() {
+                return Err(Stop::Lacks("too long"));
+            }
+            sections.push($reader::new_at(bytes, $endian, place))?;
         }
-        (true, RunTimeEndian::Big) => {
-            let sections = given.parts(BigEndian);
-            given.answer(&case.wide, sections, &mut found)
-        }
-        (false, endian) => {
-            let sections = given.wholes(endian);
-            given.answer(&case.narrow, sections, &mut found)
-        }
-    };
-    if let Err(stop) = outcome {
-        stop.write(&mut found)?;
-    }
-    Ok(found)
+        Ok(Call {
+            alloc: $alloc,
+            case: $case,
+            wanted: &$wanted,
+            sections,
+        })
+    }};
 }
 
-// A case for a program.
-#[derive(Drop)]
-struct Given<'a, P> {
-    program: &'a P,
-    alloc: Global,
-    case: &'a Case,
+// A call over readers whose offsets have 64 bits.
+type Wide<'a, E> = Call<'a, EndianSlice<'a, E>>;
+
+fn wide<E: Endianity>(alloc: Global, case: &Case, endian: E) -> Outcome<Wide<'_, E>> {
+    call_over!(EndianSlice, alloc, case, case.wide, endian)
 }
 
-impl<'a, P: Program> Given<'a, P> {
-    // Readers of the sections whose offsets have 64 bits, if their bytes have places and offsets of 32 bits.
-    fn parts<E: Endianity>(&self, endian: E) -> Option<Vec<EndianSlice<'a, E>>> {
-        let mut sections = Vec::new(self.alloc);
-        for index in 0..self.case.sections.len().max(2) {
-            let bytes = self.case.section(index).unwrap_or(&[]);
-            let place = self.case.place(index);
-            if bytes.len() > 0xffff_ffff || place.checked_add(bytes.len() as u64).is_none() {
-                return None;
-            }
-            sections
-                .push(EndianSlice::new_at(bytes, endian, place))
-                .ok()?;
+// A call over readers whose offsets have 32 bits.
+type Narrow<'a> = Call<'a, WholeSlice<'a, RunTimeEndian>>;
+
+fn narrow(alloc: Global, case: &Case, endian: RunTimeEndian) -> Outcome<Narrow<'_>> {
+    call_over!(WholeSlice, alloc, case, case.narrow, endian)
+}
+
+impl<'a, P: Program> Trial<'a, P> {
+    // What the call of a case answers.
+    pub(crate) fn answer(&self, case: &Case) -> io::Result<Vec<u8>> {
+        let mut found = Vec::new(self.alloc);
+        if let Err(stop) = self.write(case, &mut found) {
+            stop.write(&mut found)?;
         }
-        Some(sections)
+        Ok(found)
     }
 
-    // The same of readers whose offsets have 32 bits.
-    fn wholes(&self, endian: RunTimeEndian) -> Option<Vec<WholeSlice<'a, RunTimeEndian>>> {
-        let mut sections = Vec::new(self.alloc);
-        for index in 0..self.case.sections.len().max(2) {
-            let bytes = self.case.section(index).unwrap_or(&[]);
-            let place = self.case.place(index);
-            if bytes.len() > 0xffff_ffff || place.checked_add(bytes.len() as u64).is_none() {
-                return None;
-            }
-            sections
-                .push(WholeSlice::new_at(bytes, endian, place))
-                .ok()?;
+    // Writes what the call of a case answers, up to why it ends.
+    fn write(&self, case: &Case, out: &mut Vec<u8>) -> Outcome {
+        let (program, alloc) = (self.program, self.alloc);
+        match (self.is_wide, self.endian) {
+            (true, RunTimeEndian::Little) => program.answer(&wide(alloc, case, LittleEndian)?, out),
+            (true, RunTimeEndian::Big) => program.answer(&wide(alloc, case, BigEndian)?, out),
+            (false, endian) => program.answer(&narrow(alloc, case, endian)?, out),
         }
-        Some(sections)
-    }
-
-    // Writes what is answered over these readers.
-    fn answer<R: Reader + PartialEq>(
-        &self,
-        wanted: &str,
-        sections: Option<Vec<R>>,
-        out: &mut Vec<u8>,
-    ) -> Outcome {
-        let call = Call {
-            alloc: self.alloc,
-            case: self.case,
-            wanted,
-            sections: sections.ok_or(Stop::Lacks("too long"))?,
-        };
-        self.program.answer(&call, out)
     }
 }

@@ -1,11 +1,9 @@
 //! The lines of tables.
 
+use crate::answers::is_answer;
 use crate::bytes::Names;
 use crate::case::{Calls, Case, parse_case};
-use crate::program::{Kind, Program};
-use crate::sweeps::find;
-use crate::tally::Tally;
-use gimli_base::RunTimeEndian;
+use crate::program::{Program, Trial};
 use std::alloc::Global;
 use std::io::{self, BufWriter, Write};
 use std::{env, fs};
@@ -24,50 +22,41 @@ pub fn try_tables<P: Program>(rt: &HostRuntime, program: &P) -> io::Result<()> {
             program,
             calls: Calls::Reads,
             names: Names::new(rt.alloc()),
-            tally: Tally::default(),
+            cases: 0,
+            differ: 0,
         };
         for line in text.lines() {
             table.try_line(line, &mut out)?;
         }
-        table.tally.write(&mut out, &name)?;
+        let (cases, differ) = (table.cases, table.differ);
+        writeln!(out, "{name}: {cases} cases, {differ} differ")?;
     }
     out.flush()
 }
 
-// A table, the names that its lines gave, and the counts.
+// A table, the names that its lines gave, how many cases were tried, and how many answers differ.
 #[derive(Drop)]
 struct Table<'a, P> {
     alloc: Global,
     program: &'a P,
     calls: Calls,
     names: Names,
-    tally: Tally,
+    cases: u64,
+    differ: u64,
 }
 
-// A row that is tried for each byte from the first to the last.
-#[derive(Clone, Copy)]
-struct Over<'a> {
-    first: u8,
-    last: u8,
-    row: &'a str,
-}
-
-// What a line `over FIRST LAST ROW` says.
-fn parse_over(line: &str) -> Option<Over<'_>> {
+// What a line `over FIRST LAST ROW` says: a row that is tried for each byte from the first to the last.
+fn parse_over(line: &str) -> Option<(u8, u8, &str)> {
     let (first, rest) = line.strip_prefix("over ")?.split_once(" ")?;
     let (last, row) = rest.split_once(" ")?;
-    Some(Over {
-        first: first.parse::<u8>().ok()?,
-        last: last.parse::<u8>().ok()?,
-        row,
-    })
+    Some((first.parse::<u8>().ok()?, last.parse::<u8>().ok()?, row))
 }
 
 impl<'a, P: Program> Table<'a, P> {
     // Tries the rows of a line, if it is neither empty nor a comment, and names neither bytes nor whose calls
     // follow.
     fn try_line<W: Write>(&mut self, line: &str, out: &mut W) -> io::Result<()> {
-        if line.is_empty() || line.starts_with("#") || self.names.take_line(line) {
+        if line.is_empty() || line.starts_with("#") || self.names.take_line(line).is_some() {
             return Ok(());
         }
         if let Some(calls) = Calls::parse(line) {
@@ -81,11 +70,12 @@ impl<'a, P: Program> Table<'a, P> {
     }
 
     // Tries a row for each byte, which stands for `{hex}` in two digits, and for `{dec}` in decimal ones.
-    fn try_rows<W: Write>(&mut self, over: Over<'_>, out: &mut W) -> io::Result<()> {
-        for byte in over.first..=over.last {
+    fn try_rows<W: Write>(&mut self, over: (u8, u8, &str), out: &mut W) -> io::Result<()> {
+        let (first, last, row) = over;
+        for byte in first..=last {
             let hex = format!(in self.alloc; "{byte:02x}")?;
             let dec = format!(in self.alloc; "{byte}")?;
-            let row = over.row.replace(self.alloc, "{hex}", &hex)?;
+            let row = row.replace(self.alloc, "{hex}", &hex)?;
             let row = row.replace(self.alloc, "{dec}", &dec)?;
             self.try_row(&row, out)?;
         }
@@ -94,44 +84,48 @@ impl<'a, P: Program> Table<'a, P> {
 
     // Tries a row.
     fn try_row<W: Write>(&mut self, row: &str, out: &mut W) -> io::Result<()> {
-        self.tally.cases = self.tally.cases.saturating_add(1);
-        match parse_case(self.alloc, &self.names, self.calls, row) {
-            Some(case) => self.try_case(row, &case, out),
-            None => {
-                self.tally.differ = self.tally.differ.saturating_add(1);
-                writeln!(out, "no case: {row}")
-            }
-        }
+        self.cases = self.cases.saturating_add(1);
+        let Some(case) = parse_case(self.alloc, &self.names, self.calls, row) else {
+            self.differ = self.differ.saturating_add(1);
+            return writeln!(out, "no case: {row}");
+        };
+        self.try_case(row, &case, out)
     }
 
     // Tries a case over both readers, in each of its byte orders.
     fn try_case<W: Write>(&mut self, row: &str, case: &Case, out: &mut W) -> io::Result<()> {
-        for endian in [RunTimeEndian::Little, RunTimeEndian::Big] {
-            if !case.order.has(endian) {
-                continue;
-            }
+        for endian in case.orders {
             for is_wide in [true, false] {
-                self.try_over(row, case, Kind { is_wide, endian }, out)?;
+                let trial = Trial {
+                    program: self.program,
+                    alloc: self.alloc,
+                    is_wide,
+                    endian: *endian,
+                };
+                if trial.differs(row, case, out)? {
+                    self.differ = self.differ.saturating_add(1);
+                }
             }
         }
         Ok(())
     }
+}
 
-    // Tries a case over one kind of readers.
-    fn try_over<W: Write>(
-        &mut self,
-        row: &str,
-        case: &Case,
-        kind: Kind,
-        out: &mut W,
-    ) -> io::Result<()> {
-        let found = find(self.program, self.alloc, case, kind)?;
+impl<'a, P: Program> Trial<'a, P> {
+    // Whether a case is answered otherwise than it wants, and then writes the row with the answer.
+    fn differs<W: Write>(&self, row: &str, case: &Case, out: &mut W) -> io::Result<bool> {
+        let found = self.find(case)?;
+        let found = str::from_utf8(&found).unwrap_or("no text");
         let wanted = match case.calls {
             // (what is answered where memory is refused is compared there, and what differs is written)
             Calls::Memory => "",
-            _ if kind.is_wide => &case.wide,
+            _ if self.is_wide => &case.wide,
             _ => &case.narrow,
         };
-        self.tally.compare(out, row, wanted, &found)
+        let differs = !is_answer(wanted, found);
+        if differs {
+            writeln!(out, "{row}\n  answered: {found}")?;
+        }
+        Ok(differs)
     }
 }

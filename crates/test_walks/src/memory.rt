@@ -2,11 +2,9 @@
 
 mod calls;
 mod cursors;
-mod runs;
 mod texts;
 mod trees;
 mod trial;
-mod units;
 mod walks;
 mod wanted;
 

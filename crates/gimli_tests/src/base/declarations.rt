@@ -1,16 +1,11 @@
-use crate::samples::table_of;
-use gimli_base::{
-    Abbreviation, Abbreviations, AttributeSpecification, DwAt, DwForm, Encoding, Format,
-};
+use crate::samples::{Table, encoding, table_with};
+use gimli_base::{Abbreviation, AttributeSpecification, DwAt, DwForm, Encoding, Format};
 use std::alloc::Global;
 use std::process::Abort;
 use std::test::Fail;
 
-// Codes 1 to 3: two bytes, the size of an address and none; these and a number in LEB128; no attribute.
-const TABLE: [u8; 31] = [
-    0x01, 0x34, 0x00, 0x3a, 0x05, 0x11, 0x01, 0x3f, 0x19, 0x00, 0x00, 0x02, 0x34, 0x00, 0x3a, 0x05,
-    0x11, 0x01, 0x3f, 0x19, 0x0b, 0x0f, 0x00, 0x00, 0x03, 0x34, 0x00, 0x00, 0x00, 0x00, 0x00,
-];
+// Attributes of two bytes, of the size of an address, of none, and in LEB128.
+const MIXED: &[u8; 8] = b"\x3a\x05\x11\x01\x3f\x19\x0b\x0f";
 
 #[test]
 fn are_equal_where_all_parts_are(rt: HostRuntime) {
@@ -37,9 +32,9 @@ const FORMS: [(u8, Widths); 6] = [
     (0x01, [Some(4), Some(8), Some(8), Some(4)]),
     (0x0e, [Some(4), Some(8), Some(4), Some(8)]),
     (0x10, [Some(4), Some(8), Some(8), Some(4)]),
-    (0x1e, [Some(16), Some(16), Some(16), Some(16)]),
-    (0x19, [Some(0), Some(0), Some(0), Some(0)]),
-    (0x0f, [None, None, None, None]),
+    (0x1e, [Some(16); 4]),
+    (0x19, [Some(0); 4]),
+    (0x0f, [None; 4]),
 ];
 
 // The sizes of a declaration's attributes together, if each is known.
@@ -51,22 +46,14 @@ fn sum_of(declared: &Abbreviation<Global>, encoding: Encoding) -> Option<u64> {
     Some(sum)
 }
 
-// Tries the declaration of a code, whose attributes have so many times these bytes together. Of more than
+// Tries the declaration of a table, whose attributes have so many times these bytes together. Of more than
 // 65,535 attributes the bytes need not be known.
-fn tries_sizes(
-    rt: &impl Abort,
-    table: &Abbreviations<Global>,
-    code: u64,
-    (widths, times): (Widths, u32),
-) {
-    let declared = table.get(code).expect(rt, "declared");
+fn tries_sizes(rt: &impl Abort, table: &Table, widths: Widths, times: u32) {
+    let declared = table.get(1).expect(rt, "declared");
     let may_be_unknown = declared.attributes().len() > 65_535;
     for ((format, version, address_size), width) in ENCODINGS.into_iter().zip(widths) {
-        let given = Encoding {
-            format,
-            version,
-            address_size,
-        };
+        let mut given = encoding(version, address_size);
+        given.format = format;
         let size = width.map(|width| width.saturating_mul(u64::from(times)));
         let answer = declared.attributes_size(given);
         assert!(rt; answer == size || may_be_unknown && answer.is_none());
@@ -74,22 +61,12 @@ fn tries_sizes(
     }
 }
 
-// The table of one declaration, with the code 1 and so many attributes of a form.
-fn table_with(alloc: Global, form: u8, count: u32) -> Result<Abbreviations<Global>, Fail> {
-    let mut bytes = Vec::from_slice(alloc, &[0x01, 0x34, 0x00])?;
-    for _ in 0..count {
-        bytes.extend_from_slice(&[0x3a, form])?;
-    }
-    bytes.extend_from_slice(&[0x00, 0x00, 0x00])?;
-    Ok(table_of(alloc, bytes.as_slice())?)
-}
-
 #[test]
 fn attributes_have_the_sum_of_their_sizes(rt: HostRuntime) -> Result<(), Fail> {
-    let table = table_of(rt.alloc(), &TABLE)?;
-    tries_sizes(&rt, &table, 1, ([Some(6), Some(10), Some(10), Some(6)], 1));
-    tries_sizes(&rt, &table, 2, ([None, None, None, None], 1));
-    tries_sizes(&rt, &table, 3, ([Some(0), Some(0), Some(0), Some(0)], 1));
+    let known = table_with(rt.alloc(), 0, &MIXED[..6], 1)?;
+    tries_sizes(&rt, &known, [Some(6), Some(10), Some(10), Some(6)], 1);
+    tries_sizes(&rt, &table_with(rt.alloc(), 0, MIXED, 1)?, [None; 4], 1);
+    tries_sizes(&rt, &table_with(rt.alloc(), 0, &[], 1)?, [Some(0); 4], 1);
     Ok(())
 }
 
@@ -97,8 +74,8 @@ fn attributes_have_the_sum_of_their_sizes(rt: HostRuntime) -> Result<(), Fail> {
 fn many_attributes_have_the_sum_of_their_sizes(rt: HostRuntime) -> Result<(), Fail> {
     for (form, widths) in FORMS {
         for count in [12, 13, 14, 65_535, 65_536] {
-            let table = table_with(rt.alloc(), form, count)?;
-            tries_sizes(&rt, &table, 1, (widths, count));
+            let table = table_with(rt.alloc(), 0, &[0x3a, form], count)?;
+            tries_sizes(&rt, &table, widths, count);
         }
     }
     Ok(())

@@ -39,11 +39,7 @@ fn are_empty_by_default(rt: HostRuntime) {
 }
 
 // Tries that a copy, a clone, an assigned value and an expression of a reader of `BYTES` are read alone.
-fn tries_copies<R: Reader + Copy>(
-    rt: &impl Abort,
-    reader: R,
-    order: R::Endian,
-) -> Result<(), Fail> {
+fn tries_copy<R: Reader + Copy>(rt: &impl Abort, reader: R, order: R::Endian) -> Result<(), Fail> {
     let (mut clone, mut assigned, mut copy) = (reader.clone()?, reader, reader.copy());
     assert!(rt; clone.read_u32() == Ok(0x8102_0304));
     assert!(rt; assigned.read_u16() == Ok(0x8102));
@@ -60,10 +56,10 @@ fn tries_copies<R: Reader + Copy>(
 #[test]
 fn are_copied_and_cloned(rt: HostRuntime) -> Result<(), Fail> {
     let big = RunTimeEndian::Big;
-    tries_copies(&rt, part(&BYTES, big), big)?;
-    tries_copies(&rt, part(&BYTES, BigEndian), BigEndian)?;
-    tries_copies(&rt, whole(&rt, &BYTES, big), big)?;
-    tries_copies(&rt, whole(&rt, &BYTES, BigEndian), BigEndian)
+    tries_copy(&rt, part(&BYTES, big), big)?;
+    tries_copy(&rt, part(&BYTES, BigEndian), BigEndian)?;
+    tries_copy(&rt, whole(&rt, &BYTES, big), big)?;
+    tries_copy(&rt, whole(&rt, &BYTES, BigEndian), BigEndian)
 }
 
 const TWICE: [u8; 4] = [0x01, 0x02, 0x01, 0x02];

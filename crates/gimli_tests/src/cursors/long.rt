@@ -12,35 +12,26 @@ const COUNT: u32 = 10_000;
 
 // Code 1: the tag 0x2e, and children. Code 2: the tag 0x34 alone. Code 3: the tag 0x2e, children, and a
 // reference of four bytes.
-const TABLE: [u8; 18] = [
-    0x01, 0x2e, 0x01, 0x00, 0x00, 0x02, 0x34, 0x00, 0x00, 0x00, 0x03, 0x2e, 0x01, 0x01, 0x13, 0x00,
-    0x00, 0x00,
-];
+const TABLE: &[u8] = b"\x01\x2e\x01\0\0\x02\x34\0\0\0\x03\x2e\x01\x01\x13\0\0\0";
 
 // Where a cursor stands: the offset and the depth of what was read last, and of what is read next.
-type Place = (u64, isize, u64, isize);
+type Place = ((u64, isize), (u64, isize));
 
 // A step: its letter; the number of attributes of the entry that it finds, if it finds one; where the cursor
 // then stands; and how many entries were read.
 type Step = (u8, Option<usize>, Place, usize);
 
-// Where a cursor stands, from the offsets and depths of what was read last and of what is read next.
-fn at((offset, depth): (u64, isize), (next_offset, next_depth): (u64, isize)) -> Place {
-    (offset, depth, next_offset, next_depth)
-}
+type Cursor<'a, R> = EntriesCursor<'a, R, Global>;
 
 // Where a cursor stands.
-fn place_of<R: Reader>(cursor: &EntriesCursor<'_, R, Global>) -> Place {
+fn place_of<R: Reader>(cursor: &Cursor<'_, R>) -> Place {
     let offset = cursor.offset().0.into_u64();
     let next_offset = cursor.next_offset().0.into_u64();
-    (offset, cursor.depth(), next_offset, cursor.next_depth())
+    ((offset, cursor.depth()), (next_offset, cursor.next_depth()))
 }
 
 // Takes the step of a letter: to the next entry, to the next in depth-first order, or to the next sibling.
-fn take_step<R: Reader>(
-    cursor: &mut EntriesCursor<'_, R, Global>,
-    letter: u8,
-) -> gimli_base::Result<bool> {
+fn take_step<R: Reader>(cursor: &mut Cursor<'_, R>, letter: u8) -> gimli_base::Result<bool> {
     match letter {
         b'e' => cursor.next_entry(),
         b'd' => Ok(cursor.next_dfs()?.is_some()),
@@ -49,13 +40,9 @@ fn take_step<R: Reader>(
 }
 
 // Tries a step.
-fn tries_step<R: Reader>(
-    rt: &impl Abort,
-    cursor: &mut EntriesCursor<'_, R, Global>,
-    (letter, found, place, reads): Step,
-) {
-    let outcome = take_step(cursor, letter);
-    assert!(rt; outcome == Ok(found.is_some()));
+fn tries_step<R: Reader>(rt: &impl Abort, cursor: &mut Cursor<'_, R>, step: Step) {
+    let (letter, found, place, reads) = step;
+    assert!(rt; take_step(cursor, letter) == Ok(found.is_some()));
     let current = match cursor.current() {
         Some(entry) if entry.tag().0 == 0x2e && entry.has_children() => Some(entry.attrs().len()),
         _ => None,
@@ -64,30 +51,16 @@ fn tries_step<R: Reader>(
     assert_eq!(rt; (place_of(cursor), cursor.reads()), (place, reads));
 }
 
-// Tries the steps of a cursor that follows references or reads every entry, by their numbers from 0 on.
-fn tries_steps<R: Reader, F: Fn(u32) -> Step>(
-    rt: &impl Abort,
-    alloc: Global,
-    entries: R,
-    follows: bool,
-    step: F,
-) -> Result<(), Fail>
+// Tries the steps of a cursor, by their numbers from 0 on.
+fn tries_steps<R: Reader, F: Fn(u32) -> Step>(rt: &impl Abort, mut cursor: Cursor<'_, R>, step: F)
     requires { F.IsAlwaysCallable step }
 {
-    let table = table_of(alloc, &TABLE)?;
-    let unit = unit_of(rt, entries);
-    let mut cursor = if follows {
-        unit.entries(alloc, &table)
-    } else {
-        unit.entries_plain(alloc, &table)
-    };
     for number in 0..COUNT + 2 {
         tries_step(rt, &mut cursor, step(number));
     }
-    Ok(())
 }
 
-// Tries the steps over entries by both readers.
+// Tries the steps over entries by both readers, of cursors that follow references or read every entry.
 fn tries_walk<F: Fn(u32) -> Step>(
     rt: &impl Abort,
     alloc: Global,
@@ -97,8 +70,17 @@ fn tries_walk<F: Fn(u32) -> Step>(
 ) -> Result<(), Fail>
     requires { F.IsAlwaysCallable step }
 {
-    tries_steps(rt, alloc, part(entries, LittleEndian), follows, &step)?;
-    tries_steps(rt, alloc, whole(rt, entries, LittleEndian), follows, &step)
+    let table = table_of(alloc, TABLE)?;
+    let first = unit_of(rt, part(entries, LittleEndian));
+    let second = unit_of(rt, whole(rt, entries, LittleEndian));
+    if follows {
+        tries_steps(rt, first.entries(alloc, &table), &step);
+        tries_steps(rt, second.entries(alloc, &table), &step);
+    } else {
+        tries_steps(rt, first.entries_plain(alloc, &table), &step);
+        tries_steps(rt, second.entries_plain(alloc, &table), &step);
+    }
+    Ok(())
 }
 
 // The step of a number, of which the first is another than the ones after it.
@@ -110,11 +92,10 @@ fn first_or(number: u32, first: Step, others: Step) -> Step {
 fn down(number: u32) -> Step {
     let (offset, depth) = (11 + u64::from(number), number as isize);
     if number < COUNT {
-        let place = at((offset, depth), (offset + 1, depth + 1));
-        (b'd', Some(0), place, number as usize + 1)
-    } else {
-        (b'd', None, at((20_010, 1), (20_011, 0)), 20_000)
+        let place = ((offset, depth), (offset + 1, depth + 1));
+        return (b'd', Some(0), place, number as usize + 1);
     }
+    (b'd', None, ((20_010, 1), (20_011, 0)), 20_000)
 }
 
 #[test]
@@ -122,8 +103,8 @@ fn walks_a_deep_chain(rt: HostRuntime) -> Result<(), Fail> {
     // entries, each the child of the one before, and as many nulls
     let mut entries = vec![in rt.alloc(); 0x01; 10_000]?;
     entries.extend_from_slice(&vec![in rt.alloc(); 0x00; 10_000]?)?;
-    let past = (b's', None, at((11, 0), (20_011, 0)), 20_000);
-    let at_once = |number: u32| first_or(number, (b'e', Some(0), at((11, 0), (12, 1)), 1), past);
+    let past = (b's', None, ((11, 0), (20_011, 0)), 20_000);
+    let at_once = |number: u32| first_or(number, (b'e', Some(0), ((11, 0), (12, 1)), 1), past);
     for follows in [true, false] {
         tries_walk(&rt, rt.alloc(), &entries, follows, down)?;
         tries_walk(&rt, rt.alloc(), &entries, follows, at_once)?;
@@ -148,25 +129,23 @@ fn siblings(alloc: Global) -> Result<Vec<u8>, AllocError> {
 // are read.
 fn reads_up_to(follows: bool, number: u32) -> usize {
     if follows {
-        2 + number as usize
-    } else {
-        2 + 3 * number as usize
+        return 2 + number as usize;
     }
+    2 + 3 * number as usize
 }
 
 // Steps to the first entry, and from sibling to sibling of its children.
 fn along(number: u32, follows: bool) -> Step {
     let Some(child) = number.checked_sub(1) else {
-        return (b'e', Some(0), at((11, 0), (12, 1)), 1);
+        return (b'e', Some(0), ((11, 0), (12, 1)), 1);
     };
     let letter = if child == 0 { b'e' } else { b's' };
     let offset = 12 + 7 * u64::from(child);
     let reads = reads_up_to(follows, child);
     if child < COUNT {
-        (letter, Some(1), at((offset, 1), (offset + 5, 2)), reads)
-    } else {
-        (letter, None, at((offset, 1), (offset + 1, 0)), reads)
+        return (letter, Some(1), ((offset, 1), (offset + 5, 2)), reads);
     }
+    (letter, None, ((offset, 1), (offset + 1, 0)), reads)
 }
 
 #[test]
@@ -176,7 +155,7 @@ fn walks_a_long_list_of_siblings(rt: HostRuntime) -> Result<(), Fail> {
         let steps = |number: u32| along(number, follows);
         tries_walk(&rt, rt.alloc(), &entries, follows, steps)?;
         let reads = reads_up_to(follows, COUNT);
-        let past = (b's', None, at((11, 0), (70_013, 0)), reads);
+        let past = (b's', None, ((11, 0), (70_013, 0)), reads);
         let at_once = |number: u32| first_or(number, along(0, follows), past);
         tries_walk(&rt, rt.alloc(), &entries, follows, at_once)?;
     }
@@ -198,11 +177,10 @@ fn astray(number: u32) -> Step {
     let letter = if number == 0 { b'e' } else { b's' };
     let offset = 11 + 5 * u64::from(number);
     if number < COUNT {
-        let place = at((offset, 0), (offset + 5, 1));
-        (letter, Some(1), place, number as usize + 1)
-    } else {
-        (letter, None, at((50_006, 0), (50_011, 0)), 10_000)
+        let place = ((offset, 0), (offset + 5, 1));
+        return (letter, Some(1), place, number as usize + 1);
     }
+    (letter, None, ((50_006, 0), (50_011, 0)), 10_000)
 }
 
 #[test]
@@ -210,7 +188,7 @@ fn walks_a_long_list_of_false_references(rt: HostRuntime) -> Result<(), Fail> {
     let entries = false_siblings(rt.alloc())?;
     tries_walk(&rt, rt.alloc(), &entries, true, astray)?;
     // the first has no sibling by plain walking
-    let past = (b's', None, at((11, 0), (50_011, 10_000)), 10_000);
+    let past = (b's', None, ((11, 0), (50_011, 10_000)), 10_000);
     let at_once = |number: u32| first_or(number, astray(0), past);
     tries_walk(&rt, rt.alloc(), &entries, false, at_once)
 }

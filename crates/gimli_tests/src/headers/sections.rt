@@ -1,7 +1,7 @@
 //! Sections of units are lent, and their units are copied.
 
-use crate::samples::{part, whole};
-use crate::sections::holds;
+use crate::samples::{found, part, whole};
+use crate::sections::{holds, tries_copies};
 use gimli_base::{LittleEndian, Reader, RunTimeEndian, Section, SectionId};
 use gimli_headers::{DebugInfo, DebugTypes};
 use std::process::Abort;
@@ -22,35 +22,12 @@ const TYPES: [u8; 68] = [
     0x00, 0xe1, 0xe2, 0xe3,
 ];
 
-// Tries a copy of two units, and of each of them: its step leaves the units that it is a copy of.
-macro_rules! copies_units {
-    ($rt:expr, $units:expr) => {{
-        let mut units = $units;
-        for _ in 0..2 {
-            let mut copy = units.copy();
-            let found = copy.next().expect($rt, "refused");
-            let unit = units.next().expect($rt, "refused").expect($rt, "no unit");
-            assert!($rt; found == Some(unit.copy()) && found == Some(unit));
-            assert!($rt; copy.next() == units.copy().next());
-        }
-        assert!($rt; (units.copy().next(), units.next()) == (Ok(None), Ok(None)));
-    }};
-}
-
-// Tries what a section of `INFO` lends, and copies of its units.
 fn tries_info<R: Reader + PartialEq>(rt: &impl Abort, reader: R) {
-    let section = DebugInfo::from(reader);
-    let lent = section.borrow(|reader| reader.copy());
-    holds(rt, &lent, SectionId::DebugInfo, (&INFO, 100));
-    copies_units!(rt, section.copy().units());
+    tries_copies!(rt, DebugInfo, units, reader, &INFO);
 }
 
-// The same of a section of `TYPES`.
 fn tries_types<R: Reader + PartialEq>(rt: &impl Abort, reader: R) {
-    let section = DebugTypes::from(reader);
-    let lent = section.borrow(|reader| reader.copy());
-    holds(rt, &lent, SectionId::DebugTypes, (&TYPES, 100));
-    copies_units!(rt, section.copy().units());
+    tries_copies!(rt, DebugTypes, units, reader, &TYPES);
 }
 
 #[test]

@@ -1,11 +1,9 @@
 //! Sets of ranges of addresses.
 
-use crate::samples::{next_of, part, whole};
-use crate::sections::holds;
+use crate::samples::{found, next_of, part, whole};
+use crate::sections::{holds, tries_copies};
 use gimli_base::{EndianSlice, LittleEndian, Reader, Section, SectionId};
-use gimli_lists::{
-    ArangeEntry, ArangeEntryIter, ArangeHeader, ArangeHeaderIter, DebugAranges, Range,
-};
+use gimli_lists::{ArangeEntryIter, ArangeHeader, DebugAranges, Range};
 use std::process::Abort;
 use std::test::Fail;
 
@@ -15,32 +13,9 @@ const TWO_SETS: [u8; 32] = [
     3, 4,
 ];
 
-// The next raw entry.
-fn raw_entry_of<R: Reader>(rt: &impl Abort, entries: &mut ArangeEntryIter<R>) -> ArangeEntry {
-    let found = entries.next_raw().expect(rt, "refused");
-    found.expect(rt, "no raw entry")
-}
-
-// The next range.
-fn entry_of<R: Reader>(rt: &impl Abort, entries: &mut ArangeEntryIter<R>) -> ArangeEntry {
-    let found = entries.next().expect(rt, "refused");
-    found.expect(rt, "no range")
-}
-
-// The next set.
-fn header_of<R: Reader>(rt: &impl Abort, headers: &mut ArangeHeaderIter<R>) -> ArangeHeader<R> {
-    let found = headers.next().expect(rt, "refused");
-    found.expect(rt, "no set")
-}
-
 // The first set of a section.
 fn first_set<R: Reader>(rt: &impl Abort, reader: R) -> ArangeHeader<R> {
-    header_of(rt, &mut DebugAranges::from(reader).headers())
-}
-
-// Tries the range of an entry.
-fn tries_range(rt: &impl Abort, entry: &ArangeEntry, begin: u64, end: u64) {
-    assert!(rt; entry.range() == Range { begin, end });
+    found(rt, DebugAranges::from(reader).headers().next())
 }
 
 // Tries that no entry is left, by each call.
@@ -54,20 +29,18 @@ fn tries_no_entry<R: Reader>(rt: &impl Abort, entries: &mut ArangeEntryIter<R>) 
 // the end 0.
 #[test]
 fn are_ordered_by_their_fields(rt: HostRuntime) -> Result<(), Fail> {
-    let bytes = [
-        0x10, 0, 0, 0, 2, 0, 1, 2, 3, 4, 1, 0, 1, 2, 1, 3, 2, 1, 2, 1,
-    ];
-    let header = first_set(&rt, part(&bytes, LittleEndian));
+    let bytes = b"\x10\0\0\0\x02\0\x01\x02\x03\x04\x01\0\x01\x02\x01\x03\x02\x01\x02\x01";
+    let header = first_set(&rt, part(bytes, LittleEndian));
     let mut entries = header.entries();
-    let first = entry_of(&rt, &mut entries);
-    let second = entry_of(&rt, &mut entries);
-    let third = entry_of(&rt, &mut entries);
-    let fourth = entry_of(&rt, &mut entries);
+    let first = found(&rt, entries.next());
+    let second = found(&rt, entries.next());
+    let third = found(&rt, entries.next());
+    let fourth = found(&rt, entries.next());
     assert!(rt; first < second && second < third && first < third);
     assert!(rt; third == fourth && third <= fourth && third >= fourth && second != third);
     let mut raw = header.entries();
-    let low = raw_entry_of(&rt, &mut raw);
-    let high = raw_entry_of(&rt, &mut raw);
+    let low = found(&rt, raw.next_raw());
+    let high = found(&rt, raw.next_raw());
     assert!(rt; low < high && low != high && low.range() == high.range() && low < first);
     let text = format!(in rt.alloc(); "{first:?}")?;
     let wanted = "ArangeEntry { range: Range { begin: 1, end: 3 }, length: 2 }";
@@ -75,48 +48,38 @@ fn are_ordered_by_their_fields(rt: HostRuntime) -> Result<(), Fail> {
     Ok(())
 }
 
-// Tries the next set by a copy, by the call, and by the iterator, which all answer the same.
-fn tries_next_set<R: Reader + PartialEq>(rt: &impl Abort, headers: &mut ArangeHeaderIter<R>) {
-    let found = header_of(rt, &mut headers.copy());
-    let item = next_of(&mut headers.copy()).expect(rt, "no set");
-    // the steps of the copies left the source
-    let header = header_of(rt, headers);
-    assert!(rt; header == found);
-    assert!(rt; item == Ok(found));
-    assert!(rt; header.copy() == header);
-    tries_copied_entries(rt, header.copy().entries());
-}
-
 // Tries copies of two ranges, by the call and by the iterator, and of the first of them.
 fn tries_copied_entries<R: Reader>(rt: &impl Abort, mut entries: ArangeEntryIter<R>) {
     let item = next_of(&mut entries.copy()).expect(rt, "no item");
-    let entry = entry_of(rt, &mut entries);
+    let entry = found(rt, entries.next());
     assert!(rt; item == Ok(entry.copy()));
-    tries_range(rt, &entry.copy(), 1, 3);
+    assert!(rt; entry.copy().range() == Range { begin: 1, end: 3 });
     // an end that is known is found again
     assert!(rt; entries.convert_raw(entry.copy()) == Ok(Some(entry)));
-    let last = entry_of(rt, &mut entries.copy());
-    tries_range(rt, &last, 3, 7);
-    assert!(rt; last == entry_of(rt, &mut entries));
+    let last = found(rt, entries.copy().next());
+    assert!(rt; last.range() == Range { begin: 3, end: 7 });
+    assert!(rt; last == found(rt, entries.next()));
     tries_no_entry(rt, &mut entries);
 }
 
-// Tries what a section of two equal sets lends, copies of them, and that no set is left after them.
-fn tries_copies<R: Reader + PartialEq>(rt: &impl Abort, reader: R) {
-    let section = DebugAranges::from(reader);
-    let lent = section.borrow(|reader| reader.copy());
-    holds(rt, &lent, SectionId::DebugAranges, (&TWO_SETS, 100));
-    let mut headers = section.copy().headers();
-    tries_next_set(rt, &mut headers);
-    tries_next_set(rt, &mut headers);
-    assert!(rt; headers.next() == Ok(None));
+// Tries copies of a section of two equal sets and of them, that the iterator answers what the call does, and that
+// no set is left after them.
+fn tries_sets<R: Reader + PartialEq>(rt: &impl Abort, reader: R) {
+    let mut headers = DebugAranges::from(reader.copy()).headers();
+    for _ in 0..2 {
+        let item = next_of(&mut headers.copy()).expect(rt, "no set");
+        let header = found(rt, headers.next());
+        assert!(rt; item == Ok(header.copy()));
+        tries_copied_entries(rt, header.copy().entries());
+    }
     assert!(rt; next_of(&mut headers).is_none());
+    tries_copies!(rt, DebugAranges, headers, reader, &TWO_SETS);
 }
 
 #[test]
 fn copies_answer_what_the_sources_answer(rt: HostRuntime) {
-    tries_copies(&rt, part(&TWO_SETS, LittleEndian));
-    tries_copies(&rt, whole(&rt, &TWO_SETS, LittleEndian));
+    tries_sets(&rt, part(&TWO_SETS, LittleEndian));
+    tries_sets(&rt, whole(&rt, &TWO_SETS, LittleEndian));
 }
 
 // Headers are equal where all their parts are, of the reader the bytes and the order.

@@ -1,5 +1,6 @@
 //! Range lists, and the header of their section.
 
+use crate::lists::shows;
 use crate::samples::{Part, encoding};
 use gimli_base::{EndianSlice, LittleEndian, RangeListsOffset, Section};
 use gimli_lists::{DebugRanges, DebugRngLists, ListsHeader, RangeLists};
@@ -14,19 +15,7 @@ fn tries_slices(rt: &impl Abort, lists: &RangeLists<Part<'_>>, old: &[u8], new: 
 
 #[test]
 fn sections_are_borrowed_in_order(rt: HostRuntime) -> Result<(), Fail> {
-    let alloc = rt.alloc();
-    let owned = RangeLists::new(
-        DebugRanges::from([1, 2, 3].to_vec(alloc)?),
-        DebugRngLists::from([4, 5].to_vec(alloc)?),
-    );
-    let mut lengths = 0_u64;
-    let borrowed = owned.borrow(|bytes| {
-        lengths = lengths.wrapping_mul(16).wrapping_add(bytes.len() as u64);
-        EndianSlice::new(bytes, LittleEndian)
-    });
-    assert!(rt; lengths == 0x32);
-    tries_slices(&rt, &borrowed, &[1, 2, 3], &[4, 5]);
-    Ok(())
+    tries_borrowed!(rt, RangeLists, DebugRanges, DebugRngLists)
 }
 
 #[test]

@@ -1,8 +1,7 @@
-use crate::samples::{Part, part, table_of};
-use crate::units::samples::{raw_over, read, specification};
+use crate::samples::{Part, Table, encoding, part, table_of};
+use crate::units::samples::{raw_in, read, specification};
 use gimli_base::{DebugAddrIndex, LittleEndian};
 use gimli_units::{Attribute, AttributeValue, UnitOffset};
-use std::alloc::Global;
 use std::fmt::Debug;
 use std::process::Abort;
 use std::test::Fail;
@@ -14,60 +13,51 @@ fn tries_equality<T: Copy + Debug + PartialEq>(rt: &impl Abort, value: T, copies
     }
 }
 
-// One value of each kind, in pairs that differ in what the kind holds.
-fn pairs<'a>() -> [(AttributeValue<Part<'a>>, AttributeValue<Part<'a>>); 4] {
+// One value of each kind, which holds this text or this number.
+fn values(text: &[u8], number: u8) -> [AttributeValue<Part<'_>>; 4] {
     [
-        (
-            AttributeValue::String(part(b"foo", LittleEndian)),
-            AttributeValue::String(part(b"fop", LittleEndian)),
-        ),
-        (AttributeValue::Data1(5), AttributeValue::Data1(6)),
-        (
-            AttributeValue::UnitRef(UnitOffset(5)),
-            AttributeValue::UnitRef(UnitOffset(6)),
-        ),
-        (
-            AttributeValue::DebugAddrIndexOffset(DebugAddrIndex(5), 16),
-            AttributeValue::DebugAddrIndexOffset(DebugAddrIndex(5), 17),
-        ),
+        AttributeValue::String(part(text, LittleEndian)),
+        AttributeValue::Data1(number),
+        AttributeValue::UnitRef(UnitOffset(usize::from(number))),
+        AttributeValue::DebugAddrIndexOffset(DebugAddrIndex(5), u32::from(number)),
     ]
 }
 
 #[test]
 fn values_are_equal_where_all_parts_are(rt: HostRuntime) -> Result<(), Fail> {
-    for (i, (first, other)) in pairs().into_iter().enumerate() {
+    for (i, first) in values(b"foo", 5).into_iter().enumerate() {
         tries_equality(&rt, first, [first, first.clone()?, first.copy()]);
-        assert_ne!(rt; first, other);
-        for (j, (second, _)) in pairs().into_iter().enumerate() {
+        for (j, second) in values(b"foo", 5).into_iter().enumerate() {
             assert!(rt; (first == second) == (i == j));
+        }
+        for other in values(b"fop", 6) {
+            assert_ne!(rt; first, other);
         }
     }
     Ok(())
 }
 
+// What is read of an attribute.
+type Found<'a> = Result<Attribute<Part<'a>>, Fail>;
+
 // The attribute of a name and a form that is read from these bytes.
-fn attribute<'a>(
-    rt: &impl Abort,
-    alloc: Global,
-    (name, form): (u16, u16),
-    bytes: &'a [u8],
-) -> Result<Attribute<Part<'a>>, Fail> {
-    let table = table_of(alloc, &[0])?;
-    let mut raw = raw_over(part(bytes, LittleEndian), &table);
-    Ok(read(&mut raw, specification(rt, name, form))?)
+fn attribute<'a>(rt: &impl Abort, table: &Table, given: (u16, u16), bytes: &'a [u8]) -> Found<'a> {
+    let mut raw = raw_in(encoding(4, 4), part(bytes, LittleEndian), table);
+    Ok(read(&mut raw, specification(rt, given.0, given.1))?)
 }
 
 #[test]
 fn attributes_are_equal_where_all_parts_are(rt: HostRuntime) -> Result<(), Fail> {
-    let first = attribute(&rt, rt.alloc(), (0x03, 0x0b), &[5])?;
+    let table = table_of(rt.alloc(), &[0])?;
+    let first = attribute(&rt, &table, (0x03, 0x0b), &[5])?;
     tries_equality(&rt, first, [first, first.clone()?, first.copy()]);
     let others = [
         // another name
-        attribute(&rt, rt.alloc(), (0x04, 0x0b), &[5])?,
+        attribute(&rt, &table, (0x04, 0x0b), &[5])?,
         // another form, and the same value
-        attribute(&rt, rt.alloc(), (0x03, 0x16), &[0x0b, 5])?,
+        attribute(&rt, &table, (0x03, 0x16), &[0x0b, 5])?,
         // another value
-        attribute(&rt, rt.alloc(), (0x03, 0x0b), &[6])?,
+        attribute(&rt, &table, (0x03, 0x0b), &[6])?,
     ];
     for other in others {
         assert_ne!(rt; other, first);

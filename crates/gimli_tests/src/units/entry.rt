@@ -1,28 +1,29 @@
-use crate::samples::{Part, TABLE_NESTED_STRINGS, THREE_NESTED, part, table_of, unit_of};
+use crate::samples::{
+    Entry, Part, TABLE_NESTED_STRINGS, THREE_NESTED, Table, part, table_of, unit_of,
+};
 use gimli_base::{DwTag, LittleEndian, Reader, ReaderOffset};
-use gimli_units::{DebuggingInformationEntry, UnitOffset};
+use gimli_units::{UnitHeader, UnitOffset};
 use std::alloc::Global;
 use std::process::Abort;
 use std::test::Fail;
 
-type Entry<R> = DebuggingInformationEntry<R, Global>;
-
 // An entry as it shows itself: whether it is a null, tag, children flag, number of attributes, offset and depth.
 fn parts<R: Reader>(entry: &Entry<R>) -> (bool, u16, bool, usize, u64, isize) {
-    (
-        entry.is_null(),
-        entry.tag().0,
-        entry.has_children(),
-        entry.attrs().len(),
-        entry.offset().0.into_u64(),
-        entry.depth(),
-    )
+    let (is_null, tag, flag) = (entry.is_null(), entry.tag().0, entry.has_children());
+    let (count, offset) = (entry.attrs().len(), entry.offset().0.into_u64());
+    (is_null, tag, flag, count, offset, entry.depth())
+}
+
+// The unit of three nested strings, and its table.
+fn nested(rt: &impl Abort, alloc: Global) -> Result<(UnitHeader<Part<'static>>, Table), Fail> {
+    let bytes = THREE_NESTED.as_slice();
+    let unit = unit_of(rt, part(&bytes[11..], LittleEndian));
+    Ok((unit, table_of(alloc, &TABLE_NESTED_STRINGS)?))
 }
 
 // The second of the nested strings, which has an attribute.
 fn second(rt: &impl Abort, alloc: Global) -> Result<Entry<Part<'static>>, Fail> {
-    let table = table_of(alloc, &TABLE_NESTED_STRINGS)?;
-    let unit = unit_of(rt, part(&THREE_NESTED[11..], LittleEndian));
+    let (unit, table) = nested(rt, alloc)?;
     let mut entry = unit.entry(alloc, &table, UnitOffset(0x10))?;
     entry.depth = 1;
     Ok(entry)
@@ -30,8 +31,7 @@ fn second(rt: &impl Abort, alloc: Global) -> Result<Entry<Part<'static>>, Fail> 
 
 #[test]
 fn a_new_entry_has_its_parts(rt: HostRuntime) -> Result<(), Fail> {
-    let read = second(&rt, rt.alloc())?;
-    let attributes = read.attrs;
+    let attributes = second(&rt, rt.alloc())?.attrs;
     assert!(rt; attributes.len() == 1);
     let attribute = attributes[0];
     let entry = Entry::new(DwTag(0x34), true, attributes, UnitOffset(300));
@@ -42,8 +42,7 @@ fn a_new_entry_has_its_parts(rt: HostRuntime) -> Result<(), Fail> {
 
 #[test]
 fn clones_and_copies_go_their_own_way(rt: HostRuntime) -> Result<(), Fail> {
-    let table = table_of(rt.alloc(), &TABLE_NESTED_STRINGS)?;
-    let unit = unit_of(&rt, part(&THREE_NESTED[11..], LittleEndian));
+    let (unit, table) = nested(&rt, rt.alloc())?;
     let entry = second(&rt, rt.alloc())?;
     let clone = entry.try_clone(rt.alloc())?;
     assert!(rt; parts(&clone) == parts(&entry) && clone.attrs() == entry.attrs());
@@ -64,14 +63,12 @@ fn clones_and_copies_go_their_own_way(rt: HostRuntime) -> Result<(), Fail> {
 
 #[test]
 fn a_list_lends_what_it_stands_on(rt: HostRuntime) -> Result<(), Fail> {
-    let table = table_of(rt.alloc(), &TABLE_NESTED_STRINGS)?;
-    let unit = unit_of(&rt, part(&THREE_NESTED[11..], LittleEndian));
+    let (unit, table) = nested(&rt, rt.alloc())?;
     let mut tree = unit.entries_tree(rt.alloc(), &table, None)?;
     let root = tree.root()?;
     assert!(rt; root.reads() == 1);
     let mut children = root.children();
-    assert!(rt; children.advance()?);
-    assert!(rt; children.reads() == 2);
+    assert!(rt; children.advance()? && children.reads() == 2);
     assert!(rt; parts(children.entry()) == (false, 0x2e, true, 1, 0x10, 1));
     let node = children.node();
     assert!(rt; (node.reads(), node.entry().offset().0) == (2, 0x10));

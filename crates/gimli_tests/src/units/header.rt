@@ -1,65 +1,19 @@
-use crate::samples::{Part, encoding, part};
+use crate::samples::encoding;
+use crate::units::samples::{unit_of, usual};
 use gimli_base::{
-    DW_UT_hi_user, DW_UT_lo_user, DebugAbbrevOffset, DebugTypeSignature, DwoId, Encoding, Format,
-    LittleEndian, Reader, SectionId,
+    DW_UT_hi_user, DW_UT_lo_user, DebugTypeSignature, DwoId, Encoding, Format, SectionId,
 };
-use gimli_units::{UnitHeader, UnitOffset, UnitSectionOffset, UnitType};
-use std::process::Abort;
+use gimli_units::{UnitOffset, UnitType};
 use std::test::Fail;
 
-// The parts of a unit.
-#[derive(Clone, Copy)]
-struct Parts {
-    encoding: Encoding,
-    length: u32,
-    unit_type: UnitType<usize>,
-    section: SectionId,
-    offset: usize,
-    abbreviations: usize,
-    entries: &'static [u8],
-}
-
-// Those of the first unit of `.debug_info`.
-fn usual() -> Parts {
-    Parts {
-        encoding: encoding(4, 4),
-        length: 100,
-        unit_type: UnitType::Compilation,
-        section: SectionId::DebugInfo,
-        offset: 0,
-        abbreviations: 0,
-        entries: &[0x01, 0x0f, 0x02, 0x00, 0x02],
-    }
-}
-
-// The unit of these parts.
-fn unit_of(rt: &impl Abort, parts: Parts) -> UnitHeader<Part<'static>> {
-    let entries = part(parts.entries, LittleEndian);
-    assert!(rt; entries.len() <= parts.length as usize);
-    UnitHeader::new(
-        parts.encoding,
-        parts.length as usize,
-        parts.unit_type,
-        DebugAbbrevOffset(parts.abbreviations),
-        parts.section,
-        UnitSectionOffset(parts.offset),
-        entries,
-    )
-}
-
 // The type unit of a signature and of the offset of the type's entry, or that of a split file.
-fn type_unit(is_split: bool, signature: u64, offset: usize) -> UnitType<usize> {
-    let (type_signature, type_offset) = (DebugTypeSignature(signature), UnitOffset(offset));
-    if is_split {
-        return UnitType::SplitType {
-            type_signature,
-            type_offset,
-        };
-    }
-    UnitType::TypeUnit {
-        type_signature,
-        type_offset,
-    }
+macro_rules! type_unit {
+    ($variant:ident, $signature:expr, $offset:expr) => {
+        UnitType::$variant {
+            type_signature: DebugTypeSignature($signature),
+            type_offset: UnitOffset($offset),
+        }
+    };
 }
 
 // Each type of unit, with the size of its header in the 32-bit format and in the 64-bit format, in a
@@ -67,29 +21,27 @@ fn type_unit(is_split: bool, signature: u64, offset: usize) -> UnitType<usize> {
 fn unit_types() -> [(UnitType<usize>, usize, usize); 14] {
     [
         (UnitType::Compilation, 11, 23),
-        (type_unit(false, 5, 6), 23, 39),
+        (type_unit!(TypeUnit, 5, 6), 23, 39),
         (UnitType::Partial, 11, 23),
         (UnitType::Skeleton(DwoId(5)), 19, 31),
         (UnitType::SplitCompilation(DwoId(5)), 19, 31),
-        (type_unit(true, 5, 6), 23, 39),
+        (type_unit!(SplitType, 5, 6), 23, 39),
         (UnitType::Vendor(DW_UT_lo_user), 11, 23),
-        (type_unit(false, 7, 6), 23, 39),
-        (type_unit(false, 5, 7), 23, 39),
+        (type_unit!(TypeUnit, 7, 6), 23, 39),
+        (type_unit!(TypeUnit, 5, 7), 23, 39),
         (UnitType::Skeleton(DwoId(7)), 19, 31),
         (UnitType::SplitCompilation(DwoId(7)), 19, 31),
-        (type_unit(true, 7, 6), 23, 39),
-        (type_unit(true, 5, 7), 23, 39),
+        (type_unit!(SplitType, 7, 6), 23, 39),
+        (type_unit!(SplitType, 5, 7), 23, 39),
         (UnitType::Vendor(DW_UT_hi_user), 11, 23),
     ]
 }
 
 // The 64-bit format, a version, and addresses of 4 bytes.
 fn of_64_bits_in(version: u16) -> Encoding {
-    Encoding {
-        format: Format::Dwarf64,
-        version,
-        address_size: 4,
-    }
+    let mut given = encoding(version, 4);
+    given.format = Format::Dwarf64;
+    given
 }
 
 #[test]
@@ -124,7 +76,7 @@ fn units_with_other_parts_differ(rt: HostRuntime) -> Result<(), Fail> {
     assert!(rt; unit.copy() == unit);
     assert!(rt; unit.clone()? == unit);
     let mut others = [usual(); 9];
-    others[0].length = 101;
+    others[0].length = 0x11;
     others[1].unit_type = UnitType::Partial;
     others[2].section = SectionId::DebugTypes;
     others[3].offset = 1;
@@ -133,7 +85,7 @@ fn units_with_other_parts_differ(rt: HostRuntime) -> Result<(), Fail> {
     // versions and sizes that no bytes give are shown too
     others[6].encoding = encoding(0xffff, 4);
     others[7].encoding = encoding(4, 0xff);
-    others[8].entries = &[0x01, 0x0f, 0x02, 0x00, 0x01];
+    others[8].entries = &[0x01, 0x0f, 0x02, 0x00, 0x02, 0x0f, 0x03, 0x00, 0x01];
     for other in others {
         let found = unit_of(&rt, other);
         assert!(rt; found != unit && found.encoding() == other.encoding);

@@ -1,26 +1,23 @@
-use crate::samples::{Part, part, table_of};
-use crate::units::samples::{pass, raw_over, read, specification};
-use gimli_base::{Abbreviations, DwForm, Error, LittleEndian};
-use std::alloc::Global;
+use crate::samples::{Part, Table, encoding, part, table_of};
+use crate::units::samples::{pass, raw_in, read, specification};
+use gimli_base::{DwForm, Error, LittleEndian};
 use std::process::Abort;
 use std::test::Fail;
 
-// Whether a code is that of a form.
-fn is_form(code: u16) -> bool {
-    matches!(
-        code,
-        0x01 | 0x03..=0x2c | 0x1f01 | 0x1f02 | 0x1f20 | 0x1f21 | 0x3f01
-    )
+/// Whether a code is that of a form.
+pub(crate) fn is_form(code: u16) -> bool {
+    let is_extension = matches!(code, 0x1f01 | 0x1f02 | 0x1f20 | 0x1f21 | 0x3f01);
+    is_extension || matches!(code, 0x01 | 0x03..=0x2c)
 }
 
 // Tries a code that is no form, directly and through indirect, by its LEB128 number.
-fn tries_unknown_form(rt: &impl Abort, table: &Abbreviations<Global>, form: u16, code: Part<'_>) {
+fn tries_unknown_form(rt: &impl Abort, table: &Table, form: u16, code: Part<'_>) {
     let refused = Some(Error::UnknownForm(DwForm(form)));
     for declared in [form, 0x16] {
         let given = specification(rt, 0x2000, declared);
-        let answer = read(&mut raw_over(code, table), given);
+        let answer = read(&mut raw_in(encoding(4, 4), code, table), given);
         assert_eq!(rt; answer.err(), refused, "{form}");
-        let answer = pass(&mut raw_over(code, table), &[given]);
+        let answer = pass(&mut raw_in(encoding(4, 4), code, table), &[given]);
         assert_eq!(rt; answer.err(), refused, "{form}");
     }
 }

@@ -1,33 +1,16 @@
-ghost use Rattle.std.specs.Prelude.{None};
-
 use crate::samples::{TABLE_NESTED_STRINGS, THREE_NESTED};
+use crate::walk::writers::{Narrow, Takes, Tried};
 use gimli_walk::run_words;
 use std::alloc::Global;
-use std::io::{Error, ErrorKind, Write};
+use std::io::Write;
 use std::process::Abort;
 
 // What a file of this name holds, if it can be read.
 fn file(alloc: Global, name: &str) -> Option<Vec<u8>> {
     match name {
-        "info" => Vec::from_slice(alloc, &THREE_NESTED).ok(),
+        "info" => Vec::from_slice(alloc, THREE_NESTED).ok(),
         "abbrev" => Vec::from_slice(alloc, &TABLE_NESTED_STRINGS).ok(),
         _ => None,
-    }
-}
-
-// Takes all bytes, and fails when they are to be passed on.
-#[derive(Drop)]
-struct NeverFlushed;
-
-impl Write for NeverFlushed {
-    ghost contents = { λ _. None };
-
-    fn write(&mut self, buf: &[u8]) -> std::io::Result<usize> {
-        Ok(buf.len())
-    }
-
-    fn flush(&mut self) -> std::io::Result<()> {
-        Err(Error::from(ErrorKind::Other))
     }
 }
 
@@ -55,7 +38,8 @@ fn ends_without_a_word_where_a_write_fails(rt: HostRuntime) {
         let mut space = [0u8; 8];
         let mut out: &mut [u8] = &mut space;
         tries_words(&rt, rt.alloc(), words, &mut out);
-        tries_words(&rt, rt.alloc(), words, &mut NeverFlushed);
+        let mut unflushed = Narrow::new(rt.alloc(), Takes::PassesNothingOn, usize::MAX);
+        tries_words(&rt, rt.alloc(), words, &mut unflushed);
     }
 }
 

@@ -2,11 +2,11 @@
 //! refuse, or pass on what they get. They are gathered nowhere: what was taken, how often a writer
 //! was called, and the answer are the same.
 
-use crate::walk::writers::{Both, Narrow, Own, Takes};
+use crate::samples::{Entry, Raw, found, table_of};
+use crate::walk::writers::{Both, Narrow, Own, Takes, Tried};
 use failing::{Failing, Refusal};
-use gimli_base::{DebugAbbrev, LittleEndian, Reader, ReaderOffset};
+use gimli_base::{LittleEndian, Reader, ReaderOffset};
 use gimli_headers::DebugInfo;
-use gimli_units::{DebuggingInformationEntry, EntriesRaw, UnitHeader};
 use gimli_walk::{Mode, WriteFault, walk_text};
 use std::alloc::{AllocError, Global};
 use std::io::{BufWriter, Write};
@@ -15,10 +15,7 @@ use std::test::Fail;
 
 // Code 1: the tag 0x34, no children, and no attribute. Code 2: the tag 0x2e, and children. Code 3:
 // the tag 0x4109, children, and the attribute 0x03 of form string.
-const TABLE: [u8; 20] = [
-    0x01, 0x34, 0x00, 0x00, 0x00, 0x02, 0x2e, 0x01, 0x00, 0x00, 0x03, 0x89, 0x82, 0x01, 0x01, 0x03,
-    0x08, 0x00, 0x00, 0x00,
-];
+const TABLE: &[u8] = b"\x01\x34\0\0\0\x02\x2e\x01\0\0\x03\x89\x82\x01\x01\x03\x08\0\0\0";
 
 // Entries of code 1.
 const FLAT: &[u8] = &[0x01];
@@ -26,8 +23,24 @@ const FLAT: &[u8] = &[0x01];
 // Two entries with children, and three nulls, so that depths are below zero.
 const NESTED: &[u8] = &[0x02, 0x01, 0x03, 0x61, 0x00, 0x00, 0x00, 0x00];
 
+// The entries of a unit: so many times these.
+type Entries = (u16, &'static [u8]);
+
+// What most tests write.
+const USUAL: [Entries; 4] = [(0, FLAT), (1, FLAT), (330, FLAT), (60, NESTED)];
+
+// How units end: a null ends the rows, or a code that is not declared, whose line is written in parts.
+const LASTS: [u8; 2] = [0, 7];
+
+// A section of one unit.
+#[derive(Drop)]
+struct Unit {
+    alloc: Global,
+    info: Vec<u8>,
+}
+
 // A unit of so many times these entries, and then one of another code.
-fn unit_bytes(alloc: Global, count: u16, entries: &[u8], last: u8) -> Result<Vec<u8>, AllocError> {
+fn unit_of(alloc: Global, (count, entries): Entries, last: u8) -> Result<Unit, AllocError> {
     let mut content = Vec::new(alloc);
     for _ in 0..count {
         content.extend_from_slice(entries)?;
@@ -36,177 +49,96 @@ fn unit_bytes(alloc: Global, count: u16, entries: &[u8], last: u8) -> Result<Vec
     let [low, high, ..] = content.len().wrapping_add(7).to_le_bytes();
     let mut info = Vec::from_slice(alloc, &[low, high, 0, 0, 0x04, 0, 0, 0, 0, 0, 0x04])?;
     info.extend_from_slice(&content)?;
-    Ok(info)
+    Ok(Unit { alloc, info })
 }
 
-// The line of a row, put together by `write!`.
-fn line_of<R: Reader>(
-    alloc: Global,
-    entry: &DebuggingInformationEntry<R, Global>,
-) -> std::io::Result<Vec<u8>> {
-    let mut line = Vec::new(alloc);
-    let offset = entry.offset().0.into_u64();
-    let depth = entry.depth();
-    let tag = entry.tag().0;
-    let flag = u8::from(entry.has_children());
-    write!(line, "{offset:x} {depth} {tag:x} {flag}\n")?;
-    Ok(line)
-}
-
-// Writes the lines of so many rows at most: whole entries are read, and each line is handed over by
-// one `write_all`.
-fn write_left<R: Reader, W: Write>(
-    alloc: Global,
-    entries: &mut EntriesRaw<'_, R, Global>,
-    most: usize,
-    out: &mut W,
-) -> Result<u8, WriteFault> {
-    let mut entry = DebuggingInformationEntry::null(alloc);
-    for _ in 0..most {
-        if entries.is_empty() {
-            break;
+// The units of these entries, each with each of these ends.
+fn units(alloc: Global, contents: &[Entries], lasts: &[u8]) -> Result<Vec<Unit>, AllocError> {
+    let mut units = Vec::new(alloc);
+    for entries in contents {
+        for last in lasts {
+            units.push(unit_of(alloc, *entries, *last)?)?;
         }
-        if let Err(error) = entries.read_entry(&mut entry) {
-            let number = error.number();
-            let offset = entry.offset().0.into_u64();
-            write!(out, "error {number} {offset:x}\n").map_err(|_| WriteFault)?;
-            return Ok(1);
+    }
+    Ok(units)
+}
+
+// The status of what is written.
+type Answer = Result<u8, WriteFault>;
+
+// The line of a row, put together by `format!`.
+fn line_of<R: Reader>(alloc: Global, entry: &Entry<R>) -> Result<String, WriteFault> {
+    let (offset, depth) = (entry.offset().0.into_u64(), entry.depth());
+    let (tag, flag) = (entry.tag().0, u8::from(entry.has_children()));
+    format!(in alloc; "{offset:x} {depth} {tag:x} {flag}\n").map_err(|_| WriteFault)
+}
+
+impl Unit {
+    // Writes the lines of all rows: whole entries are read, and each line is handed over by one `write_all`.
+    fn write_rows<R: Reader, W: Write>(&self, entries: &mut Raw<'_, R>, out: &mut W) -> Answer {
+        let mut entry = Entry::null(self.alloc);
+        for _ in 0..self.info.len() {
+            if entries.is_empty() {
+                break;
+            }
+            if let Err(error) = entries.read_entry(&mut entry) {
+                let (number, offset) = (error.number(), entry.offset().0.into_u64());
+                write!(out, "error {number} {offset:x}\n").map_err(|_| WriteFault)?;
+                return Ok(1);
+            }
+            let line = line_of(self.alloc, &entry)?;
+            out.write_all(line.as_bytes()).map_err(|_| WriteFault)?;
         }
-        let line = line_of(alloc, &entry).map_err(|_| WriteFault)?;
-        out.write_all(&line).map_err(|_| WriteFault)?;
+        out.write_all(b"end\n").map_err(|_| WriteFault)?;
+        Ok(0)
     }
-    out.write_all(b"end\n").map_err(|_| WriteFault)?;
-    Ok(0)
-}
 
-// The same of a unit. The status is 0xff where its table is refused, and where it has no entries.
-fn write_unit<R: Reader, W: Write>(
-    alloc: Global,
-    unit: &UnitHeader<R>,
-    debug_abbrev: &DebugAbbrev<R>,
-    most: usize,
-    out: &mut W,
-) -> Result<u8, WriteFault> {
-    let Ok(abbreviations) = unit.abbreviations(alloc, debug_abbrev) else {
-        return Ok(0xff);
-    };
-    match unit.entries_raw(&abbreviations, None) {
-        Ok(mut entries) => write_left(alloc, &mut entries, most, out),
-        Err(_) => Ok(0xff),
+    // The same of the section.
+    fn write_apart<W: Write>(&self, rt: &impl Abort, out: &mut W) -> Answer {
+        let unit = found(rt, DebugInfo::new(&self.info, LittleEndian).units().next());
+        let table = table_of(self.alloc, TABLE).expect(rt, "no table");
+        let mut entries = unit.entries_raw(&table, None).expect(rt, "no entries");
+        self.write_rows(&mut entries, out)
     }
-}
 
-// The same of the first unit of a section.
-fn write_apart<W: Write>(alloc: Global, info: &[u8], out: &mut W) -> Result<u8, WriteFault> {
-    let debug_info = DebugInfo::new(info, LittleEndian);
-    let debug_abbrev = DebugAbbrev::new(&TABLE, LittleEndian);
-    match debug_info.units().next() {
-        Ok(Some(unit)) => write_unit(alloc, &unit, &debug_abbrev, info.len(), out),
-        _ => Ok(0xff),
+    // Whether two writers get the same answer, one from what is tried, the other in this way.
+    fn answers_alike<W: Write>(&self, rt: &impl Abort, text: &mut W, apart: &mut W) -> bool {
+        let wanted = self.write_apart(rt, apart);
+        walk_text(self.alloc, Mode::Rows, &self.info, TABLE, text) == wanted
     }
-}
 
-// What is tried: the rows of the first unit.
-fn write_text<W: Write>(alloc: Global, info: &[u8], out: &mut W) -> Result<u8, WriteFault> {
-    walk_text(alloc, Mode::Rows, info, &TABLE, out)
-}
-
-// Tries that two writers were called as often, and took the same bytes.
-fn compares(rt: &impl Abort, text: &Narrow, apart: &Narrow, room: usize) {
-    assert_eq!(rt; text.calls, apart.calls, "with room for {room}");
-    assert!(rt; text.taken == apart.taken, "with room for {room}");
-}
-
-// Tries a writer with each of these rooms.
-fn tries_rooms(rt: &impl Abort, alloc: Global, info: &[u8], takes: Takes, rooms: &[usize]) {
-    for room in rooms {
-        let mut apart = Narrow::new(alloc, takes, *room);
-        let wanted = write_apart(alloc, info, &mut apart);
-        let mut text = Narrow::new(alloc, takes, *room);
-        let answer = write_text(alloc, info, &mut text);
-        assert_eq!(rt; answer, wanted, "{takes:?} with room for {room}");
-        compares(rt, &text, &apart, *room);
+    // Tries writers with each of these rooms: what they answer and have got, and how often they were called.
+    fn tries_rooms<W: Tried>(&self, rt: &impl Abort, takes: Takes, rooms: &[usize]) {
+        for room in rooms {
+            let mut text = W::new(self.alloc, takes, *room);
+            let mut apart = W::new(self.alloc, takes, *room);
+            let is_same = self.answers_alike(rt, &mut text, &mut apart);
+            assert!(rt; is_same && text == apart, "{takes:?} with room for {room}");
+        }
     }
-}
 
-// Tries a writer that buffers so many bytes, and passes them on to one that is full after some: what
-// that one has got when the call returns, and what is buffered then.
-fn tries_buffered(
-    rt: &impl Abort,
-    alloc: Global,
-    info: &[u8],
-    capacity: usize,
-    takes: Takes,
-    room: usize,
-) -> Result<(), Fail> {
-    let mut apart = BufWriter::with_capacity(alloc, capacity, Narrow::new(alloc, takes, room))?;
-    let wanted = write_apart(alloc, info, &mut apart);
-    let mut text = BufWriter::with_capacity(alloc, capacity, Narrow::new(alloc, takes, room))?;
-    let answer = write_text(alloc, info, &mut text);
-    assert_eq!(rt;
-        answer,
-        wanted,
-        "{capacity} over {takes:?} with room for {room}"
-    );
-    compares(rt, text.get_ref(), apart.get_ref(), room);
-    assert!(rt;
-        text.buffer() == apart.buffer(),
-        "{capacity} over {takes:?} with room for {room}"
-    );
-    Ok(())
-}
-
-// Tries a list whose request for memory of this number is refused.
-fn tries_refused(rt: &impl Abort, alloc: Global, info: &[u8], number: u64) {
-    let heap_apart = Failing::new(alloc, Refusal::Nth(number));
-    let mut apart = Vec::new(&heap_apart);
-    let wanted = write_apart(alloc, info, &mut apart);
-    let heap = Failing::new(alloc, Refusal::Nth(number));
-    let mut text = Vec::new(&heap);
-    let answer = write_text(alloc, info, &mut text);
-    assert_eq!(rt; answer, wanted, "where the request {number} is refused");
-    assert_eq!(rt;
-        heap.requests(),
-        heap_apart.requests(),
-        "where the request {number} is refused"
-    );
-    assert!(rt; text == apart, "where the request {number} is refused");
-    assert_eq!(rt;
-        text.capacity(),
-        apart.capacity(),
-        "where the request {number} is refused"
-    );
-}
-
-// Two writers, the second with room for so many bytes.
-fn both(alloc: Global, takes: Takes, room: usize) -> Both {
-    Both {
-        first: Narrow::new(alloc, takes, usize::MAX),
-        second: Narrow::new(alloc, takes, room),
+    // Tries a writer that buffers so many bytes, and passes them on to one that is full after some: what
+    // that one has got when the call returns, and what is buffered then.
+    fn tries_buffered(&self, rt: &impl Abort, case: (usize, Takes, usize)) -> Result<(), Fail> {
+        let (alloc, (capacity, takes, room)) = (self.alloc, case);
+        let mut text = BufWriter::with_capacity(alloc, capacity, Narrow::new(alloc, takes, room))?;
+        let mut apart = BufWriter::with_capacity(alloc, capacity, Narrow::new(alloc, takes, room))?;
+        assert!(rt; self.answers_alike(rt, &mut text, &mut apart), "{case:?}");
+        assert!(rt; text.get_ref() == apart.get_ref(), "{case:?}");
+        assert!(rt; text.buffer() == apart.buffer(), "{case:?}");
+        Ok(())
     }
-}
 
-// Tries a writer over two others: what each has got.
-fn tries_both(rt: &impl Abort, alloc: Global, info: &[u8], takes: Takes, room: usize) {
-    let mut apart = both(alloc, takes, room);
-    let wanted = write_apart(alloc, info, &mut apart);
-    let mut text = both(alloc, takes, room);
-    let answer = write_text(alloc, info, &mut text);
-    assert_eq!(rt; answer, wanted, "{takes:?} with room for {room}");
-    compares(rt, &text.first, &apart.first, room);
-    compares(rt, &text.second, &apart.second, room);
-}
-
-// Tries a writer that has a `write_all` of its own.
-fn tries_own(rt: &impl Abort, alloc: Global, info: &[u8], room: usize) {
-    let mut apart = Own::new(alloc, room);
-    let wanted = write_apart(alloc, info, &mut apart);
-    let mut text = Own::new(alloc, room);
-    let answer = write_text(alloc, info, &mut text);
-    assert_eq!(rt; answer, wanted, "with room for {room}");
-    assert_eq!(rt; text.writes, apart.writes, "with room for {room}");
-    assert_eq!(rt; text.wholes, apart.wholes, "with room for {room}");
-    compares(rt, &text.inner, &apart.inner, room);
+    // Tries a list whose request for memory of this number is refused.
+    fn tries_refused(&self, rt: &impl Abort, number: u64) {
+        let heap = Failing::new(self.alloc, Refusal::Nth(number));
+        let heap_apart = Failing::new(self.alloc, Refusal::Nth(number));
+        let (mut text, mut apart) = (Vec::new(&heap), Vec::new(&heap_apart));
+        assert!(rt; self.answers_alike(rt, &mut text, &mut apart), "{number}");
+        assert_eq!(rt; heap.requests(), heap_apart.requests(), "{number}");
+        assert_eq!(rt; text.capacity(), apart.capacity(), "{number}");
+        assert!(rt; text == apart, "{number}");
+    }
 }
 
 // Rooms for some lines and more.
@@ -220,27 +152,27 @@ fn rooms_of(alloc: Global) -> Result<Vec<usize>, AllocError> {
     Ok(rooms)
 }
 
+// The ways of taking bytes that are tried with each of these rooms.
+const TAKES: [Takes; 7] = [
+    Takes::Whole,
+    Takes::Part,
+    Takes::Few,
+    Takes::WholeInterrupted,
+    Takes::WholeOrZero,
+    Takes::Record,
+    Takes::Piece,
+];
+
 #[test]
 fn take_what_lines_one_by_one_leave(rt: HostRuntime) -> Result<(), Fail> {
-    let alloc = rt.alloc();
-    let rooms = rooms_of(alloc)?;
+    let rooms = rooms_of(rt.alloc())?;
     // a line is 9 or 10 bytes long
     for count in [0u16, 1, 97, 98, 99, 100, 101, 102, 205, 330] {
-        // a null ends the rows, or a code that is not declared, whose line is written in parts
-        for last in [0u8, 7] {
-            let info = unit_bytes(alloc, count, FLAT, last)?;
-            for takes in [
-                Takes::Whole,
-                Takes::Part,
-                Takes::Few,
-                Takes::WholeInterrupted,
-                Takes::WholeOrZero,
-                Takes::Record,
-                Takes::Piece,
-            ] {
-                tries_rooms(&rt, alloc, &info, takes, &rooms);
+        for unit in units(rt.alloc(), &[(count, FLAT)], &LASTS)? {
+            for takes in TAKES {
+                unit.tries_rooms::<Narrow>(&rt, takes, &rooms);
             }
-            tries_rooms(&rt, alloc, &info, Takes::Interrupted, &[usize::MAX]);
+            unit.tries_rooms::<Narrow>(&rt, Takes::Interrupted, &[usize::MAX]);
         }
     }
     Ok(())
@@ -248,21 +180,11 @@ fn take_what_lines_one_by_one_leave(rt: HostRuntime) -> Result<(), Fail> {
 
 #[test]
 fn lose_no_error_that_comes_once(rt: HostRuntime) -> Result<(), Fail> {
-    let alloc = rt.alloc();
-    for (count, entries) in [(0u16, FLAT), (1, FLAT), (330, FLAT), (60, NESTED)] {
-        for last in [0u8, 7] {
-            let info = unit_bytes(alloc, count, entries, last)?;
-            for number in 0..20u64 {
-                let near = number.wrapping_add(1);
-                let far = number.wrapping_mul(23);
-                for takes in [
-                    Takes::AllBut(near),
-                    Takes::AllBut(far),
-                    Takes::ZeroAt(near),
-                    Takes::ZeroAt(far),
-                ] {
-                    tries_rooms(&rt, alloc, &info, takes, &[usize::MAX, 1000]);
-                }
+    for unit in units(rt.alloc(), &USUAL, &LASTS)? {
+        for number in 0..20u64 {
+            for call in [number.wrapping_add(1), number.wrapping_mul(23)] {
+                unit.tries_rooms::<Narrow>(&rt, Takes::AllBut(call), &[usize::MAX, 1000]);
+                unit.tries_rooms::<Narrow>(&rt, Takes::ZeroAt(call), &[usize::MAX, 1000]);
             }
         }
     }
@@ -271,17 +193,15 @@ fn lose_no_error_that_comes_once(rt: HostRuntime) -> Result<(), Fail> {
 
 #[test]
 fn reach_what_is_behind_a_buffer(rt: HostRuntime) -> Result<(), Fail> {
-    let alloc = rt.alloc();
-    for (count, entries) in [(1u16, FLAT), (330, FLAT), (1200, FLAT), (60, NESTED)] {
-        let info = unit_bytes(alloc, count, entries, 7)?;
+    let contents = [(1, FLAT), (330, FLAT), (1200, FLAT), (60, NESTED)];
+    for unit in units(rt.alloc(), &contents, &[7])? {
         for capacity in [0usize, 1, 9, 10, 64, 1000, 1024, 8192] {
             for room in [0usize, 1, 9, 500, 1024, 3000, 8192, usize::MAX] {
-                tries_buffered(&rt, alloc, &info, capacity, Takes::Part, room)?;
-                tries_buffered(&rt, alloc, &info, capacity, Takes::Whole, room)?;
+                unit.tries_buffered(&rt, (capacity, Takes::Part, room))?;
+                unit.tries_buffered(&rt, (capacity, Takes::Whole, room))?;
             }
             for number in [1u64, 2, 3, 40] {
-                let takes = Takes::AllBut(number);
-                tries_buffered(&rt, alloc, &info, capacity, takes, usize::MAX)?;
+                unit.tries_buffered(&rt, (capacity, Takes::AllBut(number), usize::MAX))?;
             }
         }
     }
@@ -290,13 +210,9 @@ fn reach_what_is_behind_a_buffer(rt: HostRuntime) -> Result<(), Fail> {
 
 #[test]
 fn ask_no_more_of_a_list(rt: HostRuntime) -> Result<(), Fail> {
-    let alloc = rt.alloc();
-    for (count, entries) in [(0u16, FLAT), (1, FLAT), (330, FLAT), (60, NESTED)] {
-        for last in [0u8, 7] {
-            let info = unit_bytes(alloc, count, entries, last)?;
-            for number in 0..20u64 {
-                tries_refused(&rt, alloc, &info, number);
-            }
+    for unit in units(rt.alloc(), &USUAL, &LASTS)? {
+        for number in 0..20u64 {
+            unit.tries_refused(&rt, number);
         }
     }
     Ok(())
@@ -304,27 +220,18 @@ fn ask_no_more_of_a_list(rt: HostRuntime) -> Result<(), Fail> {
 
 #[test]
 fn go_on_to_two_writers(rt: HostRuntime) -> Result<(), Fail> {
-    let alloc = rt.alloc();
-    for (count, entries) in [(1u16, FLAT), (330, FLAT), (60, NESTED)] {
-        let info = unit_bytes(alloc, count, entries, 0)?;
-        for room in [0usize, 9, 499, 500, 501, 505, 1024, usize::MAX] {
-            tries_both(&rt, alloc, &info, Takes::Whole, room);
-            tries_both(&rt, alloc, &info, Takes::Part, room);
-        }
+    let rooms = [0usize, 9, 499, 500, 501, 505, 1024, usize::MAX];
+    for unit in units(rt.alloc(), &USUAL, &[0])? {
+        unit.tries_rooms::<Both>(&rt, Takes::Whole, &rooms);
+        unit.tries_rooms::<Both>(&rt, Takes::Part, &rooms);
     }
     Ok(())
 }
 
 #[test]
 fn come_by_write_all_alone(rt: HostRuntime) -> Result<(), Fail> {
-    let alloc = rt.alloc();
-    for (count, entries) in [(0u16, FLAT), (1, FLAT), (330, FLAT), (60, NESTED)] {
-        for last in [0u8, 7] {
-            let info = unit_bytes(alloc, count, entries, last)?;
-            for room in [0usize, 9, 10, 500, 1024, usize::MAX] {
-                tries_own(&rt, alloc, &info, room);
-            }
-        }
+    for unit in units(rt.alloc(), &USUAL, &LASTS)? {
+        unit.tries_rooms::<Own>(&rt, Takes::Whole, &[0, 9, 10, 500, 1024, usize::MAX]);
     }
     Ok(())
 }

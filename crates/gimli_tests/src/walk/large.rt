@@ -1,22 +1,15 @@
-use crate::samples::{end_at, part, table_of, unit_of, whole};
+use crate::samples::{Entry, end_at, part, table_with, unit_of, whole};
 use gimli_base::{Error, LittleEndian, Reader, ReaderOffset};
-use gimli_units::{AttributeValue, DebuggingInformationEntry};
+use gimli_units::AttributeValue;
 use std::alloc::{AllocError, Global};
 use std::process::Abort;
 use std::test::Fail;
 
-// The number of the attributes, each of one byte.
+// The number of the attributes.
 const COUNT: u16 = 10_000;
 
-// A declaration of code 1: the tag 0x2e, no children, and so many attributes 0x03 of form data1.
-fn table_bytes(alloc: Global) -> Result<Vec<u8>, AllocError> {
-    let mut bytes = Vec::from_slice(alloc, &[0x01, 0x2e, 0x00])?;
-    for _ in 0..COUNT {
-        bytes.extend_from_slice(&[0x03, 0x0b])?;
-    }
-    bytes.extend_from_slice(&[0x00, 0x00, 0x00])?;
-    Ok(bytes)
-}
+// The name and the form of each: 0x03, of form data1.
+const DATA1: &[u8] = &[0x03, 0x0b];
 
 // An entry of code 1, and so many bytes more, which count up and begin again after 255.
 fn entry_bytes(alloc: Global, count: u16) -> Result<Vec<u8>, AllocError> {
@@ -29,7 +22,7 @@ fn entry_bytes(alloc: Global, count: u16) -> Result<Vec<u8>, AllocError> {
 }
 
 // Whether an entry has the attributes of the unit.
-fn has_values<R: Reader>(entry: &DebuggingInformationEntry<R, Global>) -> bool {
+fn has_values<R: Reader>(entry: &Entry<R>) -> bool {
     let attrs = entry.attrs();
     attrs.len() == usize::from(COUNT)
         && attrs.iter().zip(0..COUNT).all(|(attribute, number)| {
@@ -40,17 +33,15 @@ fn has_values<R: Reader>(entry: &DebuggingInformationEntry<R, Global>) -> bool {
 
 // Reads the entry, and passes its attributes.
 fn tries_entry<R: Reader>(rt: &impl Abort, alloc: Global, entries: R) -> Result<(), Fail> {
-    let table = table_of(alloc, &table_bytes(alloc)?)?;
+    let table = table_with(alloc, 0, DATA1, u32::from(COUNT))?;
     let unit = unit_of(rt, entries);
     let mut raw = unit.entries_raw(&table, None)?;
     let mut passed = raw.copy();
-    let mut entry = DebuggingInformationEntry::null(alloc);
+    let mut entry = Entry::null(alloc);
     assert!(rt; raw.read_entry(&mut entry) == Ok(true));
-    assert!(rt; has_values(&entry));
-    assert!(rt; raw.is_empty());
+    assert!(rt; has_values(&entry) && raw.is_empty());
     let declared = passed.read_abbreviation()?.expect(rt, "a null");
-    assert!(rt; passed.skip_attributes(declared.attributes()) == Ok(()));
-    assert!(rt; passed.is_empty());
+    assert!(rt; passed.skip_attributes(declared.attributes()) == Ok(()) && passed.is_empty());
     Ok(())
 }
 
@@ -63,20 +54,18 @@ fn reads_and_passes_10000_attributes(rt: HostRuntime) -> Result<(), Fail> {
 
 // Tries to read and to pass the entry where its last byte is missing: the readers stay where they stand.
 fn tries_cut_entry<R: Reader>(rt: &impl Abort, alloc: Global, entries: R) -> Result<(), Fail> {
-    let table = table_of(alloc, &table_bytes(alloc)?)?;
+    let table = table_with(alloc, 0, DATA1, u32::from(COUNT))?;
     let unit = unit_of(rt, entries);
     let mut raw = unit.entries_raw(&table, None)?;
-    let mut entry = DebuggingInformationEntry::null(alloc);
+    let mut entry = Entry::null(alloc);
     // the code and 9,999 bytes are there
     assert!(rt; raw.read_entry(&mut entry) == Err(end_at(10_100)));
     assert!(rt; entry.is_null() && entry.attrs().is_empty());
     assert!(rt; (raw.next_offset().0.into_u64(), raw.next_depth()) == (11, 0));
     let declared = raw.read_abbreviation()?.expect(rt, "a null");
     let mut attrs = Vec::new(alloc);
-    let answer = raw.read_attributes(declared.attributes(), &mut attrs);
-    assert!(rt; answer == Err(end_at(10_100)));
-    assert!(rt; attrs.is_empty());
-    assert!(rt; raw.next_offset().0.into_u64() == 12);
+    assert!(rt; raw.read_attributes(declared.attributes(), &mut attrs) == Err(end_at(10_100)));
+    assert!(rt; attrs.is_empty() && raw.next_offset().0.into_u64() == 12);
     let answer = raw.skip_attributes(declared.attributes());
     assert!(rt; matches!(answer, Err(Error::UnexpectedEof(_))));
     assert!(rt; raw.next_offset().0.into_u64() == 12);

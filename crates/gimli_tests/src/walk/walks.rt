@@ -4,10 +4,7 @@ use std::alloc::Global;
 use std::process::Abort;
 
 // A unit of eight entries without attributes.
-const EIGHT: [u8; 19] = [
-    0x0f, 0x00, 0x00, 0x00, 0x04, 0x00, 0x00, 0x00, 0x00, 0x00, 0x04, 0x01, 0x01, 0x01, 0x01, 0x01,
-    0x01, 0x01, 0x01,
-];
+const EIGHT: &[u8] = b"\x0f\0\0\0\x04\0\0\0\0\0\x04\x01\x01\x01\x01\x01\x01\x01\x01";
 
 const E: CursorStep = CursorStep::NextEntry;
 
@@ -17,7 +14,7 @@ const R: TreeStep = TreeStep::Root;
 fn requests_of(rt: &impl Abort, alloc: Global, mode: Mode<'_>) -> u64 {
     let heap = Failing::new(alloc, Refusal::Never);
     let mut out = Vec::new(alloc);
-    let status = walk_text(&heap, mode, &EIGHT, &[0x01, 0x34, 0, 0, 0, 0], &mut out);
+    let status = walk_text(&heap, mode, EIGHT, &[0x01, 0x34, 0, 0, 0, 0], &mut out);
     assert!(rt; status == Ok(0));
     heap.requests()
 }

@@ -28,22 +28,29 @@ pub(crate) enum Takes {
     AllBut(u64),
     /// As `Whole`, and it answers that it took none in the call of this number.
     ZeroAt(u64),
+    /// As `Whole`, and it fails when they are to be passed on.
+    PassesNothingOn,
+}
+
+/// A writer that is equal to another where both have got the same, by as many calls.
+pub(crate) trait Tried: Write + PartialEq + Drop {
+    /// One that was not called yet, takes bytes in this way, and has room for so many.
+    fn new(alloc: Global, takes: Takes, room: usize) -> Self;
 }
 
 /// A writer with room for so many bytes.
-#[derive(Drop)]
+#[derive(Drop, PartialEq)]
 pub(crate) struct Narrow {
     takes: Takes,
     room: usize,
-    /// The bytes that it took.
-    pub(crate) taken: Vec<u8>,
-    /// How often it was called.
-    pub(crate) calls: u64,
+    // The bytes that it took.
+    taken: Vec<u8>,
+    // How often it was called.
+    calls: u64,
 }
 
-impl Narrow {
-    /// One that was not called yet.
-    pub(crate) fn new(alloc: Global, takes: Takes, room: usize) -> Self {
+impl Tried for Narrow {
+    fn new(alloc: Global, takes: Takes, room: usize) -> Self {
         Narrow {
             takes,
             room,
@@ -51,7 +58,9 @@ impl Narrow {
             calls: 0,
         }
     }
+}
 
+impl Narrow {
     // How many of so many bytes it takes in this call, if it takes them.
     fn most(&self, length: usize) -> Result<usize, ErrorKind> {
         let fits = length <= self.room;
@@ -59,8 +68,7 @@ impl Narrow {
         match self.takes {
             Takes::Part => Ok(length),
             Takes::Few => Ok(length.min(7)),
-            Takes::Interrupted if is_odd => Err(ErrorKind::Interrupted),
-            Takes::WholeInterrupted if is_odd => Err(ErrorKind::Interrupted),
+            Takes::Interrupted | Takes::WholeInterrupted if is_odd => Err(ErrorKind::Interrupted),
             Takes::Interrupted => Ok(length),
             Takes::WholeOrZero if !fits => Ok(0),
             Takes::Record if length > 512 => Err(ErrorKind::Other),
@@ -90,15 +98,27 @@ impl Write for Narrow {
     }
 
     fn flush(&mut self) -> std::io::Result<()> {
-        Ok(())
+        match self.takes {
+            Takes::PassesNothingOn => Err(Error::from(ErrorKind::Other)),
+            _ => Ok(()),
+        }
     }
 }
 
-/// Passes all that it gets on to two writers, to one after the other.
-#[derive(Drop)]
+/// Passes all that it gets on to two writers, to one after the other, the second of which has little room.
+#[derive(Drop, PartialEq)]
 pub(crate) struct Both {
-    pub(crate) first: Narrow,
-    pub(crate) second: Narrow,
+    first: Narrow,
+    second: Narrow,
+}
+
+impl Tried for Both {
+    fn new(alloc: Global, takes: Takes, room: usize) -> Self {
+        Both {
+            first: Narrow::new(alloc, takes, usize::MAX),
+            second: Narrow::new(alloc, takes, room),
+        }
+    }
 }
 
 impl Write for Both {
@@ -115,21 +135,20 @@ impl Write for Both {
     }
 }
 
-/// A writer whose `write_all` is its own, and takes all or none; its `write` is counted apart.
-#[derive(Drop)]
+/// A writer whose `write_all` is its own; its `write` is counted apart.
+#[derive(Drop, PartialEq)]
 pub(crate) struct Own {
-    pub(crate) inner: Narrow,
-    /// How often `write` was called.
-    pub(crate) writes: u64,
-    /// How often `write_all` was called.
-    pub(crate) wholes: u64,
+    inner: Narrow,
+    // How often `write` was called.
+    writes: u64,
+    // How often `write_all` was called.
+    wholes: u64,
 }
 
-impl Own {
-    /// One that was not called yet, with room for so many bytes.
-    pub(crate) fn new(alloc: Global, room: usize) -> Self {
+impl Tried for Own {
+    fn new(alloc: Global, takes: Takes, room: usize) -> Self {
         Own {
-            inner: Narrow::new(alloc, Takes::Whole, room),
+            inner: Narrow::new(alloc, takes, room),
             writes: 0,
             wholes: 0,
         }

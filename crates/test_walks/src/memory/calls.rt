@@ -1,41 +1,133 @@
 //! The calls that a case can name.
 
+use crate::entries::write_found;
+use crate::memory::cursors::{Cursor, Raw, write_values};
+use crate::memory::trees::{Tree, write_lent};
 use crate::memory::trial::{Heap, Trial};
-use crate::memory::units::Stage;
+use crate::memory::walks::{Given, write_walk};
+use crate::runs::write_section_run;
+use crate::texts::write_with_status;
+use crate::units::Stage;
 use gimli_base::{Abbreviations, Reader, ReaderOffset};
+use gimli_headers::first_false_sibling;
 use gimli_lists::DebugAranges;
-use gimli_units::UnitOffset;
+use gimli_units::DebuggingInformationEntry;
 use gimli_walk::unit_of_address;
 use std::io::Write;
-use test_tables::{Call, Outcome, first_unit, write_section_run, write_with_status};
+use test_tables::Outcome;
 
-/// Makes the call of a case, and writes what it answers.
-pub(crate) fn write_call<R: Reader>(
-    call: &Call<'_, R>,
-    trial: Trial<'_>,
-    out: &mut Vec<u8>,
-) -> Outcome {
-    let heap = &trial.heaps.failing;
-    match call.name() {
-        "text" | "words" => write_with_status(call, heap, 1, out),
-        "units" | "type_units" | "ranges" | "locations" => write_section_run(call, heap, out),
-        "unit_of_address" => write_unit_of(call, out),
-        "table" => {
-            let (_, table) = first_unit(call, heap)?;
-            write_table(&table, out)
+impl<'s, 'c, R: Reader> Trial<'s, 'c, R> {
+    /// Makes the call, and writes what it answers.
+    pub(crate) fn write(&self, out: &mut Vec<u8>) -> Outcome {
+        let (call, heap) = (self.call, &self.failing);
+        match call.name() {
+            "text" | "words" => write_with_status(call, heap, 1, out),
+            "units" | "type_units" | "ranges" | "locations" => write_section_run(call, heap, out),
+            "unit_of_address" => self.write_unit_of(out),
+            "table" => write_table(&Stage::new(call, heap)?.table, out),
+            _ => self.write_staged(out),
         }
-        _ => {
-            let (unit, table) = first_unit(call, &trial.heaps.ample)?;
-            let stage = Stage {
-                call,
-                trial,
-                unit,
-                table,
-                start: call.offset(1).unwrap_or(None).map(UnitOffset),
-                letters: call.case.word(1).unwrap_or("").as_bytes(),
-            };
-            stage.write(out)
+    }
+
+    // Makes a call over a unit and its table, which are kept where no memory is refused.
+    fn write_staged(&self, out: &mut Vec<u8>) -> Outcome {
+        let stage = Stage::new(self.call, &self.ample)?;
+        match self.call.name() {
+            "entry" => self.write_entry(&stage, out),
+            "check" => self.write_check(&stage, out),
+            "run_cursor" | "run_plain" | "run_tree" => {
+                stage.write_run_of(self.call.name(), &self.failing, out)
+            }
+            _ => self.write_walk_over(&stage, out),
         }
+    }
+
+    // Writes the steps of a walk, or what a tree lends.
+    fn write_walk_over<'h>(&'h self, stage: &Stage<R, Heap<'h>>, out: &mut Vec<u8>) -> Outcome {
+        match self.call.name() {
+            "raw" => self.write_raw(stage, out),
+            "cursor" | "clone" | "plain" => self.write_cursor(stage, out),
+            "nodes" => self.write_nodes(stage, out),
+            "walker" => Ok(write_walk(self.given(), &mut stage.walker(&self.failing)?, out)?),
+            _ => self.write_tree(stage, out),
+        }
+    }
+
+    // Writes the offset of the unit of an address.
+    fn write_unit_of(&self, out: &mut Vec<u8>) -> Outcome {
+        let aranges = DebugAranges::from(self.call.section(0)?);
+        match unit_of_address(&aranges, self.call.number(1)?)? {
+            Some(offset) => writeln!(out, "unit {:x}", offset.0.into_u64())?,
+            None => writeln!(out, "none")?,
+        }
+        Ok(())
+    }
+
+    // Writes the entry at an offset.
+    fn write_entry<'h>(&'h self, stage: &Stage<R, Heap<'h>>, out: &mut Vec<u8>) -> Outcome {
+        let entry = stage.entry(&self.failing)?;
+        write!(out, "yes")?;
+        write_found(Some(&entry), true, out)?;
+        write_values(entry.attrs(), out)?;
+        Ok(writeln!(out)?)
+    }
+
+    // Writes the first entry whose sibling reference is false.
+    fn write_check<'h>(&'h self, stage: &Stage<R, Heap<'h>>, out: &mut Vec<u8>) -> Outcome {
+        match first_false_sibling(&self.failing, &stage.unit, &stage.table)? {
+            None => writeln!(out, "honest")?,
+            Some(offset) => writeln!(out, "false {:x}", offset.0.into_u64())?,
+        }
+        Ok(())
+    }
+
+    // What the steps of a walk are taken with.
+    fn given(&self) -> Given<'_> {
+        (&self.failing, self.number, self.call.case.word(1))
+    }
+
+    // The allocator of a walk: where memory is refused for its clones alone, the one that refuses nothing.
+    fn made(&self) -> Heap<'_> {
+        match self.call.name() {
+            "clone" | "clone_tree" => &self.ample,
+            _ => &self.failing,
+        }
+    }
+
+    // Writes what is read one after the other.
+    fn write_raw<'h>(&'h self, stage: &Stage<R, Heap<'h>>, out: &mut Vec<u8>) -> Outcome {
+        let heap = &self.failing;
+        let mut walk = Raw {
+            raw: stage.raw()?,
+            entry: DebuggingInformationEntry::null(heap),
+            table: &stage.table,
+            heap,
+        };
+        Ok(write_walk(self.given(), &mut walk, out)?)
+    }
+
+    // Writes the root of a tree and its children. Where memory is refused, the tree begins anew.
+    fn write_nodes<'h>(&'h self, stage: &Stage<R, Heap<'h>>, out: &mut Vec<u8>) -> Outcome {
+        let mut tree = stage.tree(&self.failing)?;
+        write_lent(&mut tree, out)?;
+        if self.failing.requests() >= self.number {
+            write_lent(&mut tree, out)?;
+        }
+        Ok(())
+    }
+
+    // Writes the steps of a cursor, whose clones are made with the allocator that refuses.
+    fn write_cursor<'h>(&'h self, stage: &Stage<R, Heap<'h>>, out: &mut Vec<u8>) -> Outcome {
+        let cursor = stage.cursor(self.made(), self.call.name() != "plain")?;
+        let heap = &self.failing;
+        Ok(write_walk(self.given(), &mut Cursor { cursor, heap }, out)?)
+    }
+
+    // Writes the steps of a tree, whose clones are made with the allocator that refuses.
+    fn write_tree<'h>(&'h self, stage: &Stage<R, Heap<'h>>, out: &mut Vec<u8>) -> Outcome {
+        let tree = stage.tree(self.made())?;
+        let heap = &self.failing;
+        Ok(write_walk(self.given(), &mut Tree { tree, heap }, out)?)
     }
 }
 
@@ -50,17 +142,4 @@ fn write_table(table: &Abbreviations<Heap<'_>>, out: &mut Vec<u8>) -> Outcome {
         }
     }
     Ok(writeln!(out, "end")?)
-}
-
-// Writes the offset of the unit of an address.
-fn write_unit_of<R: Reader>(call: &Call<'_, R>, out: &mut Vec<u8>) -> Outcome {
-    let aranges = DebugAranges::from(call.section(0)?);
-    match unit_of_address(&aranges, call.number(1)?)? {
-        Some(offset) => {
-            let offset = offset.0.into_u64();
-            writeln!(out, "unit {offset:x}")?;
-        }
-        None => writeln!(out, "none")?,
-    }
-    Ok(())
 }

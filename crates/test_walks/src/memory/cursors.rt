@@ -1,12 +1,14 @@
 //! Walks of cursors, and of the reader of entries.
 
+use crate::cursors::{take_step, write_stand};
+use crate::entries::{write_found, write_places};
 use crate::memory::trial::Heap;
-use crate::memory::units::write_values;
 use crate::memory::walks::Walk;
 use gimli_base::{Abbreviations, Reader, ReaderOffset, Result};
-use gimli_units::{DebuggingInformationEntry, EntriesCursor, EntriesRaw};
-use std::io::Write;
-use test_tables::{Outcome, Place, take_step, write_counted};
+use gimli_units::{
+    Attribute, AttributeValue, DebuggingInformationEntry, EntriesCursor, EntriesRaw,
+};
+use std::io::{self, Write};
 
 /// A cursor, and the allocator that a clone of it is made with.
 #[derive(Drop)]
@@ -25,11 +27,9 @@ impl<'table, 'h, R: Reader> Walk for Cursor<'table, 'h, R> {
         Ok(true)
     }
 
-    fn show(&self, out: &mut Vec<u8>) -> Outcome {
-        write_counted(self.cursor.current(), out)?;
-        Place::of(&self.cursor).write(out)?;
-        let reads = self.cursor.reads();
-        Ok(write!(out, " reads {reads}")?)
+    fn show(&self, out: &mut Vec<u8>) -> io::Result<()> {
+        write_stand(&self.cursor, out)?;
+        write!(out, " reads {}", self.cursor.reads())
     }
 }
 
@@ -43,6 +43,19 @@ pub(crate) struct Raw<'table, 'h, R: Reader> {
     pub(crate) heap: Heap<'h>,
 }
 
+impl<'table, 'h, R: Reader> Raw<'table, 'h, R> {
+    // Reads the attributes of a code.
+    fn read_values(&mut self, code: u8) -> Result<bool> {
+        let specifications = match self.table.get(u64::from(code)) {
+            Some(declared) => declared.attributes(),
+            None => &[],
+        };
+        self.raw
+            .read_attributes(specifications, &mut self.entry.attrs)?;
+        Ok(true)
+    }
+}
+
 impl<'table, 'h, R: Reader> Walk for Raw<'table, 'h, R> {
     // `x` reads an entry, a digit the attributes of that code; `c` puts a clone in the entry's place.
     fn take(&mut self, letter: u8) -> Result<bool> {
@@ -52,31 +65,33 @@ impl<'table, 'h, R: Reader> Walk for Raw<'table, 'h, R> {
                 self.entry = self.entry.try_clone(self.heap)?;
                 Ok(true)
             }
-            b'0'..=b'9' => {
-                let specifications = match self.table.get(u64::from(letter - b'0')) {
-                    Some(declared) => declared.attributes(),
-                    None => &[],
-                };
-                self.raw
-                    .read_attributes(specifications, &mut self.entry.attrs)?;
-                Ok(true)
-            }
+            b'0'..=b'9' => self.read_values(letter - b'0'),
             _ => Ok(false),
         }
     }
 
-    fn show(&self, out: &mut Vec<u8>) -> Outcome {
+    fn show(&self, out: &mut Vec<u8>) -> io::Result<()> {
         let entry = &self.entry;
-        if !entry.is_null() {
-            write_counted(Some(entry), out)?;
-        }
-        let place = Place {
-            offset: entry.offset().0.into_u64(),
-            depth: entry.depth(),
-            next_offset: self.raw.next_offset().0.into_u64(),
-            next_depth: self.raw.next_depth(),
-        };
-        place.write(out)?;
+        let read = if entry.is_null() { None } else { Some(entry) };
+        write_found(read, true, out)?;
+        let last = (entry.offset().0.into_u64(), entry.depth());
+        let next = (self.raw.next_offset().0.into_u64(), self.raw.next_depth());
+        write_places(last, next, out)?;
         write_values(entry.attrs(), out)
     }
+}
+
+/// Writes the values of attributes of one byte, and of references.
+pub(crate) fn write_values<R: Reader>(of: &[Attribute<R>], out: &mut Vec<u8>) -> io::Result<()> {
+    write!(out, " has")?;
+    for attribute in of {
+        let value = attribute.raw_value();
+        match &value {
+            AttributeValue::Data1(byte) => write!(out, " {byte:x}")?,
+            AttributeValue::UnitRef(offset) => write!(out, " to {:x}", offset.0.into_u64())?,
+            AttributeValue::String(text) => write!(out, " text {}", text.len().into_u64())?,
+            _ => write!(out, " other")?,
+        }
+    }
+    Ok(())
 }

@@ -1,11 +1,13 @@
 //! Walks of trees.
 
-use crate::memory::trial::{Heap, Trial};
+use crate::entries::write_found;
+use crate::memory::trial::Heap;
 use crate::memory::walks::Walk;
+use crate::trees::take_step;
 use gimli_base::{Reader, ReaderOffset, Result};
 use gimli_units::{EntriesTree, EntriesTreeIter, EntriesTreeWalker};
-use std::io::Write;
-use test_tables::{Outcome, write_counted, write_refusal};
+use std::io::{self, Write};
+use test_tables::write_refusal;
 
 /// A tree, and the allocator that a clone of it is made with.
 #[derive(Drop)]
@@ -19,107 +21,88 @@ impl<'table, 'h, R: Reader> Walk for Tree<'table, 'h, R> {
     // tree's place.
     fn take(&mut self, letter: u8) -> Result<bool> {
         match letter {
-            b'r' => {
-                self.tree.go_to_root()?;
-                Ok(true)
-            }
-            b'n' => self.tree.go_to_next(1),
-            b'm' => self.tree.go_to_next(2),
-            b'c' => {
-                self.tree = self.tree.try_clone(self.heap)?;
-                Ok(true)
-            }
-            _ => Ok(false),
+            b'r' => self.tree.go_to_root()?,
+            b'n' => return self.tree.go_to_next(1),
+            b'm' => return self.tree.go_to_next(2),
+            b'c' => self.tree = self.tree.try_clone(self.heap)?,
+            _ => return Ok(false),
         }
+        Ok(true)
     }
 
-    fn show(&self, out: &mut Vec<u8>) -> Outcome {
+    fn show(&self, out: &mut Vec<u8>) -> io::Result<()> {
         let entry = self.tree.entry();
-        if !entry.is_null() {
-            write_counted(Some(entry), out)?;
-        }
-        let offset = entry.offset().0.into_u64();
-        let depth = entry.depth();
-        let next_depth = self.tree.next_depth();
-        let reads = self.tree.reads();
-        Ok(write!(out, " at {offset:x} {depth} > {next_depth} reads {reads}")?)
+        let read = if entry.is_null() { None } else { Some(entry) };
+        write_found(read, true, out)?;
+        let (offset, depth) = (entry.offset().0.into_u64(), entry.depth());
+        let (next, reads) = (self.tree.next_depth(), self.tree.reads());
+        write!(out, " at {offset:x} {depth} > {next} reads {reads}")
     }
 }
 
 impl<'table, 'h, R: Reader> Walk for EntriesTreeWalker<'table, R, Heap<'h>> {
-    // `r` asks for the root, `n` for the next node; `i` enters a node, and `o` leaves a list.
     fn take(&mut self, letter: u8) -> Result<bool> {
-        match letter {
-            b'r' => {
-                self.root()?;
-                Ok(true)
-            }
-            b'n' => self.next(),
-            b'i' => self.enter(),
-            b'o' => Ok(self.leave()),
-            _ => Ok(false),
-        }
+        take_step(self, letter)
     }
 
-    fn show(&self, out: &mut Vec<u8>) -> Outcome {
-        write_counted(self.entry(), out)?;
-        let lists = self.list_count();
-        let reads = self.reads();
-        Ok(write!(out, " in {lists} reads {reads}")?)
+    fn show(&self, out: &mut Vec<u8>) -> io::Result<()> {
+        write_found(self.entry(), true, out)?;
+        let (lists, reads) = (self.list_count(), self.reads());
+        write!(out, " in {lists} reads {reads}")
     }
 }
 
-// Writes the next child of a list, which it lends, or that there is none, or a refusal; after those a list
-// has no child any more. Answers whether there was a child.
+// Writes the next child of a list, which it lends, or that there is none, or a refusal. Answers whether there
+// was a child.
 fn write_child<R: Reader>(
     list: &mut EntriesTreeIter<'_, '_, R, Heap<'_>>,
     out: &mut Vec<u8>,
-) -> Outcome<bool> {
-    match list.next() {
-        Ok(Some(child)) => {
+) -> io::Result<bool> {
+    let child = list.next();
+    match &child {
+        Ok(Some(node)) => {
             write!(out, "yes")?;
-            write_counted(Some(child.entry()), out)?;
-            writeln!(out)?;
-            return Ok(true);
+            write_found(Some(node.entry()), true, out)?;
         }
         Ok(None) => write!(out, "no")?,
-        Err(error) => write_refusal(out, error)?,
+        Err(error) => write_refusal(out, *error)?,
     }
     writeln!(out)?;
-    if !matches!(list.next(), Ok(None)) {
-        writeln!(out, "goes on")?;
-    }
-    Ok(false)
+    Ok(matches!(child, Ok(Some(_))))
 }
 
-/// Writes the root of a tree and its children, as the tree lends them. Where memory is refused, the tree
-/// begins anew.
-pub(crate) fn write_nodes<R: Reader>(
-    trial: Trial<'_>,
-    tree: &mut EntriesTree<'_, R, Heap<'_>>,
+// Writes the children of a list. After the last, and after a refusal, it has no child any more.
+fn write_children<R: Reader>(
+    list: &mut EntriesTreeIter<'_, '_, R, Heap<'_>>,
     out: &mut Vec<u8>,
-) -> Outcome {
-    for _ in 0..2u8 {
-        match tree.root() {
-            Ok(root) => {
-                write!(out, "root")?;
-                write_counted(Some(root.entry()), out)?;
-                writeln!(out)?;
-                let mut list = root.children();
-                for _ in 0..u64::MAX {
-                    if !write_child(&mut list, out)? {
-                        break;
-                    }
-                }
-            }
-            Err(error) => {
-                write_refusal(out, error)?;
-                writeln!(out)?;
-            }
-        }
-        if trial.heaps.failing.requests() < trial.number {
+) -> io::Result<()> {
+    for _ in 0..u64::MAX {
+        if !write_child(list, out)? {
             break;
         }
     }
+    if !matches!(list.next(), Ok(None)) {
+        writeln!(out, "goes on")?;
+    }
     Ok(())
+}
+
+/// Writes the root of a tree and its children, as the tree lends them.
+pub(crate) fn write_lent<R: Reader>(
+    tree: &mut EntriesTree<'_, R, Heap<'_>>,
+    out: &mut Vec<u8>,
+) -> io::Result<()> {
+    match tree.root() {
+        Ok(root) => {
+            write!(out, "root")?;
+            write_found(Some(root.entry()), true, out)?;
+            writeln!(out)?;
+            let mut list = root.children();
+            write_children(&mut list, out)
+        }
+        Err(error) => {
+            write_refusal(out, error)?;
+            writeln!(out)
+        }
+    }
 }

@@ -18,35 +18,30 @@ fn mark_of(call: &str) -> (&'static str, bool, bool) {
 
 /// The answer of a case: all lines of the call, and what it says of its requests for memory.
 #[derive(Drop)]
-pub(crate) struct Wanted {
+pub(crate) struct Wanted<'a> {
     /// The lines, each with its end.
     pub(crate) text: String,
-    /// What is told where each request is refused: `0` where there are none, and `..` for the usual words,
-    /// and for any that follow.
-    pub(crate) asks: String,
-    /// The usual words, which stand after whole lines.
-    pub(crate) words: String,
+    // what is told where each request is refused: `0` where there are none, and `..` for the usual words,
+    // and for any that follow
+    asks: &'a str,
+    // the usual words, which stand after whole lines
+    words: &'static str,
     /// Whether the case itself makes the call again.
     pub(crate) goes_on: bool,
     /// Whether a request is refused alone too.
     pub(crate) alone: bool,
 }
 
-impl Wanted {
+impl<'a> Wanted<'a> {
     /// The answer of a call that a table writes: lines joined by `; `, and after `asks ` what is told of
     /// each request.
-    pub(crate) fn new(alloc: Global, answer: &str, call: &str) -> Result<Wanted, AllocError> {
+    pub(crate) fn new(alloc: Global, answer: &'a str, call: &str) -> Result<Self, AllocError> {
         let (lines, asks) = answer.split_once("asks ").unwrap_or((answer, ".."));
-        let mut text = String::new(alloc);
-        for line in lines.split("; ") {
-            if !line.is_empty() {
-                text.push_str(line)?;
-                text.push_str("\n")?;
-            }
+        let mut text = lines.replace(alloc, "; ", "\n")?;
+        if !text.is_empty() && !text.ends_with("\n") {
+            text.push_str("\n")?;
         }
-        let asks = String::from_str(alloc, asks)?;
         let (words, goes_on, alone) = mark_of(call);
-        let words = String::from_str(alloc, words)?;
         Ok(Wanted {
             text,
             asks,
@@ -56,47 +51,59 @@ impl Wanted {
         })
     }
 
-    /// What is told where the request of a number is refused, and whether so many are made at least; or
-    /// none where so many are not made.
-    pub(crate) fn told_at(&self, number: u64) -> Option<(&str, bool)> {
+    // What is told where the request of a number is refused, and whether so many are made at least; or
+    // none where so many are not made.
+    fn told_at(&self, number: u64) -> Option<(&str, bool)> {
         let mut left = number;
         for told in self.asks.split(", ") {
             left = left.saturating_sub(1);
             if left == 0 && told != "0" {
-                if told == ".." {
-                    return Some((&self.words, true));
-                }
-                return Some((told, true));
+                return Some((if told == ".." { self.words } else { told }, true));
             }
         }
         if self.asks.ends_with("..") {
-            return Some((&self.words, false));
+            return Some((self.words, false));
         }
         None
     }
 
-    /// Whether a text is whole lines from the front of the answer, and not all of them.
-    pub(crate) fn has_front(&self, front: &str) -> bool {
-        match self.text.strip_prefix(front) {
-            Some(left) => {
-                (front.is_empty() || front.ends_with("\n"))
-                    && !left.is_empty()
-                    && !left.starts_with("status")
-            }
-            None => false,
-        }
+    /// Whether a call of which no request was refused answers in full.
+    pub(crate) fn is_whole(&self, number: u64, found: &str) -> bool {
+        let is_due = matches!(self.told_at(number), Some((_, true)));
+        found == self.text.as_str() && !is_due
     }
 
-    /// Whether a text is that of a refused call: whole lines from the front, what is told, and after that
-    /// nothing, or the lines that the call answers when it is made again.
-    pub(crate) fn is_cut(&self, told: &str, found: &str, alone: bool) -> bool {
+    /// Whether a call whose request of a number was refused, and the one after it, answer as is wanted.
+    pub(crate) fn is_told(&self, number: u64, alone: bool, (found, again): (&str, &str)) -> bool {
+        let (Some((told, _)), Some((first, _))) = (self.told_at(number), self.told_at(1)) else {
+            return false;
+        };
+        let is_again = if alone {
+            again == self.text.as_str()
+        } else {
+            // each of its requests is refused, and so the first
+            self.is_cut(first, again, false)
+        };
+        self.is_cut(told, found, alone) && is_again
+    }
+
+    // Whether a text is whole lines from the front of the answer, and not all of them.
+    fn has_front(&self, front: &str) -> bool {
+        let left = self.text.strip_prefix(front).unwrap_or("");
+        let is_lines = front.is_empty() || front.ends_with("\n");
+        is_lines && !left.is_empty() && !left.starts_with("status")
+    }
+
+    // Whether a text is that of a refused call: whole lines from the front, what is told, and after that
+    // nothing, or the lines that the call answers when it is made again.
+    fn is_cut(&self, told: &str, found: &str, alone: bool) -> bool {
         let Some((front, rest)) = found.split_once(told) else {
             return false;
         };
         let Some((tail, behind)) = rest.split_once("\n") else {
             return false;
         };
-        let is_told = tail.is_empty() || told == self.words.as_str();
+        let is_told = tail.is_empty() || told == self.words;
         let is_whole = behind == self.text.as_str()
             || self.text.strip_prefix(front) == Some(behind);
         is_told
@@ -106,11 +113,9 @@ impl Wanted {
 
     // Whether a text is that of a call that was refused once more.
     fn is_cut_again(&self, found: &str) -> bool {
-        match found.split_once(self.words.as_str()) {
-            Some((front, rest)) => {
-                self.has_front(front) && rest.split_once(self.words.as_str()).is_none()
-            }
-            None => false,
-        }
+        let Some((front, rest)) = found.split_once(self.words) else {
+            return false;
+        };
+        self.has_front(front) && rest.split_once(self.words).is_none()
     }
 }

@@ -1,37 +1,43 @@
 //! The entries of a unit, in a row and by their offsets.
 
+use crate::entries::write_entry;
+use crate::units::Stage;
 use gimli_base::{Reader, ReaderOffset};
-use gimli_units::{AttributeValue, DebuggingInformationEntry, UnitOffset};
+use gimli_units::{AttributeValue, DebuggingInformationEntry, EntriesRaw};
 use std::alloc::Global;
 use std::io::Write;
-use test_tables::{Call, Outcome, first_unit, write_entry, write_refusal};
+use test_tables::{Call, Outcome, write_refusal};
 
 /// Writes each row of the unit, up to its end or to a refusal, and then what is read next.
 pub(crate) fn write_raw<R: Reader>(call: &Call<'_, R>, out: &mut Vec<u8>) -> Outcome {
-    let (unit, table) = first_unit(call, call.alloc)?;
-    let mut raw = unit.entries_raw(&table, None)?;
+    let stage = Stage::new(call, call.alloc)?;
+    let mut raw = stage.raw()?;
     let mut entry = DebuggingInformationEntry::null(call.alloc);
     for _ in 0..u64::MAX {
-        if raw.is_empty() {
-            break;
-        }
-        let answer = raw.read_entry(&mut entry);
-        match answer {
-            Ok(true) => write_entry(&entry, out)?,
-            Ok(false) => {
-                write!(out, "null ")?;
-                write_entry(&entry, out)?;
-            }
-            Err(error) => write_refusal(out, error)?,
-        }
-        writeln!(out)?;
-        if answer.is_err() {
+        if raw.is_empty() || !write_row(&mut raw, &mut entry, out)? {
             break;
         }
     }
-    let next = raw.next_offset().0.into_u64();
-    let depth = raw.next_depth();
+    let (next, depth) = (raw.next_offset().0.into_u64(), raw.next_depth());
     Ok(writeln!(out, "next {next:x} {depth}")?)
+}
+
+// Reads a row and writes it, a null with the word before it. Answers whether it was read.
+fn write_row<R: Reader>(
+    raw: &mut EntriesRaw<'_, R, Global>,
+    entry: &mut DebuggingInformationEntry<R, Global>,
+    out: &mut Vec<u8>,
+) -> Outcome<bool> {
+    let answer = raw.read_entry(entry);
+    if answer == Ok(false) {
+        write!(out, "null ")?;
+    }
+    match answer {
+        Ok(_) => write_entry(entry, out)?,
+        Err(error) => write_refusal(out, error)?,
+    }
+    writeln!(out)?;
+    Ok(answer.is_ok())
 }
 
 // Writes an entry with its attributes: the name of each, and its value, or the place and the length of a
@@ -56,8 +62,8 @@ fn write_whole<R: Reader>(
 
 /// Writes each entry of a cursor in depth-first order.
 pub(crate) fn write_entries<R: Reader>(call: &Call<'_, R>, out: &mut Vec<u8>) -> Outcome {
-    let (unit, table) = first_unit(call, call.alloc)?;
-    let mut cursor = unit.entries(call.alloc, &table);
+    let stage = Stage::new(call, call.alloc)?;
+    let mut cursor = stage.cursor(call.alloc, true)?;
     for _ in 0..u64::MAX {
         match cursor.next_dfs()? {
             Some(entry) => write_whole(entry, out)?,
@@ -69,8 +75,6 @@ pub(crate) fn write_entries<R: Reader>(call: &Call<'_, R>, out: &mut Vec<u8>) ->
 
 /// Writes the entry at an offset of the unit, or at 0.
 pub(crate) fn write_entry_at<R: Reader>(call: &Call<'_, R>, out: &mut Vec<u8>) -> Outcome {
-    let (unit, table) = first_unit(call, call.alloc)?;
-    let offset = UnitOffset(call.offset_or_zero(1)?);
-    let entry = unit.entry(call.alloc, &table, offset)?;
-    write_whole(&entry, out)
+    let stage = Stage::new(call, call.alloc)?;
+    write_whole(&stage.entry(call.alloc)?, out)
 }

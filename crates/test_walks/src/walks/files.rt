@@ -9,12 +9,7 @@ use test_tables::{Case, Outcome};
 /// The words of the case are that word and `NAME`, and the files lie in a folder. The lines of `check` are
 /// written; those of another word are compared with `NAME.WORD`, and what is written is whether they are
 /// the same, or else from which line on they are others.
-pub(crate) fn write_file(
-    rt: &HostRuntime,
-    folder: &str,
-    case: &Case,
-    out: &mut Vec<u8>,
-) -> Outcome {
+pub(crate) fn try_file(rt: &HostRuntime, folder: &str, case: &Case, out: &mut Vec<u8>) -> Outcome {
     let alloc = rt.alloc();
     let word = case.word(1).unwrap_or("");
     let name = case.word(2).unwrap_or("");
@@ -43,9 +38,7 @@ fn write_difference(wanted: &[u8], found: &[u8], out: &mut Vec<u8>) -> Outcome {
         if byte != other {
             break;
         }
-        if *byte == b'\n' {
-            line = line.saturating_add(1);
-        }
+        line = line.saturating_add(u64::from(*byte == b'\n'));
     }
     Ok(writeln!(out, "other lines, from line {line}")?)
 }
