@@ -217,7 +217,7 @@ class Dwarf:
         """The next sibling of the row at an offset, as a tuple, or None.
 
         With follows references are followed: the answer is the same where first_false finds none
-        in the unit; where it finds one, it may be any row.
+        in the unit; where it finds one, it may be any row behind the offset.
         """
         row = self.found("sibling", Row(), unit.offset, byref(Place(offset, depth)), follows)
         return row and row_of(row)

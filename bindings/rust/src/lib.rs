@@ -329,7 +329,7 @@ impl<'a> Sections<'a> {
 
     /// The next sibling of the row at a place, if there is one. With `follows` references are
     /// followed: the answer is the same where `first_false_sibling` finds none in the unit; where
-    /// it finds one, it may be any row.
+    /// it finds one, it may be any row behind the place. So a loop from sibling to sibling ends.
     pub fn next_sibling(
         &self,
         unit: &UnitHeader,

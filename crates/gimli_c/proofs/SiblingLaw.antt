@@ -1,6 +1,6 @@
 -- The next sibling of a row, by a cursor.
-use Rattle.std.proofs.Common.{◌≡◌, ℕ, ◌-◌, pos, ℤ, Bool, true, false, if◌then◌else◌, Ok, Err, refl}
-use Rattle.std.proofs.Common.{sym, ap, ◌∙◌}
+use Rattle.std.proofs.Common.{◌≡◌, ◌≤◌, ℕ, ◌-◌, pos, ℤ, Bool, true, false, if◌then◌else◌, Ok, Err}
+use Rattle.std.proofs.Common.{Some, Result, refl, sym, ap, ◌∙◌, length}
 use Rattle.gimli_base.specs.declared.error.Error.{Error}
 use Rattle.gimli_base.specs.declared.error.Error.TheVariants.{OffsetOutOfBounds}
 use Rattle.gimli_base.specs.Offset.{answer_of}
@@ -11,7 +11,8 @@ use Rattle.gimli_units.specs.CursorMoves.{CursorView, place_of, IsHonestFor}
 use Rattle.gimli_units.specs.CursorPlace.{Place, Moved, next_row, next_of_depth}
 use Rattle.gimli_units.specs.CursorMoves.{IsHonestCursor}
 use Rattle.gimli_units.proofs.PlaceLaw.{honest_for, honest_next}
-use Rattle.gimli_units.specs.RawPlace.{RawPlace}
+use Rattle.gimli_units.proofs.Bounds.{begins_at}
+use Rattle.gimli_units.specs.RawPlace.{RawPlace, next_offset_of}
 use Rattle.gimli_units.specs.CursorStart.{before_first, cursor_from}
 use Rattle.gimli_units.specs.Unit.{UnitView, whole_length, header_size, in_bounds, range_from}
 use Rattle.gimli_units.specs.Unit.{entries_in, entries_from}
@@ -83,6 +84,18 @@ module _ (limit : ℕ) (u : UnitView) (t : Table) (follows : Bool) (offset : ℕ
       cases true known e = let same : c ≡ before_first follows there = cc in
           rw (same, ← known) (refl, refl)
       cases false known e = absurd (cc)
+
+  -- and reads there first
+  pub begins_from : (c : CursorView) → Ok c ≡ cursor_from u t follows offset
+      → length u.entries.bytes ≤ whole_length u → next_offset_of c.raw ≡ offset
+  begins_from c is fits = cases (entries_from u t (Some offset)) refl is
+    where
+      cases : (r : Result RawPlace Error) → r ≡ entries_from u t (Some offset)
+          → Ok c ≡ answer_of (before_first follows) r → next_offset_of c.raw ≡ offset
+      cases (Ok p) known e =
+          let same : c ≡ before_first follows p = cc in
+          ap (λ (d : CursorView). next_offset_of d.raw) same ∙ begins_at u t offset p fits known
+      cases (Err x) known e = absurd (cc)
 
   -- an offset out of bounds is refused
   pub sibling_refused : (e : Error) → Err e ≡ cursor_from u t follows offset

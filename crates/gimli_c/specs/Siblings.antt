@@ -7,7 +7,6 @@ use Rattle.gimli_base.specs.View.{View}
 use Rattle.gimli_base.specs.Abbreviations.{Map, map_at}
 use Rattle.gimli_units.specs.CursorPlace.{Place, Moved, next_row, next_of_depth}
 use Rattle.gimli_units.specs.FirstFalse.{first_false}
-use Rattle.gimli_units.specs.Rows.{Ahead}
 use Rattle.gimli_units.specs.Unit.{UnitView, whole_length, in_bounds}
 use Rattle.gimli_units.specs.UnitRows.{unit_rows_from, unit_rows, start_view, IsHonestFrom}
 use Rattle.gimli_units.specs.UnitRows.{StandsAt}

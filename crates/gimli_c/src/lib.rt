@@ -5,7 +5,7 @@
 //! or of an offset, and 512 and that of a row.
 #![tactic(auto)]
 
-ghost use Rattle.std.specs.Prelude.{◌≡◌, ℕ};
+ghost use Rattle.std.specs.Prelude.{◌≡◌, ◌<◌, ℕ};
 ghost use Rattle.gimli_c.specs.Units.{units_view, unit_told, section_unit};
 ghost use Rattle.gimli_c.specs.Fronts.{section_rows, ToldRows, Resumes};
 ghost use Rattle.gimli_c.specs.Entries.{AreTold};
@@ -131,8 +131,8 @@ pub extern "C" fn gimli_entries(
 /// Where `follows` is 0 all rows between are read. Else the references of entries are followed;
 /// where they are honest, as `gimli_first_false` finds out, the answer is the same.
 ///
-/// Status 0: `row` is the sibling. Otherwise `row` is as it was. Status 1: there is none, or a null
-/// stands at the place. From 512 on: what is read at the place or after it was refused. Any other:
+/// Status 0: `row` is the sibling, and stands behind the place, whatever the references. Otherwise
+/// `row` is as it was. Status 1: there is none, or a null stands at the place. From 512 on: what is read at the place or after it was refused. Any other:
 /// the unit, its abbreviations or the offset was refused. 280 and 536 say that memory was refused.
 #[unsafe(no_mangle)]
 pub extern "C" fn gimli_sibling(
@@ -146,6 +146,7 @@ pub extern "C" fn gimli_sibling(
     ensures plain { follows ≡ 0 →
         UnlessRefused result ((result, row.new)
         ≡ section_sibling sections.now unit place.now.offset place.now.depth row.old) }
+    ensures behind { result ≡ more → place.now.offset < row.new.offset }
     ensures followed { UnitIsHonest sections.now unit place.now.offset →
         UnlessRefused result ((result, row.new)
         ≡ section_sibling sections.now unit place.now.offset place.now.depth row.old) }

@@ -1,9 +1,11 @@
 //! The next sibling of a row.
 
-ghost use Rattle.std.specs.Prelude.{◌≡◌, true, Some};
+ghost use Rattle.std.specs.Prelude.{◌≡◌, ◌<◌, ◌≤◌, true, false, Some, Ok};
 ghost use Rattle.gimli_base.specs.Table.{codes_of};
 ghost use Rattle.gimli_units.specs.CursorMoves.{place_of, Goes, IsHonestFor};
 ghost use Rattle.gimli_units.specs.CursorPlace.{next_of_depth};
+ghost use Rattle.gimli_units.specs.Entry.{is_null};
+ghost use Rattle.gimli_units.specs.RawPlace.{next_offset_of};
 ghost use Rattle.gimli_units.specs.UnitHeld.{unit_view};
 ghost use Rattle.gimli_units.specs.UnitRows.{IsHonestFrom, start_view};
 ghost use Rattle.gimli_units.specs.CursorMoves.{IsHonestCursor};
@@ -38,6 +40,7 @@ pub(crate) fn find_sibling<R: Reader, A: Allocator + Copy>(
         UnlessRefused result ((result, row.new)
         ≡ read_sibling R.Offset.limit read declarations number depth row.old) }
     ensures kept { (result ≡ more → ⊥) → row.new ≡ row.old }
+    ensures behind { result ≡ more → R.Offset.number offset < row.new.offset }
 {
     let header = match header_in(&sections.units, sections.types, unit) {
         Ok(header) => header,
@@ -66,6 +69,7 @@ fn find_in_unit<R: Reader, A: Allocator + Copy>(
         UnlessRefused result ((result, row.new)
         ≡ unit_sibling R.Offset.limit u (codes_of table.now) number depth row.old) }
     ensures kept { (result ≡ more → ⊥) → row.new ≡ row.old }
+    ensures behind { result ≡ more → R.Offset.number offset < row.new.offset }
 {
     let cursor = if follows {
         unit.entries_at_offset(alloc, table, UnitOffset(offset))
@@ -88,6 +92,7 @@ fn find_behind<R: Reader, A: Allocator>(
         UnlessRefused result ((result, row.new)
         ≡ place_sibling cursor.old.raw.end (place_of R.Offset.limit cursor.old) depth row.old) }
     ensures kept { (result ≡ more → ⊥) → row.new ≡ row.old }
+    ensures behind { result ≡ more → next_offset_of cursor.old.raw < row.new.offset }
 {
     match cursor.next_entry() {
         Ok(_) => {}
@@ -111,9 +116,12 @@ fn find_behind<R: Reader, A: Allocator>(
     }
 }
 
-// Goes to the next sibling.
+// Goes to the next sibling, which stands behind what was read last, whatever the references.
 fn step<R: Reader, A: Allocator>(cursor: &mut EntriesCursor<'_, R, A>) -> Result<bool>
-    ensures { (cursor.old.follows ≡ true →
+    ensures behind { result ≡ Ok true → next_offset_of cursor.old.raw ≤ cursor.new.offset }
+    ensures idle { is_null cursor.old.entry ≡ true → result ≡ Ok false }
+    ensures none { result ≡ Ok false → is_null cursor.new.entry ≡ true }
+    ensures moves { (cursor.old.follows ≡ true →
         IsHonestFor R.Offset.limit cursor.old.depth cursor.old) →
         let goes = Goes R.Offset.limit (next_of_depth cursor.old.raw.end) in
         UnlessMemory result (goes cursor.old result cursor.new) }

@@ -17,7 +17,7 @@ returns-in-Err-step-clause-told g c = λ honest _ other.
     let from = c.args.cursor.now in
     let on = c.next_entry.new.self in
     let read = c.in-Ok.ensures in
-    let stopped = c.in-Err-step.ensures (honest_on limit from on c.in-Ok.field-0 read honest)
+    let stopped = c.in-Err-step.ensures.moves (honest_on limit from on c.in-Ok.field-0 read honest)
     (λ is. other (c.row_refused-in-Err-step.ensures ∙ ap row_refused is)) in
     rw c.row_refused-in-Err-step.ensures
     (sibling_stopped from.raw.end (place_of limit from) (place_of limit on) c.args.depth
@@ -32,7 +32,7 @@ returns-in-Some-clause-told g c = λ honest _ _.
     let there = c.step.new.cursor in
     let read = c.in-Ok.ensures in
     let back : to_z w64 (of_z w64 c.args.depth) ≡ c.args.depth = to_z-of_z w64 _ c.ranges.depth in
-    let moved = c.in-Ok-step.ensures (honest_on limit from on c.in-Ok.field-0 read honest) in
+    let moved = c.in-Ok-step.ensures.moves (honest_on limit from on c.in-Ok.field-0 read honest) in
     let told = sibling_told from.raw.end (place_of limit from) (place_of limit on) c.args.depth
     c.args.row.now c.in-Ok.field-0 read.moves (place_of limit there) c.in-Ok-step.field-0
     (at_stop on.raw.end from.raw.end (place_of limit on) _ read.unit.end moved) in
@@ -47,7 +47,7 @@ returns-in-None-clause-told g c = λ honest _ _.
     let from = c.args.cursor.now in
     let on = c.next_entry.new.self in
     let read = c.in-Ok.ensures in
-    let moved = c.in-Ok-step.ensures (honest_on limit from on c.in-Ok.field-0 read honest) in
+    let moved = c.in-Ok-step.ensures.moves (honest_on limit from on c.in-Ok.field-0 read honest) in
     let told = sibling_told from.raw.end (place_of limit from) (place_of limit on) c.args.depth
     c.args.row.now c.in-Ok.field-0 read.moves (place_of limit c.step.new.cursor)
     c.in-Ok-step.field-0 (at_stop on.raw.end from.raw.end (place_of limit on) _ read.unit.end moved)

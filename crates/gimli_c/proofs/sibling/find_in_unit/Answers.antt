@@ -3,7 +3,7 @@ use Rattle.std.proofs.lemmas.Int.{to_z-of_z}
 use Rattle.gimli_units.specs.CursorStart.{cursor_from}
 use Rattle.gimli_units.specs.UnitHeld.{unit_view}
 use Rattle.gimli_units.proofs.StartLaw.{honest_cursor}
-use Rattle.gimli_c.proofs.SiblingLaw.{sibling_from, sibling_refused}
+use Rattle.gimli_c.proofs.SiblingLaw.{sibling_from, begins_from, sibling_refused}
 use Rattle.gimli_c.proofs.sibling.find_in_unit.Goals.{then-follows, else-follows}
 use Rattle.gimli_c.proofs.sibling.find_in_unit.Goals as goal
 
@@ -27,6 +27,23 @@ returns-in-Ok-clause-told g c = λ honest m r.
     let told = rw back at c.find_behind.ensures.told in
     told (λ f. honest_cursor limit u t c.args.follows (Some n) c.in-Ok.cursor is
     (honest (sym from.0 ∙ f))) m r ∙ from.1
+
+pub returns-in-Ok-clause-behind : goal.returns-in-Ok-clause-behind
+returns-in-Ok-clause-behind g c = λ found.
+    let limit = g.R.Offset.ReaderOffset.limit in
+    let u = unit_view c.args.unit.now in
+    let t = c.args.table.now in
+    let n = g.R.Offset.ReaderOffset.number c.args.offset in
+    let is : Ok c.in-Ok.cursor ≡ cursor_from u t c.args.follows n = elim c.if-follows.branch [
+      | then-follows w ↦
+          rw w.if-follows.true
+          (sym c.in-Ok.is ∙ w.cursor-is ∙ w.entries_at_offset-cursor.ensures)
+      | else-follows w ↦
+          rw w.if-follows.false
+          (sym c.in-Ok.is ∙ w.cursor-is ∙ w.entries_plain_at_offset-cursor.ensures)
+    ] in
+    rw (begins_from limit u t c.args.follows n c.args.depth c.args.row.now c.in-Ok.cursor is
+    c.args.unit.now.entries_fit) at (c.find_behind.ensures.behind found)
 
 pub returns-in-Err-clause-told : goal.returns-in-Err-clause-told
 returns-in-Err-clause-told g c = λ _ _ _.
