@@ -13,6 +13,7 @@ pub mod AbbreviationReads
 pub mod AbbreviationTable
 pub mod AbbreviationMap
 pub mod SizeSums
+pub mod MovingTurns
 pub mod TableTurns
 pub mod Later
 pub mod Taken

@@ -10,5 +10,6 @@ pub mod Abbreviations
 pub mod Table
 pub mod Width
 pub mod Sizes
+pub mod Moving
 pub mod Address
 pub mod ListsBase

@@ -3,7 +3,7 @@
 ghost use Rattle.std.proofs.Common.{ap};
 ghost use Rattle.std.specs.Prelude.{ℕ, ◌≡◌, ◌≢◌, ◌==◌, [], is_some, if◌then◌else◌, Some, None};
 ghost use Rattle.std.specs.Prelude.{Option, OnOk, IfErr, IsSome, unwrap_or, pos, List, ◌++◌, ◌∷◌};
-ghost use Rattle.std.specs.Prelude.{take, nat_le, IfOk, IfSome, length, ◌<◌, ◌^◌, true, false};
+ghost use Rattle.std.specs.Prelude.{take, nat_le, IfOk, IfSome, length, ◌<◌, ◌≤◌, ◌-◌, ◌^◌, true, false};
 ghost use Rattle.std.specs.Prelude.{cond};
 ghost use Rattle.std.specs.Option.{option_copied};
 ghost use Rattle.std.specs.Ordering.{nat_cmp};
@@ -25,6 +25,8 @@ ghost use Rattle.gimli_base.specs.Abbreviations.{
 };
 ghost use Rattle.gimli_base.specs.Width.{width_of, form_size, attributes_size};
 ghost use Rattle.std.specs.List.{All};
+ghost use Rattle.std.specs.List.{filter};
+ghost use Rattle.gimli_base.specs.Moving.{moves, StandsFor};
 ghost use Rattle.gimli_base.specs.Sizes.{AreSizesOf, AreSizesOfFew, fixed_of, others_of};
 ghost use Rattle.gimli_base.specs.Table.{Table, codes_of};
 ghost use Rattle.gimli_base.specs.Items.{Items, ItemsSoFar, all_items};
@@ -34,9 +36,9 @@ ghost use Rattle.gimli_base.specs.Reading.{read_of, answer_leaving, map_read, Un
 use crate::sizes::Sizes;
 use crate::width::Width;
 use crate::{
-    DW_AT_null, DW_CHILDREN_no, DW_CHILDREN_yes, DW_FORM_implicit_const, DW_FORM_null, DW_TAG_null,
-    DebugAbbrevOffset, DwAt, DwForm, DwTag, Encoding, EndianSlice, Endianity, Error, Reader,
-    Result, Section, SectionId,
+    DW_AT_null, DW_AT_sibling, DW_CHILDREN_no, DW_CHILDREN_yes, DW_FORM_flag_present,
+    DW_FORM_implicit_const, DW_FORM_null, DW_TAG_null, DebugAbbrevOffset, DwAt, DwForm, DwTag,
+    Encoding, EndianSlice, Endianity, Error, Reader, Result, Section, SectionId,
 };
 use std::alloc::{AllocError, Allocator};
 use std::collections::BTreeMap;
@@ -208,6 +210,9 @@ impl Counted {
 // How many attributes stand in a declaration itself: the 12 in the view of `Attributes`.
 const FEW: usize = 12;
 
+// What `count` has more than the number of attributes in place, where all are in the list.
+const LISTED: usize = FEW + 1;
+
 // Up to how many attributes the bytes of all are known, since each count has 16 bits.
 const MOST: usize = 65_535;
 
@@ -261,13 +266,51 @@ fn parse_listed<R: Reader, A: Allocator>(
     Ok(sizes)
 }
 
+// Whether passing an entry has to look at an attribute: its value takes bytes, or it is of a
+// reference to a sibling.
+#[inline(always)]
+fn moves(specification: &AttributeSpecification) -> bool
+    ensures { result ≡ moves specification.now }
+{
+    match specification.form {
+        DW_FORM_flag_present | DW_FORM_implicit_const => specification.name == DW_AT_sibling,
+        _ => true,
+    }
+}
+
+// Puts those of a list that move in place, and answers how many they are, or none where there is no
+// room for them.
+#[inline(never)]
+fn put_moving(
+    few: &mut [AttributeSpecification; FEW],
+    list: &[AttributeSpecification],
+) -> Option<usize>
+    ensures { IfSome result (λ n. (n ≤ 12) × (take n few.new ≡ filter moves list.now)) }
+{
+    let mut count = 0;
+    'listed: for specification in list {
+        if !moves(specification) {
+            continue;
+        }
+        if count == FEW {
+            return None;
+        }
+        few[count] = *specification;
+        count += 1;
+    }
+    Some(count)
+}
+
 // The attributes of a declaration: up to `FEW` in place, since to ask for memory takes longer than
-// to read a declaration, and more in a list of their own.
+// to read a declaration, and more in a list of their own. Of those in the list the ones that move
+// stand in place as well, if there is room for them: so an entry that has thousands of flags is
+// passed by what its bytes give.
 #[derive(Drop)]
 struct Attributes<A: Allocator> {
     // of all of them
     sizes: Sizes,
-    // above `FEW` where they are in the list
+    // up to `FEW` the number of those in place, which are all; else they are in the list, and the
+    // number of those that move and stand in place is `LISTED` less, up to `FEW`
     count: u32,
     few: [AttributeSpecification; FEW],
     more: Vec<AttributeSpecification, A>,
@@ -279,7 +322,8 @@ impl<A: Allocator> Model for Attributes<A> {
     ghost view = { λ a. if nat_le a.count 12 then take a.count a.few else a.more.items };
 
     ghost invariant = { λ a.
-        AreSizesOf a.sizes (if nat_le a.count 12 then take a.count a.few else a.more.items) };
+        AreSizesOf a.sizes (if nat_le a.count 12 then take a.count a.few else a.more.items)
+        × (13 ≤ a.count → a.count ≤ 25 → take (a.count - 13) a.few ≡ filter moves a.more.items) };
 }
 
 impl<A: Allocator> Debug for Attributes<A> {
@@ -313,6 +357,19 @@ impl<A: Allocator> Attributes<A> {
             &self.few[..count]
         } else {
             &self.more
+        }
+    }
+
+    // Those that move, if they stand in place, else all.
+    #[inline]
+    fn moving(&self) -> &[AttributeSpecification]
+        ensures { StandsFor result.now self.now }
+    {
+        let count = self.count as usize;
+        if LISTED <= count && count <= LISTED + FEW {
+            &self.few[..count - LISTED]
+        } else {
+            self.as_slice()
         }
     }
 
@@ -373,7 +430,8 @@ impl<A: Allocator> Attributes<A> {
         self.sizes = Sizes::new();
         let first = Counted::new(name, form, implicit_const_value);
         self.sizes = parse_listed(&mut self.more, before, first, input)?;
-        self.count = FEW as u32 + 1;
+        let moving = put_moving(&mut self.few, &self.more).unwrap_or(FEW + 1);
+        self.count = (LISTED + moving) as u32;
         Ok(())
     }
 
@@ -460,6 +518,16 @@ impl<A: Allocator> Abbreviation<A> {
         ensures { result.now ≡ self.now.attributes }
     {
         self.attributes.as_slice()
+    }
+
+    /// The attributes that passing an entry has to look at: all, or where there are more than a
+    /// dozen and few of these move, those that do. The others take no bytes and are never refused,
+    /// and none is a reference to a sibling.
+    #[inline]
+    pub fn moving_attributes(&self) -> &[AttributeSpecification]
+        ensures { StandsFor result.now self.now.attributes }
+    {
+        self.attributes.moving()
     }
 
     /// The number of bytes that the attributes' values take together under an encoding, where no

@@ -74,6 +74,14 @@ module _ (s : Specification) (t : Bool) (is : is_sibling s ≡ t) where
   one limit e ss v =
       first (attributes_at limit e ss) (value_at limit e s.name.0 s.constant s.form.0 v)
 
+-- an attribute that is the first reference to a sibling, and others
+pub sibling_first : (s : Specification) → is_sibling s ≡ true → (limit : ℕ) (e : Encoding)
+    (ss : List Specification) (v : View)
+    → sibling_at limit e (s ∷ ss) v
+    ≡ (attribute_at limit e s v
+    >>= λ p. map_read (λ _. unit_reference p.0.value) (attributes_at limit e ss p.1))
+sibling_first s is limit e ss v = one s true is limit e ss v
+
 -- what is read after another, whose value is dropped
 after_left : {A B : Type 0} → (r : Reads A) (f g : View → Reads B) → ((u : View) → f u ≡ g u)
     → (r >>= λ p. f p.1) ≡ (left_by r >>= λ p. g p.1)

@@ -262,8 +262,9 @@ fn size_there<R: Reader, A: Allocator>(
     encoding: Encoding,
     declared: &Abbreviation<A>,
 ) -> Option<u64>
-    ensures { IfSome result
+    ensures there { IfSome result
         (λ n. IsThere R.Offset.limit encoding declared.now.attributes n (R.view input.now)) }
+    ensures formed { All IsWellFormed declared.now.attributes }
 {
     let size = declared.attributes_size(encoding)?;
     if size > room(input.len().into_u64()) || above_any::<R>(encoding) < 256 {
@@ -274,7 +275,7 @@ fn size_there<R: Reader, A: Allocator>(
 
 /// Passes what reading the attributes of a declaration's entry reads, with the same refusals; where
 /// one is refused, the input is left anywhere. Where the size of all is known they are passed as
-/// one.
+/// one; else those that move are passed, which the bytes give.
 #[inline(always)]
 pub(crate) fn pass_declared<R: Reader, A: Allocator>(
     input: &mut R,
@@ -290,7 +291,7 @@ pub(crate) fn pass_declared<R: Reader, A: Allocator>(
             pass_bytes(input, size);
             Ok(())
         }
-        None => pass_as_read(input, encoding, declared.attributes()),
+        None => pass_as_read(input, encoding, declared.moving_attributes()),
     }
 }
 
@@ -364,8 +365,8 @@ fn pass_led_apart<R: Reader>(
 /// Passes what `parse_attributes` reads, with the same refusals, and answers where the first
 /// reference to a sibling leads; where one is refused, the input is left anywhere.
 ///
-/// Before a value is read, no work grows with the declaration: all of it is looked at only where
-/// reading refuses none of its values.
+/// Before a value is read, no work grows with the declaration: all of it that moves is looked at
+/// only where reading refuses none of its values.
 #[inline(always)]
 pub(crate) fn pass_but_sibling<R: Reader, A: Allocator>(
     input: &mut R,
@@ -377,7 +378,7 @@ pub(crate) fn pass_but_sibling<R: Reader, A: Allocator>(
         ≡ map_read sibling_of
         (attributes_at R.Offset.limit encoding declared.now.attributes (R.view input.old)) }
 {
-    let specifications = declared.attributes();
+    let specifications = declared.moving_attributes();
     match size_there(input, encoding, declared) {
         Some(size) if place_of_sibling(specifications).is_none() => {
             pass_bytes(input, size);

@@ -3,8 +3,8 @@ use Rattle.gimli_units.proofs.SumReads.{any_below, attributes_together}
 use Rattle.gimli_units.proofs.RunReads.{room_most}
 use Rattle.gimli_units.proofs.pass.size_there.Goals as goal
 
-pub returns : goal.returns
-returns g c =
+pub returns-clause-there : goal.returns-clause-there
+returns-clause-there g c =
     let limit = g.R.Offset.ReaderOffset.limit in
     let v = g.R.Reader.view c.args.input.now in
     let n = c.in_ok-size.size in

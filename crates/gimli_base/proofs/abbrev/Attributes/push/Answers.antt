@@ -1,4 +1,4 @@
-use Rattle.std.proofs.Common.{arith, rules, ◌≡◌, ◌<◌, ◌++◌, ◌∷◌, [], ◌+◌, length}
+use Rattle.std.proofs.Common.{arith, rules, ◌≡◌, ◌<◌, ◌≤◌, ◌++◌, ◌∷◌, [], ◌+◌, length}
 use Rattle.std.specs.Prelude.{true, nat_le, take, slice_set}
 use Rattle.std.proofs.lemmas.List.{take_more_set, length-take}
 use Rattle.gimli_base.proofs.SizeSums.{sizes-push, fixed-fits, others-fits}
@@ -10,7 +10,7 @@ push-requires-clause-fixed g c =
     let few : length (take c.self.inside.count c.self.inside.few) < 65535 =
     omega (arith, length-take c.self.inside.count c.self.inside.few) in
     rw c.counted.invariant.0
-    (fixed-fits _ _ c.counted.inside.specification.form.0 (rw before at c.self.invariant) few)
+    (fixed-fits _ _ c.counted.inside.specification.form.0 (rw before at c.self.invariant.0) few)
 
 pub push-requires-clause-others : goal.push-requires-clause-others
 push-requires-clause-others g c =
@@ -18,7 +18,7 @@ push-requires-clause-others g c =
     let few : length (take c.self.inside.count c.self.inside.few) < 65535 =
     omega (arith, length-take c.self.inside.count c.self.inside.few) in
     rw c.counted.invariant.1
-    (others-fits _ _ c.counted.inside.specification.form.0 (rw before at c.self.invariant) few)
+    (others-fits _ _ c.counted.inside.specification.form.0 (rw before at c.self.invariant.0) few)
 
 pub invariant_of-self : goal.invariant_of-self
 invariant_of-self g c =
@@ -31,6 +31,9 @@ invariant_of-self g c =
     ≡ take c.self.inside.count c.self.inside.few ++ c.counted.inside.specification ∷ [] =
     take_more_set c.self.inside.few c.self.inside.count c.counted.inside.specification
     (search rules) in
-    rw (c.push.ensures, c.counted.invariant.0, c.counted.invariant.1, after, pushed)
-    (sizes-push _ _ c.counted.inside.specification (rw before at c.self.invariant)
-    (search rules) few)
+    let below : c.self.inside.count + 1 ≤ 12 = grind arith in
+    rw (c.push.ensures, c.counted.invariant.0, c.counted.invariant.1, after, pushed) (
+      sizes-push _ _ c.counted.inside.specification (rw before at c.self.invariant.0)
+          (search rules) few,
+      λ many _. absurd (omega (arith, below, many)),
+    )
