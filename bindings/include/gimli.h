@@ -241,9 +241,9 @@ uint32_t gimli_entries(const gimli_sections_t *sections, uint64_t unit, gimli_pl
 /* The next sibling of the row at a place: the next entry of its depth, before the null that
    closes their list. `units` and `abbrev` are read. With `follows` 0 all rows between are read;
    else the references of entries (DW_AT_sibling) are followed, and the answer is the same where
-   gimli_first_false finds none in the unit; where it finds one, the answer may be any entry behind
-   the place. So a loop from sibling to sibling ends, whatever the bytes: `row` stands behind the
-   place, and its offset is that of the next.
+   gimli_first_false finds none in the unit; where it finds one, `row` need not be a row of the
+   unit: all that is said then is that it stands behind the place. So a loop that takes the offset
+   of `row` as the next place ends, whatever the bytes.
    MORE: `row` is it, and its depth is the place's. Else `row` is as it was. END: there is none, or
    a null stands at the place. ROW_REFUSED: what stands at the place or behind was refused.
    REFUSED: of the unit, of its abbreviations or of the offset, as that of the unit's length is. */

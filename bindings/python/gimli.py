@@ -217,7 +217,8 @@ class Dwarf:
         """The next sibling of the row at an offset, as a tuple, or None.
 
         With follows references are followed: the answer is the same where first_false finds none
-        in the unit; where it finds one, it may be any row behind the offset.
+        in the unit; where it finds one, it need not be a row of the unit, and stands
+        behind the offset.
         """
         row = self.found("sibling", Row(), unit.offset, byref(Place(offset, depth)), follows)
         return row and row_of(row)

@@ -3,8 +3,8 @@ use Rattle.std.specs.Prelude.{◌≡◌, ◌==◌, ◌||◌, not, Bool, List, �
 use Rattle.std.specs.List.{filter}
 use Rattle.gimli_base.specs.Abbreviations.{Specification}
 
--- The value takes bytes, or it is of a reference to a sibling: all others have the form flag_present
--- (0x19) or implicit_const (0x21), and reading one takes nothing and is never refused.
+-- An attribute of another form than flag_present (0x19) and implicit_const (0x21), or of the name
+-- of a reference to a sibling. Reading one of the others takes nothing and is never refused.
 abbrev pub moves : Specification → Bool
 moves s = not (s.form.0 == 0x19 || s.form.0 == 0x21) || s.name.0 == 0x01
 

@@ -3,7 +3,8 @@
 ghost use Rattle.std.proofs.Common.{ap};
 ghost use Rattle.std.specs.Prelude.{ℕ, ◌≡◌, ◌≢◌, ◌==◌, [], is_some, if◌then◌else◌, Some, None};
 ghost use Rattle.std.specs.Prelude.{Option, OnOk, IfErr, IsSome, unwrap_or, pos, List, ◌++◌, ◌∷◌};
-ghost use Rattle.std.specs.Prelude.{take, nat_le, IfOk, IfSome, length, ◌<◌, ◌≤◌, ◌-◌, ◌^◌, true, false};
+ghost use Rattle.std.specs.Prelude.{take, nat_le, IfOk, IfSome, length, ◌<◌, ◌≤◌, ◌-◌, ◌^◌};
+ghost use Rattle.std.specs.Prelude.{true, false};
 ghost use Rattle.std.specs.Prelude.{cond};
 ghost use Rattle.std.specs.Option.{option_copied};
 ghost use Rattle.std.specs.Ordering.{nat_cmp};
@@ -210,7 +211,7 @@ impl Counted {
 // How many attributes stand in a declaration itself: the 12 in the view of `Attributes`.
 const FEW: usize = 12;
 
-// What `count` has more than the number of attributes in place, where all are in the list.
+// `count` from here on: all are in the list.
 const LISTED: usize = FEW + 1;
 
 // Up to how many attributes the bytes of all are known, since each count has 16 bits.
@@ -266,8 +267,8 @@ fn parse_listed<R: Reader, A: Allocator>(
     Ok(sizes)
 }
 
-// Whether passing an entry has to look at an attribute: its value takes bytes, or it is of a
-// reference to a sibling.
+// Whether passing an entry has to look at an attribute: it has another form than flag_present and
+// implicit_const, or the name of a reference to a sibling.
 #[inline(always)]
 fn moves(specification: &AttributeSpecification) -> bool
     ensures { result ≡ moves specification.now }
@@ -303,14 +304,13 @@ fn put_moving(
 
 // The attributes of a declaration: up to `FEW` in place, since to ask for memory takes longer than
 // to read a declaration, and more in a list of their own. Of those in the list the ones that move
-// stand in place as well, if there is room for them: so an entry that has thousands of flags is
-// passed by what its bytes give.
+// stand in place as well, if there is room for them: passing an entry looks at these alone.
 #[derive(Drop)]
 struct Attributes<A: Allocator> {
     // of all of them
     sizes: Sizes,
-    // up to `FEW` the number of those in place, which are all; else they are in the list, and the
-    // number of those that move and stand in place is `LISTED` less, up to `FEW`
+    // up to `FEW`: how many stand in place, which are all; `LISTED` and n more: all are in the
+    // list, and the n of them that move stand in place; above that: all are in the list alone
     count: u32,
     few: [AttributeSpecification; FEW],
     more: Vec<AttributeSpecification, A>,
@@ -520,9 +520,9 @@ impl<A: Allocator> Abbreviation<A> {
         self.attributes.as_slice()
     }
 
-    /// The attributes that passing an entry has to look at: all, or where there are more than a
-    /// dozen and few of these move, those that do. The others take no bytes and are never refused,
-    /// and none is a reference to a sibling.
+    /// The attributes that passing an entry has to look at: all, or those that have another form
+    /// than flag_present and implicit_const, or the name `DW_AT_sibling`. Reading one of the others
+    /// takes no bytes and is never refused.
     #[inline]
     pub fn moving_attributes(&self) -> &[AttributeSpecification]
         ensures { StandsFor result.now self.now.attributes }

@@ -131,9 +131,11 @@ pub extern "C" fn gimli_entries(
 /// Where `follows` is 0 all rows between are read. Else the references of entries are followed;
 /// where they are honest, as `gimli_first_false` finds out, the answer is the same.
 ///
-/// Status 0: `row` is the sibling, and stands behind the place, whatever the references. Otherwise
-/// `row` is as it was. Status 1: there is none, or a null stands at the place. From 512 on: what is read at the place or after it was refused. Any other:
-/// the unit, its abbreviations or the offset was refused. 280 and 536 say that memory was refused.
+/// Status 0: `row` is the sibling, where references are honest or none is followed; whatever they
+/// are, it stands behind the place. Otherwise `row` is as it was. Status 1: there is none, or a
+/// null stands at the place. From 512 on: what is read at the place or after it was refused. Any
+/// other: the unit, its abbreviations or the offset was refused. 280 and 536 say that memory was
+/// refused.
 #[unsafe(no_mangle)]
 pub extern "C" fn gimli_sibling(
     alloc: Global,

@@ -275,7 +275,7 @@ fn size_there<R: Reader, A: Allocator>(
 
 /// Passes what reading the attributes of a declaration's entry reads, with the same refusals; where
 /// one is refused, the input is left anywhere. Where the size of all is known they are passed as
-/// one; else those that move are passed, which the bytes give.
+/// one; else by `moving_attributes`.
 #[inline(always)]
 pub(crate) fn pass_declared<R: Reader, A: Allocator>(
     input: &mut R,
@@ -365,8 +365,8 @@ fn pass_led_apart<R: Reader>(
 /// Passes what `parse_attributes` reads, with the same refusals, and answers where the first
 /// reference to a sibling leads; where one is refused, the input is left anywhere.
 ///
-/// Before a value is read, no work grows with the declaration: all of it that moves is looked at
-/// only where reading refuses none of its values.
+/// The first reference is sought value by value, as these are passed. Only where the bytes of all
+/// values are there are the moving attributes looked at first, for whether one is a reference.
 #[inline(always)]
 pub(crate) fn pass_but_sibling<R: Reader, A: Allocator>(
     input: &mut R,
