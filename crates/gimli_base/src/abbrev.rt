@@ -4,7 +4,7 @@ ghost use Rattle.std.proofs.Common.{ap};
 ghost use Rattle.std.specs.Prelude.{ℕ, ◌≡◌, ◌≢◌, ◌==◌, [], is_some, if◌then◌else◌, Some, None};
 ghost use Rattle.std.specs.Prelude.{Option, OnOk, IfErr, IsSome, unwrap_or, pos, List, ◌++◌, ◌∷◌};
 ghost use Rattle.std.specs.Prelude.{take, nat_le, IfOk, IfSome, length, ◌<◌, ◌≤◌, ◌-◌, ◌^◌};
-ghost use Rattle.std.specs.Prelude.{true, false};
+ghost use Rattle.std.specs.Prelude.{true, false, ◌||◌, ◌&&◌, not};
 ghost use Rattle.std.specs.Prelude.{cond};
 ghost use Rattle.std.specs.Option.{option_copied};
 ghost use Rattle.std.specs.Ordering.{nat_cmp};
@@ -26,8 +26,7 @@ ghost use Rattle.gimli_base.specs.Abbreviations.{
 };
 ghost use Rattle.gimli_base.specs.Width.{width_of, form_size, attributes_size};
 ghost use Rattle.std.specs.List.{All};
-ghost use Rattle.std.specs.List.{filter};
-ghost use Rattle.gimli_base.specs.Moving.{moves, StandsFor};
+ghost use Rattle.gimli_base.specs.Moving.{takes, is_named, moving_from, StandsFor};
 ghost use Rattle.gimli_base.specs.Sizes.{AreSizesOf, AreSizesOfFew, fixed_of, others_of};
 ghost use Rattle.gimli_base.specs.Table.{Table, codes_of};
 ghost use Rattle.gimli_base.specs.Items.{Items, ItemsSoFar, all_items};
@@ -268,13 +267,15 @@ fn parse_listed<R: Reader, A: Allocator>(
 }
 
 // Whether passing an entry has to look at an attribute: it has another form than flag_present and
-// implicit_const, or the name of a reference to a sibling.
+// implicit_const, or it is the first that has the name of a reference to a sibling.
 #[inline(always)]
-fn moves(specification: &AttributeSpecification) -> bool
-    ensures { result ≡ moves specification.now }
+fn moves(specification: &AttributeSpecification, is_found: bool) -> bool
+    ensures { result ≡ (takes specification.now || (not is_found && is_named specification.now)) }
 {
     match specification.form {
-        DW_FORM_flag_present | DW_FORM_implicit_const => specification.name == DW_AT_sibling,
+        DW_FORM_flag_present | DW_FORM_implicit_const => {
+            !is_found && specification.name == DW_AT_sibling
+        }
         _ => true,
     }
 }
@@ -286,11 +287,14 @@ fn put_moving(
     few: &mut [AttributeSpecification; FEW],
     list: &[AttributeSpecification],
 ) -> Option<usize>
-    ensures { IfSome result (λ n. (n ≤ 12) × (take n few.new ≡ filter moves list.now)) }
+    ensures { IfSome result (λ n. (n ≤ 12) × (take n few.new ≡ moving_from false list.now)) }
 {
     let mut count = 0;
+    let mut is_found = false;
     'listed: for specification in list {
-        if !moves(specification) {
+        let is_moving = moves(specification, is_found);
+        is_found |= specification.name() == DW_AT_sibling;
+        if !is_moving {
             continue;
         }
         if count == FEW {
@@ -323,7 +327,7 @@ impl<A: Allocator> Model for Attributes<A> {
 
     ghost invariant = { λ a.
         AreSizesOf a.sizes (if nat_le a.count 12 then take a.count a.few else a.more.items)
-        × (13 ≤ a.count → a.count ≤ 25 → take (a.count - 13) a.few ≡ filter moves a.more.items) };
+        × (13 ≤ a.count → a.count ≤ 25 → take (a.count - 13) a.few ≡ moving_from false a.more.items) };
 }
 
 impl<A: Allocator> Debug for Attributes<A> {
@@ -521,8 +525,8 @@ impl<A: Allocator> Abbreviation<A> {
     }
 
     /// The attributes that passing an entry has to look at: all, or those that have another form
-    /// than flag_present and implicit_const, or the name `DW_AT_sibling`. Reading one of the others
-    /// takes no bytes and is never refused.
+    /// than flag_present and implicit_const, and the first of the name `DW_AT_sibling`. Reading one
+    /// of the others takes no bytes and is never refused.
     #[inline]
     pub fn moving_attributes(&self) -> &[AttributeSpecification]
         ensures { StandsFor result.now self.now.attributes }

@@ -92,7 +92,8 @@ pub(crate) fn write_found<R: Reader>(call: &Call<'_, R>, out: &mut Vec<u8>) -> O
     let (unit, table) = unit_and_table(call)?;
     let entry = unit.entry(call.alloc, &table, unit.root_offset())?;
     for word in call.case.words.iter().skip(3) {
-        write_of_name(&entry, DwAt(parse_code(word).ok_or(Stop::Lacks("no name"))?), out)?;
+        let name = parse_code(word).ok_or(Stop::Lacks("no name"))?;
+        write_of_name(&entry, DwAt(name), out)?;
     }
     Ok(())
 }

@@ -59,8 +59,7 @@ fn write_head<R: Reader>(mut raw: Raw<'_, R>, out: &mut Vec<u8>) -> Outcome {
 fn tell_differing<R: Reader>(input: &Input<R>, rest: &R, most: u64, out: &mut Vec<u8>) -> Outcome {
     let (whole, alloc) = (input.raw_of(rest), *out.allocator());
     if !has_declaration(&whole) || !Walk::new(whole).go_on(alloc) {
-        let size = rest.len().into_u64();
-        return Ok(writeln!(out, "another head by {size} bytes")?);
+        return Ok(writeln!(out, "another head by {} bytes", rest.len().into_u64())?);
     }
     for size in 0..=most {
         let mut cut = rest.copy();

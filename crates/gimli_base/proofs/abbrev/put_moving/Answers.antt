@@ -1,59 +1,44 @@
-use Rattle.std.proofs.Common.{◌<◌, ◌++◌, ◌∷◌, [], arith, length, refl, sym, ap}
-use Rattle.std.proofs.Common.{◌∙◌, List, rules}
-use Rattle.std.specs.List.{filter}
-use Rattle.std.proofs.lemmas.List.{take_more_set, take_all}
+use Rattle.std.proofs.Common.{◌≡◌, ◌<◌, ◌++◌, ◌∷◌, [], arith, length, sym, ap, take, Bool}
+use Rattle.std.proofs.Common.{◌∙◌, List, rules, true, false}
+use Rattle.std.proofs.lemmas.List.{take_more_set}
 use Rattle.gimli_base.specs.Abbreviations.{Specification}
-use Rattle.gimli_base.specs.Moving.{moves}
-use Rattle.gimli_base.proofs.MovingTurns.{moving_more, moving_stays}
+use Rattle.gimli_base.proofs.MovingTurns.{moving_more, moving_stays, found_then, found_in}
+use Rattle.gimli_base.proofs.MovingTurns.{moves_after}
 use Rattle.gimli_base.proofs.abbrev.put_moving.Goals as goal
 
-pub listed-init : goal.listed-init
-listed-init c = record { within = omega arith; put = refl }
-
-pub listed-preserved-then-not-moves : goal.listed-preserved-then-not-moves
-listed-preserved-then-not-moves c = record {
-  within = c.listed.invariant.within;
-  put = c.listed.invariant.put
-      ∙ moving_stays c.args.list.now c.listed.specification-index c.specification-item.result
-      c.listed-test.true c.specification-item.is (sym c.moves.ensures ∙ c.if-not-moves.true);
-}
-
-pub offset_bounds-few-count : goal.offset_bounds-few-count
-offset_bounds-few-count c = let few = c.listed.invariant.within in grind arith
-
-pub listed : goal.listed
-listed c = omega (
-  arith,
-  c.listed.invariant.within,
-  c.if-count-eq-FEW.false,
-  c.type_inv.few,
-)
-
-pub bounds-few-count : goal.bounds-few-count
-bounds-few-count c = omega (arith, c.listed.invariant.within, c.if-count-eq-FEW.false)
-
-pub overflow_add-count : goal.overflow_add-count
-overflow_add-count c = let few = c.listed.invariant.within in grind arith
+pub listed-preserved-then-not-is_moving : goal.listed-preserved-then-not-is_moving
+listed-preserved-then-not-is_moving c =
+    let i = c.listed.invariant in
+    let ss = c.args.list.now in
+    let n = c.listed.specification-index in
+    let s = c.specification-item.result in
+    let known : moves_after (found_in false (take n ss)) s ≡ false =
+    ap (λ (b : Bool). moves_after b s) (sym i.found)
+    ∙ sym c.moves-is_moving.ensures ∙ c.if-not-is_moving.true in
+    record {
+      within = i.within;
+      found = rw (c.eq-is_found.ensures, c.name.ensures, i.found)
+          (found_then ss n s c.listed-test.true c.specification-item.is);
+      put = i.put ∙ moving_stays ss n s c.listed-test.true c.specification-item.is known;
+    }
 
 pub listed-preserved : goal.listed-preserved
 listed-preserved c =
-    let below : c.listed.count < 12 =
-    omega (arith, c.listed.invariant.within, c.if-count-eq-FEW.false) in
+    let i = c.listed.invariant in
+    let ss = c.args.list.now in
+    let n = c.listed.specification-index in
+    let s = c.specification-item.result in
+    let below : c.listed.count < 12 = omega (arith, i.within, c.if-count-eq-FEW.false) in
     let lt : c.listed.count < length c.listed.few = search rules in
+    let known : moves_after (found_in false (take n ss)) s ≡ true =
+    ap (λ (b : Bool). moves_after b s) (sym i.found)
+    ∙ sym c.moves-is_moving.ensures ∙ c.if-not-is_moving.false in
     record {
-      within = omega (arith, c.listed.invariant.within, c.if-count-eq-FEW.false);
+      within = omega (arith, below);
+      found = rw (c.eq-is_found.ensures, c.name.ensures, i.found)
+          (found_then ss n s c.listed-test.true c.specification-item.is);
       put =
-          take_more_set c.listed.few c.listed.count c.specification-item.result lt
-          ∙ ap (λ (l : List Specification). l ++ c.specification-item.result ∷ [])
-          c.listed.invariant.put
-          ∙ moving_more c.args.list.now c.listed.specification-index c.specification-item.result
-          c.listed-test.true c.specification-item.is (sym c.moves.ensures ∙ c.if-not-moves.false);
+          take_more_set c.listed.few c.listed.count s lt
+          ∙ ap (λ (l : List Specification). l ++ s ∷ []) i.put
+          ∙ moving_more ss n s c.listed-test.true c.specification-item.is known;
     }
-
-pub returns : goal.returns
-returns c = (
-  c.listed.invariant.within,
-  c.listed.invariant.put
-      ∙ ap (filter moves) (take_all c.listed.specification-index c.args.list.now
-      (omega (arith, c.listed-test.false))),
-)
