@@ -102,8 +102,10 @@ fn push_numbers<R: Reader, A: Allocator>(
     ensures same { entries.new ≡ record entries.old { rest = entries.new.rest } }
 {
     numbers.0.reserve(specifications.len())?;
+    let mut rest = entries.copy();
     for specification in specifications {
-        entries.read_attribute_to(specification, numbers)?;
+        rest.read_attribute_to(specification, numbers)?;
     }
+    *entries = rest;
     Ok(())
 }

@@ -470,7 +470,11 @@ impl<'abbrev, R: Reader, A: Allocator> EntriesRaw<'abbrev, R, A> {
         ensures same { self.new ≡ record self.old { rest = self.new.rest } }
         ensures kept { OnErr result (self.new ≡ self.old) }
     {
-        self.read_attribute_to(&specification, &mut Keep)
+        let mut rest = self.input.copy();
+        let specification = &specification;
+        let read = read_form::<R, Keep, false>(&mut rest, self.encoding, specification, &mut Keep)?;
+        self.input = rest;
+        Ok(read)
     }
 
     /// Reads the attribute of a specification and hands it to a taker, which has room for it; put in
@@ -491,7 +495,7 @@ impl<'abbrev, R: Reader, A: Allocator> EntriesRaw<'abbrev, R, A> {
         ensures kept { OnErr result ((self.new ≡ self.old) × (taker.new ≡ taker.old)) }
     {
         let mut rest = self.input.copy();
-        let taken = read_form::<R, T, false>(&mut rest, self.encoding, specification, taker)?;
+        let taken = read_form::<R, T, true>(&mut rest, self.encoding, specification, taker)?;
         self.input = rest;
         Ok(taken)
     }

@@ -11,8 +11,8 @@ invariant-loop-specification g l =
     record {
       read : numbers_at limit e l.specifications l.initial.entries.rest
           ≡ after l.numbers.0.items
-          (numbers_at limit e (drop l.specification-index l.specifications) l.entries.rest);
-      same : l.entries ≡ record l.initial.entries { rest = l.entries.rest };
+          (numbers_at limit e (drop l.specification-index l.specifications) l.rest.rest);
+      same : l.rest ≡ record l.initial.entries { rest = l.rest.rest };
       room : vec_len l.numbers.0 + (length l.specifications - l.specification-index)
           ≤ vec_capacity l.numbers.0;
     }
