@@ -327,7 +327,8 @@ impl<A: Allocator> Model for Attributes<A> {
 
     ghost invariant = { λ a.
         AreSizesOf a.sizes (if nat_le a.count 12 then take a.count a.few else a.more.items)
-        × (13 ≤ a.count → a.count ≤ 25 → take (a.count - 13) a.few ≡ moving_from false a.more.items) };
+        × (13 ≤ a.count → a.count ≤ 25
+        → take (a.count - 13) a.few ≡ moving_from false a.more.items) };
 }
 
 impl<A: Allocator> Debug for Attributes<A> {
