@@ -8,6 +8,7 @@ mod check;
 mod cursor;
 mod digits;
 mod dump;
+mod dump_vec;
 mod find;
 mod letters;
 mod lines;
@@ -24,6 +25,7 @@ mod words;
 
 pub use cursor::{CursorAnswer, CursorStep, run_cursor, run_cursor_plain};
 pub use dump::dump_text;
+pub use dump_vec::dump_to_vec;
 pub use find::{find_text, unit_of_address};
 pub use lines::WriteFault;
 pub use locations::run_locations;

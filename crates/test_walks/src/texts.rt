@@ -2,7 +2,7 @@
 
 use crate::steps::{Steps, steps_at};
 use gimli_base::Reader;
-use gimli_walk::{Mode, WriteFault, dump_text, find_text, run_words, walk_text};
+use gimli_walk::{Mode, WriteFault, dump_text, dump_to_vec, find_text, run_words, walk_text};
 use std::alloc::{AllocError, Allocator, Global};
 use std::io::Write;
 use test_tables::{Call, Case, Outcome};
@@ -35,6 +35,20 @@ pub(crate) fn write_text<R: Reader, A: Allocator + Copy, W: Write>(
         "find" => Ok(find_text(call.number(next)?, info, out)),
         name => Ok(walk_text(heap, mode_of(name, &steps), info, abbrev, out)),
     }
+}
+
+/// Writes a dump that is put behind a line, and its status; where it is refused, what is left.
+pub(crate) fn write_dump<R: Reader, A: Allocator + Copy>(
+    call: &Call<'_, R>,
+    heap: A,
+    out: &mut Vec<u8>,
+) -> Outcome {
+    let info = call.case.section(0).unwrap_or(&[]);
+    let abbrev = call.case.section(1).unwrap_or(&[]);
+    let mut text = Vec::from_slice(heap, b"held\n")?;
+    let status = dump_to_vec(heap, info, abbrev, &mut text);
+    out.write_all(&text)?;
+    Ok(writeln!(out, "status {}", status?)?)
 }
 
 // A word of the program: `""` stands for one without letters, and `_` for a space.

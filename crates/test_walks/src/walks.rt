@@ -5,7 +5,7 @@ mod files;
 mod steps;
 
 use crate::runs::write_section_run;
-use crate::texts::write_with_status;
+use crate::texts::{write_dump, write_with_status};
 use crate::walks::entries::{write_entries, write_entry_at, write_raw};
 use crate::walks::files::try_file;
 use crate::walks::steps::{write_walk_at, write_walked};
@@ -22,6 +22,7 @@ pub fn write_walk<R: Reader>(
     match call.name() {
         "file" => try_file(rt, folder, call.case, out),
         "rows" | "words" => write_with_status(call, call.alloc, 0, out),
+        "dump_to_vec" => write_dump(call, call.alloc, out),
         "cursor" | "plain" | "tree" => write_walked(call, out),
         "cursor_at" | "plain_at" | "tree_at" => write_walk_at(call, out),
         "raw" => write_raw(call, out),

@@ -6,7 +6,7 @@ use crate::memory::trees::{Tree, write_lent};
 use crate::memory::trial::{Heap, Trial};
 use crate::memory::walks::{Given, write_walk};
 use crate::runs::write_section_run;
-use crate::texts::write_with_status;
+use crate::texts::{write_dump, write_with_status};
 use crate::units::Stage;
 use gimli_base::{Abbreviations, Reader, ReaderOffset};
 use gimli_headers::first_false_sibling;
@@ -22,6 +22,7 @@ impl<'s, 'c, R: Reader> Trial<'s, 'c, R> {
         let (call, heap) = (self.call, &self.failing);
         match call.name() {
             "text" | "words" => write_with_status(call, heap, 1, out),
+            "dump_to_vec" => write_dump(call, heap, out),
             "units" | "type_units" | "ranges" | "locations" => write_section_run(call, heap, out),
             "unit_of_address" => self.write_unit_of(out),
             "table" => write_table(&Stage::new(call, heap)?.table, out),

@@ -11,7 +11,7 @@ fn mark_of(call: &str) -> (&'static str, bool, bool) {
         "text" => ("error 24\nstatus 1", false, true),
         "units" | "type_units" | "ranges" | "locations" => ("stopped", false, true),
         "run_cursor" | "run_plain" | "run_tree" => ("stopped", false, true),
-        "table" | "entry" | "check" => ("refused 24", false, true),
+        "table" | "entry" | "check" | "dump_to_vec" => ("refused 24", false, true),
         _ => ("refused 24", true, true),
     }
 }
