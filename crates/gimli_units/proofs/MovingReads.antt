@@ -16,8 +16,8 @@ use Rattle.gimli_units.specs.Entry.{Attr, attribute_at, attributes_at}
 use Rattle.gimli_units.specs.Kind.{unit_reference}
 use Rattle.gimli_units.proofs.AttributeTurns.{made_direct}
 use Rattle.gimli_units.proofs.ReadTurns.{left_by_all}
-use Rattle.gimli_units.proofs.SizedReads.{left_by}
-use Rattle.gimli_units.proofs.SiblingReads.{sibling_at, sibling_after, sibling_first}
+use Rattle.gimli_units.specs.Sized.{left_by, sibling_at}
+use Rattle.gimli_units.proofs.SiblingReads.{sibling_after, sibling_first}
 
 -- a value without bytes: what reading it leaves is all there was
 nothing_left : (limit : ℕ) (e : Encoding) (name form : ℕ) (c : Option ℤ) (v : View)

@@ -8,7 +8,7 @@ use Rattle.gimli_base.specs.View.{View}
 use Rattle.gimli_base.specs.Reading.{Reads, ◌>>=◌, map_read}
 use Rattle.gimli_base.specs.Abbreviations.{Specification}
 use Rattle.gimli_units.specs.Entry.{Attr, attribute_at, attributes_at}
-use Rattle.gimli_units.proofs.SizedReads.{left_by}
+use Rattle.gimli_units.specs.Sized.{left_by}
 
 -- a value, and then the others
 left_by_both : (r : Reads Attr) (f : View → Reads (List Attr))

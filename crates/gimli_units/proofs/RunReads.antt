@@ -12,13 +12,12 @@ use Rattle.gimli_base.specs.Width.{form_size}
 use Rattle.gimli_base.specs.Abbreviations.{Specification, IsWellFormed}
 use Rattle.gimli_base.proofs.Later.{cut-cut}
 use Rattle.gimli_units.specs.Entry.{attribute_at, attributes_at}
-use Rattle.gimli_units.specs.Sized.{ReadsAny, GoesOn, PassesAsOne, IsRoom, no_room, room_of_8}
-use Rattle.gimli_units.specs.Sized.{room_of_16, room_of_32, room_of_64}
+use Rattle.gimli_units.specs.Sized.{ReadsAny, GoesOn, PassesAsOne, IsRoom, no_room, room_of_8, room_of_16, room_of_32, room_of_64, left_by, sibling_at}
 use Rattle.gimli_units.proofs.SkipTurns.{skip_ok}
-use Rattle.gimli_units.proofs.SizedReads.{Passed, left_by, attribute_any}
+use Rattle.gimli_units.proofs.SizedReads.{Passed, attribute_any}
 use Rattle.gimli_units.proofs.ReadTurns.{left_by_all}
 use Rattle.gimli_units.proofs.SumReads.{first_bytes, skipped}
-use Rattle.gimli_units.proofs.SiblingReads.{is_sibling, sibling_at, sibling_after}
+use Rattle.gimli_units.proofs.SiblingReads.{is_sibling, sibling_after}
 
 not_led : (a b : Bool) → (a && b) ≡ false → a ≡ true → b ≡ false
 not_led a b h led = sym (ap (λ t. t && b) led) ∙ h

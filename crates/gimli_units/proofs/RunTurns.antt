@@ -9,10 +9,9 @@ use Rattle.gimli_base.specs.Reading.{Reads, ◌>>=◌, map_read}
 use Rattle.gimli_base.specs.Abbreviations.{Specification}
 use Rattle.gimli_units.specs.Entry.{attribute_at, attributes_at}
 use Rattle.gimli_units.specs.Kind.{unit_reference}
-use Rattle.gimli_units.specs.Sized.{GoesOn}
-use Rattle.gimli_units.proofs.SizedReads.{left_by}
+use Rattle.gimli_units.specs.Sized.{GoesOn, left_by, sibling_at}
 use Rattle.gimli_units.proofs.ReadTurns.{left_by_all}
-use Rattle.gimli_units.proofs.SiblingReads.{is_sibling, sibling_at, sibling_after, sibling_there}
+use Rattle.gimli_units.proofs.SiblingReads.{is_sibling, sibling_after, sibling_there}
 
 none_left : (ss : List Specification) → length ss ≡ 0 → ss ≡ []
 none_left [] h = refl

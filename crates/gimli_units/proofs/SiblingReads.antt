@@ -13,16 +13,13 @@ use Rattle.gimli_units.specs.Value.{Value}
 use Rattle.gimli_units.specs.Form.{value_at}
 use Rattle.gimli_units.specs.Entry.{Attr, attribute_at, attributes_at, first_of}
 use Rattle.gimli_units.specs.Kind.{sibling_of, unit_reference}
-use Rattle.gimli_units.proofs.SizedReads.{Passed, left_by}
+use Rattle.gimli_units.specs.Sized.{left_by, sibling_at}
+use Rattle.gimli_units.proofs.SizedReads.{Passed}
 use Rattle.gimli_units.proofs.ReadTurns.{left_by_all}
 
 -- whether it is the reference to a sibling
 abbrev pub is_sibling : Specification → Bool
 is_sibling s = s.name.0 == 1
-
--- where the first reference to a sibling leads
-abbrev pub sibling_at : ℕ → Encoding → List Specification → View → Reads (Option ℕ)
-sibling_at limit e ss v = map_read sibling_of (attributes_at limit e ss v)
 
 from : Option Attr → Option ℕ
 from x = elim x [ Some a ↦ unit_reference a.value | None ↦ None ]

@@ -30,17 +30,13 @@ use Rattle.gimli_units.specs.Layout.{block_leb, text, nothing, constant, forms, 
 use Rattle.gimli_units.specs.Form.{is_section_name, value_in, direct_at, form_at}
 use Rattle.gimli_units.specs.Form.{value_at}
 use Rattle.gimli_units.specs.Entry.{attribute_at}
-use Rattle.gimli_units.specs.Sized.{ReadsAny}
+use Rattle.gimli_units.specs.Sized.{ReadsAny, left_by}
 use Rattle.gimli_units.proofs.Chains.{chain_begin, chain_end, number_stands}
 use Rattle.gimli_units.proofs.WidthLaw.{size_of, known_size, form_size-known}
 use Rattle.gimli_units.proofs.SkipTurns.{not_indirect}
 
 abbrev pub Passed : Type 0
 Passed = Reads (Unit {0})
-
--- what a read leaves, its value dropped
-abbrev pub left_by : {A : Type 0} → Reads A → Passed
-left_by r = map_read (λ _. tt) r
 
 pub left_by_made : {A B : Type 0} → (f : A → B) (r : Reads A) → left_by (map_read f r) ≡ left_by r
 left_by_made f (Ok p) = refl

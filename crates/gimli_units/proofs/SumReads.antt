@@ -15,9 +15,9 @@ use Rattle.gimli_base.specs.Abbreviations.{Specification, IsWellFormed}
 use Rattle.gimli_base.proofs.Later.{cut-cut}
 use Rattle.gimli_base.proofs.Passed.{skip_at-none}
 use Rattle.gimli_units.specs.Entry.{attribute_at, attributes_at}
-use Rattle.gimli_units.specs.Sized.{ReadsAny}
+use Rattle.gimli_units.specs.Sized.{ReadsAny, left_by}
 use Rattle.gimli_units.proofs.SkipTurns.{skip_ok}
-use Rattle.gimli_units.proofs.SizedReads.{Passed, left_by, attribute_any}
+use Rattle.gimli_units.proofs.SizedReads.{Passed, attribute_any}
 use Rattle.gimli_units.proofs.ReadTurns.{left_by_all}
 
 -- a value of a bytes, and then others of b

@@ -1,11 +1,20 @@
 -- Passing values by their known size, where reading refuses none whose bytes are there.
 use Rattle.std.specs.Prelude.{◌≡◌, ℕ, ◌<◌, ◌≤◌, ◌^◌, Bool, true, All, length, take, drop, List, Ok}
+use Rattle.std.specs.Prelude.{Option}
 use Rattle.gimli_base.specs.declared.common.Encoding.{Encoding}
 use Rattle.gimli_base.specs.View.{View, cut}
-use Rattle.gimli_base.specs.Reading.{is_size, map_read}
+use Rattle.gimli_base.specs.Reading.{Reads, is_size, map_read}
 use Rattle.gimli_base.specs.Abbreviations.{Specification}
 use Rattle.gimli_units.specs.Entry.{attributes_at}
 use Rattle.gimli_units.specs.Kind.{sibling_of}
+
+-- what a read leaves, its value dropped
+abbrev pub left_by : {A : Type 0} → Reads A → Reads (Unit {0})
+left_by r = map_read (λ _. tt) r
+
+-- where the first reference to a sibling leads, among attributes that are read
+abbrev pub sibling_at : ℕ → Encoding → List Specification → View → Reads (Option ℕ)
+sibling_at limit e ss v = map_read sibling_of (attributes_at limit e ss v)
 
 -- reading refuses no value of n bytes: the addresses have a size that can be read, and an offset of
 -- n bytes is below the limit; no offset has more than 8
@@ -25,10 +34,8 @@ pub data IsRoom (n : ℕ) : Type 0 where
 -- w; and where `leads` is true, so is where the first reference to a sibling leads
 pub record GoesOn (limit : ℕ) (e : Encoding) (leads : Bool) (ss behind : List Specification)
     (v w : View) : Type 0 where
-  pub passed : map_read (λ _. tt {0}) (attributes_at limit e ss v)
-      ≡ map_read (λ _. tt) (attributes_at limit e behind w)
-  pub led : leads ≡ true → map_read sibling_of (attributes_at limit e ss v)
-      ≡ map_read sibling_of (attributes_at limit e behind w)
+  pub passed : left_by (attributes_at limit e ss v) ≡ left_by (attributes_at limit e behind w)
+  pub led : leads ≡ true → sibling_at limit e ss v ≡ sibling_at limit e behind w
 
 -- the first `count` values have `size` bytes together, and where these are there, each below 256,
 -- reading refuses none of them
@@ -45,4 +52,4 @@ pub record IsThere (limit : ℕ) (e : Encoding) (ss : List Specification) (n : �
   pub there : n ≤ length v.bytes
   pub bytes : ((room : ℕ) → IsRoom room → n ≤ room → room ≤ length v.bytes
       → All (λ b. b < 256) (take n v.bytes))
-      → Ok (tt {0}, cut n v) ≡ map_read (λ _. tt) (attributes_at limit e ss v)
+      → Ok (tt {0}, cut n v) ≡ left_by (attributes_at limit e ss v)

@@ -9,9 +9,10 @@ ghost use Rattle.gimli_base.specs.Reading.{read_of, map_read, is_size};
 ghost use Rattle.gimli_base.specs.View.{cut};
 ghost use Rattle.gimli_base.specs.Width.{form_size};
 ghost use Rattle.gimli_base.specs.Abbreviations.{IsWellFormed};
-ghost use Rattle.gimli_units.specs.Kind.{unit_reference, sibling_of};
+ghost use Rattle.gimli_units.specs.Kind.{unit_reference};
 ghost use Rattle.gimli_units.specs.Entry.{attribute_at, attributes_at};
 ghost use Rattle.gimli_units.specs.Sized.{ReadsAny, IsRoom, PassesAsOne, GoesOn, IsThere};
+ghost use Rattle.gimli_units.specs.Sized.{left_by, sibling_at};
 ghost use Rattle.std.specs.Prelude.{Ok, Some, ◌&&◌};
 
 use crate::UnitOffset;
@@ -133,8 +134,7 @@ fn pass_value<R: Reader>(
     specification: &AttributeSpecification,
 ) -> Result<()>
     ensures { read_of result (R.view input.new)
-        ≡ map_read (λ _. tt)
-        (attribute_at R.Offset.limit encoding specification.now (R.view input.old)) }
+        ≡ left_by (attribute_at R.Offset.limit encoding specification.now (R.view input.old)) }
 {
     read_of_variable_size::<R, Pass, true>(input, encoding, specification, &mut Pass)
 }
@@ -168,8 +168,7 @@ fn width_below(
     }
 }
 
-// The first values of a declaration, which are passed together: how many there are, and how many
-// bytes they have.
+// The first values of a declaration, which are passed together: their number and their bytes.
 #[derive(Clone, Copy)]
 struct Run {
     count: usize,
@@ -209,8 +208,7 @@ fn run_of<R: Reader>(
     run
 }
 
-// Passes the first values of these specifications together, and answers the specifications behind
-// them.
+// Passes the first values of these specifications together, and answers those behind them.
 #[inline(always)]
 fn pass_run<'s, R: Reader>(
     input: &mut R,
@@ -239,8 +237,7 @@ pub(crate) fn pass_as_read<R: Reader>(
     specifications: &[AttributeSpecification],
 ) -> Result<()>
     ensures { read_of result (R.view input.new)
-        ≡ map_read (λ _. tt)
-        (attributes_at R.Offset.limit encoding specifications.now (R.view input.old)) }
+        ≡ left_by (attributes_at R.Offset.limit encoding specifications.now (R.view input.old)) }
 {
     let above = above_any::<R>(encoding);
     let mut left = specifications;
@@ -254,8 +251,7 @@ pub(crate) fn pass_as_read<R: Reader>(
     }
 }
 
-// Whether reading refuses none of the values of a declaration, since their bytes are there, and how
-// many bytes they have.
+// How many bytes the values of a declaration have, if reading refuses none, as all are there.
 #[inline(always)]
 fn size_there<R: Reader, A: Allocator>(
     input: &R,
@@ -283,7 +279,7 @@ pub(crate) fn pass_declared<R: Reader, A: Allocator>(
     declared: &Abbreviation<A>,
 ) -> Result<()>
     ensures { read_of result (R.view input.new)
-        ≡ map_read (λ _. tt)
+        ≡ left_by
         (attributes_at R.Offset.limit encoding declared.now.attributes (R.view input.old)) }
 {
     match size_there(input, encoding, declared) {
@@ -334,8 +330,7 @@ fn pass_led<R: Reader>(
     requires { specification.now.name.0 ≡ 1 }
     ensures { read_of (answer_of (option_map (λ o. R.Offset.number o.0)) result)
         (R.view input.new)
-        ≡ map_read sibling_of (attributes_at R.Offset.limit encoding
-        (specification.now ∷ behind.now) (R.view input.old)) }
+        ≡ sibling_at R.Offset.limit encoding (specification.now ∷ behind.now) (R.view input.old) }
 {
     let reference = read_reference(input, encoding, specification)?;
     pass_as_read(input, encoding, behind)?;
@@ -353,8 +348,7 @@ fn pass_led_apart<R: Reader>(
     requires { specification.now.name.0 ≡ 1 }
     ensures { read_of (answer_of (option_map (λ o. R.Offset.number o.0)) result)
         (R.view input.new)
-        ≡ map_read sibling_of (attributes_at R.Offset.limit encoding
-        (specification.now ∷ behind.now) (R.view input.old)) }
+        ≡ sibling_at R.Offset.limit encoding (specification.now ∷ behind.now) (R.view input.old) }
 {
     let mut rest = input.copy();
     let reference = pass_led(&mut rest, encoding, specification, behind)?;
@@ -375,8 +369,7 @@ pub(crate) fn pass_but_sibling<R: Reader, A: Allocator>(
 ) -> Result<Option<UnitOffset<R::Offset>>>
     ensures { read_of (answer_of (option_map (λ o. R.Offset.number o.0)) result)
         (R.view input.new)
-        ≡ map_read sibling_of
-        (attributes_at R.Offset.limit encoding declared.now.attributes (R.view input.old)) }
+        ≡ sibling_at R.Offset.limit encoding declared.now.attributes (R.view input.old) }
 {
     let specifications = declared.moving_attributes();
     match size_there(input, encoding, declared) {
@@ -397,8 +390,7 @@ fn pass_up_to_sibling<R: Reader>(
 ) -> Result<Option<UnitOffset<R::Offset>>>
     ensures { read_of (answer_of (option_map (λ o. R.Offset.number o.0)) result)
         (R.view input.new)
-        ≡ map_read sibling_of
-        (attributes_at R.Offset.limit encoding specifications.now (R.view input.old)) }
+        ≡ sibling_at R.Offset.limit encoding specifications.now (R.view input.old) }
 {
     let above = above_any::<R>(encoding);
     let mut left = specifications;

@@ -1,6 +1,6 @@
 use Rattle.std.proofs.Common.{◌≡◌, length}
 use Rattle.gimli_units.specs.Entry.{attributes_at}
-use Rattle.gimli_units.proofs.SizedReads.{left_by}
+use Rattle.gimli_units.specs.Sized.{left_by}
 use Rattle.gimli_units.proofs.pass.pass_as_read.Given as goal
 
 abbrev pub invariant-runs : goal.invariant-runs

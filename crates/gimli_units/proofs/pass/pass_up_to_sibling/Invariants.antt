@@ -1,5 +1,5 @@
 use Rattle.std.proofs.Common.{◌≡◌, length}
-use Rattle.gimli_units.proofs.SiblingReads.{sibling_at}
+use Rattle.gimli_units.specs.Sized.{sibling_at}
 use Rattle.gimli_units.proofs.pass.pass_up_to_sibling.Given as goal
 
 abbrev pub invariant-runs : goal.invariant-runs
