@@ -32,7 +32,6 @@ use gimli_base::{
 };
 
 // Whether data4 or data8 under a name is an offset into a section.
-#[inline(always)]
 #[tactic(auto, unfolding(crate::specs::Form::is_section_name))]
 fn allow_section_offset(name: DwAt, version: u16) -> bool
     ensures { result ≡ is_section_name name.0 version }
