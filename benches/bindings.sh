@@ -19,6 +19,9 @@ for corpus in "$@"; do
     for room in 64 4096; do
         echo "C, rows:       $("$built/rows" "$corpus/info" "$corpus/abbrev" all $room "$rounds")"
         echo "C, attributes: $("$built/attrs" "$corpus/info" "$corpus/abbrev" $room $((4 * room)) "$rounds")"
+        echo "by a table"
+        echo "C, rows:       $("$built/rows" "$corpus/info" "$corpus/abbrev" all_by $room "$rounds")"
+        echo "C, attributes: $("$built/attrs" "$corpus/info" "$corpus/abbrev" $room $((4 * room)) "$rounds" by)"
     done
     if [ -n "${COUNT-yes}" ]; then
         base=$(count "$program" one peer none)

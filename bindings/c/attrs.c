@@ -1,10 +1,12 @@
-/* attrs INFO ABBREV [ROOM] [SPACE] [REPEAT]: prints the rows of all units with their attributes:
+/* attrs INFO ABBREV [ROOM] [SPACE] [REPEAT] [by]: prints the rows of all units with their attributes:
    a line for each row, as rows.c does, then one for each attribute: its name, form and class, its
-   number, and its text where it has one. A ROOM of 0 is one of 1, since with none no call gives a
-   row; so is a SPACE of 0. */
+   number, and its text where it has one; with `by` the table of abbreviations of each unit is read
+   once. With a REPEAT that is not 0 nothing is printed but the time. A ROOM of 0 is one of 1, since
+   with none no call gives a row; so is a SPACE of 0. */
 #define _POSIX_C_SOURCE 200809L
 #include "gimli.h"
 #include "read_file.h"
+#include "read_table.h"
 #include <inttypes.h>
 #include <stdio.h>
 #include <stdlib.h>
@@ -35,10 +37,12 @@ int main(int argc, char **argv) {
         gimli_unit_t unit;
         for (uint64_t offset = 0; gimli_unit(&sections, offset, &unit) == GIMLI_MORE; offset += unit.length) {
             gimli_place_t place = {unit.header_size, 0};
+            const gimli_table_t *table = argc > 6 ? read_table(&sections, &unit) : NULL;
             uint32_t status = GIMLI_MORE;
             while (status == GIMLI_MORE) {
                 gimli_filled_t filled;
-                status = gimli_entries(&sections, offset, &place, rows, room, attrs, space, &filled);
+                status = table ? gimli_entries_by(&sections, offset, table, &place, rows, room, attrs, space, &filled)
+                               : gimli_entries(&sections, offset, &place, rows, room, attrs, space, &filled);
                 if (filled.rows == 0 && filled.wanted > space) {
                     space = filled.wanted;
                     attrs = realloc(attrs, space * sizeof *attrs);

@@ -1,7 +1,8 @@
 /* hostile CASES: answers the cases of a file, one a line, as bindings/hostile.py writes them, by
    every call with buffers of several sizes, 0 among them. Sections and buffers end where no page
    is mapped, so that a read or a write behind them stops the program; the bytes before and behind
-   what a call fills have to stay. Calls with other sizes have to answer the same.
+   what a call fills have to stay. Calls with other sizes have to answer the same, and so have those
+   by a table of abbreviations.
 
    A case is a word, 1 where the highest byte comes first, 1 where units are those of
    .debug_types, numbers, and sections as hexadecimal digits or `-`:
@@ -19,12 +20,15 @@
 #include <sys/mman.h>
 
 enum { ARENA = 8 << 20, GUARD = 4096, FRONT = 256, SIBLINGS = 64, MARK = 0xa5 };
-enum { UNITS, ABBREV, ADDRESSES, LIST, ROWS, ATTRS, ONE, ARENAS };
+enum { UNITS, ABBREV, ADDRESSES, LIST, ROWS, ATTRS, ONE, DECLARED, SPECIFIED, ARENAS };
 
 static uint8_t *arenas[ARENAS];
 static gimli_sections_t s;
 static unsigned long number;
 static int bad;
+
+/* The table by which rows and entries are read, or NULL where they are read by that of the unit. */
+static const gimli_table_t *table;
 
 static void differs(const char *what, uint64_t is, uint64_t wanted) {
     printf("DIFFERS case %lu %s: %" PRIu64 " beside %" PRIu64 "\n", number, what, is, wanted);
@@ -94,7 +98,8 @@ static gimli_filled_t fill(uint64_t unit, struct read *to, size_t room, size_t s
     gimli_attr_t *attrs = marked(ATTRS, space * sizeof *attrs);
     gimli_place_t before = to->place;
     gimli_filled_t filled = {99, 99, 99};
-    to->status = gimli_entries(&s, unit, &to->place, room ? rows : NULL, room, space ? attrs : NULL, space, &filled);
+    to->status = table ? gimli_entries_by(&s, unit, table, &to->place, room ? rows : NULL, room, space ? attrs : NULL, space, &filled)
+                       : gimli_entries(&s, unit, &to->place, room ? rows : NULL, room, space ? attrs : NULL, space, &filled);
     is_kept("entries", rows, filled.rows * sizeof *rows, room * sizeof *rows);
     is_kept("attributes", attrs, filled.attributes * sizeof *attrs, space * sizeof *attrs);
     if (filled.rows > room || filled.attributes > space) differs("filled", filled.rows, room);
@@ -157,7 +162,8 @@ static void same_rows(uint64_t unit, gimli_place_t place, size_t room) {
         if (calls++ > s.units.length) return differs("more rows than bytes", all, s.units.length);
         gimli_row_t *rows = marked(ROWS, room * sizeof *rows);
         count = 99;
-        status = gimli_rows(&s, unit, &place, room ? rows : NULL, room, &count);
+        status = table ? gimli_rows_by(&s, unit, table, &place, room ? rows : NULL, room, &count)
+                       : gimli_rows(&s, unit, &place, room ? rows : NULL, room, &count);
         is_kept("rows", rows, count * sizeof *rows, room * sizeof *rows);
         for (size_t i = 0; i < count && all < whole.count; i++, all++) {
             const gimli_entry_t *x = &whole.rows[all];
@@ -171,10 +177,39 @@ static void same_rows(uint64_t unit, gimli_place_t place, size_t room) {
     same("place after rows", place.offset, whole.place.offset);
 }
 
-/* Reads a unit's entries from a place on into `whole`, and again with other buffers. */
-static void read_unit(uint64_t unit, gimli_place_t place) {
+/* The table of a unit's abbreviations, with buffers that just hold it; NULL where the unit has none
+   of codes that are in order. */
+static const gimli_table_t *table_of(uint64_t unit) {
+    static gimli_table_t made;
+    gimli_unit_t header;
+    if (gimli_unit(&s, unit, &header) != GIMLI_MORE) return NULL;
+    gimli_counted_t wanted = {99, 99}, counted = {99, 99};
+    uint32_t status = gimli_table(&s, header.abbreviations, NULL, 0, NULL, 0, &wanted);
+    size_t declared = wanted.declarations, specified = wanted.specifications;
+    if (status >= GIMLI_REFUSED) same("status of a refused table", whole.status, status);
+    if (status > GIMLI_END) same("no declarations", declared + specified, 0);
+    if (status > GIMLI_END) return NULL;
+    gimli_declaration_t *declarations = marked(DECLARED, declared * sizeof *declarations);
+    gimli_specification_t *specifications = marked(SPECIFIED, specified * sizeof *specifications);
+    if (specified) {
+        status = gimli_table(&s, header.abbreviations, declarations, declared, specifications, specified - 1, &counted);
+        same("status of a table without room", status, GIMLI_MORE);
+        same("declarations wanted", counted.declarations, declared), same("attributes wanted", counted.specifications, specified);
+        is_kept("no declarations", declarations, 0, declared * sizeof *declarations);
+        is_kept("no attributes", specifications, 0, (specified - 1) * sizeof *specifications);
+    }
+    status = gimli_table(&s, header.abbreviations, declarations, declared, specifications, specified, &counted);
+    same("status of a table", status, GIMLI_END);
+    same("declarations", counted.declarations, declared), same("attributes", counted.specifications, specified);
+    is_kept("before declarations", declarations, 0, 0), is_kept("before attributes", specifications, 0, 0);
+    made.declarations = declarations, made.declared = declared;
+    made.specifications = specifications, made.specified = specified;
+    return &made;
+}
+
+/* Reads a unit's entries from a place on again, with other buffers than `whole`. */
+static void read_again(uint64_t unit, gimli_place_t place) {
     static const size_t sizes[][2] = {{1, 0}, {1, 1}, {3, 5}, {64, 256}};
-    read_entries(unit, place, &whole, 1024, 4096);
     for (size_t i = 0; i < sizeof sizes / sizeof *sizes; i++) {
         if (whole.count > 1024 && sizes[i][0] < 64) continue;
         read_entries(unit, place, &again, sizes[i][0], sizes[i][1]);
@@ -186,6 +221,15 @@ static void read_unit(uint64_t unit, gimli_place_t place) {
     again.place = place;
     fill(unit, &again, 0, 0);
     same("status of no entries", again.status, status_without_room());
+}
+
+/* Reads a unit's entries from a place on into `whole`, and again in other ways. */
+static void read_unit(uint64_t unit, gimli_place_t place) {
+    read_entries(unit, place, &whole, 1024, 4096);
+    read_again(unit, place);
+    table = table_of(unit);
+    if (table) read_again(unit, place);
+    table = NULL;
 }
 
 static void print_entry(const struct read *from, const gimli_entry_t *r) {

@@ -1,9 +1,11 @@
-/* rows INFO ABBREV [all|first] [ROOM] [REPEAT]: prints the rows of the units of a section, in the
-   format of gimli_walk_program rows; with REPEAT nothing is printed but the time. A ROOM of 0 is
-   one of 1, since with none no call gives a row. */
+/* rows INFO ABBREV [all|first|all_by|first_by] [ROOM] [REPEAT]: prints the rows of the units of a
+   section, or of its first, in the format of gimli_walk_program rows; all_by and first_by read the
+   table of abbreviations of each unit once. With REPEAT nothing is printed but the time. A ROOM of
+   0 is one of 1, since with none no call gives a row. */
 #define _POSIX_C_SOURCE 200809L
 #include "gimli.h"
 #include "read_file.h"
+#include "read_table.h"
 #include <inttypes.h>
 #include <stdio.h>
 #include <stdlib.h>
@@ -14,13 +16,16 @@ static gimli_sections_t sections;
 static size_t room = 4096;
 static gimli_row_t *rows;
 static uint64_t all_rows, folded;
+static int by_table;
 
 /* The rows of a unit; the exit status of the program that prints them. */
 static int unit_rows(const gimli_unit_t *unit, int print) {
     gimli_place_t place = {unit->header_size, 0};
+    const gimli_table_t *table = by_table ? read_table(&sections, unit) : NULL;
     for (;;) {
         size_t count = 0;
-        uint32_t status = gimli_rows(&sections, unit->offset, &place, rows, room, &count);
+        uint32_t status = table ? gimli_rows_by(&sections, unit->offset, table, &place, rows, room, &count)
+                                : gimli_rows(&sections, unit->offset, &place, rows, room, &count);
         for (size_t i = 0; i < count; i++) {
             const gimli_row_t *r = &rows[i];
             if (print)
@@ -66,7 +71,7 @@ static int section_rows(int first, int print) {
 
 int main(int argc, char **argv) {
     if (argc < 3) {
-        fprintf(stderr, "usage: rows INFO ABBREV [all|first] [ROOM] [REPEAT]\n");
+        fprintf(stderr, "usage: rows INFO ABBREV [all|first|all_by|first_by] [ROOM] [REPEAT]\n");
         return 2;
     }
     size_t info_length, abbrev_length;
@@ -75,7 +80,8 @@ int main(int argc, char **argv) {
     sections = gimli_no_sections();
     sections.units = gimli_bytes(info, info_length);
     sections.abbrev = gimli_bytes(abbrev, abbrev_length);
-    int first = argc > 3 && strcmp(argv[3], "first") == 0;
+    int first = argc > 3 && strncmp(argv[3], "first", 5) == 0;
+    by_table = argc > 3 && strstr(argv[3], "_by");
     if (argc > 4) room = strtoull(argv[4], NULL, 10);
     if (room == 0) room = 1;
     if (!(rows = calloc(room, sizeof *rows))) return 4;

@@ -19,12 +19,15 @@
    Buffers need not be set before a call; sections are, each field.
 
    Memory is asked for by gimli_rows, gimli_entries, gimli_sibling and gimli_first_false, and given
-   back before they answer. Each of their calls reads the whole table of the unit's abbreviations.
+   back before they answer. Each of their calls reads the whole table of the unit's abbreviations;
+   who reads few rows at a time reads the table once, by gimli_table, and then calls gimli_rows_by
+   (which asks for no memory) or gimli_entries_by.
    A declaration takes 256 bytes in memory, and up to some 600 with what is kept free beside it,
    where in the section it may have 5 to 7: of a hostile .debug_abbrev a table takes 40 to 100
    times the size, and more for a moment while a list of them is moved. Memory that is refused is
    GIMLI_REFUSED + GIMLI_OUT_OF_MEMORY (280) for the table, and GIMLI_ROW_REFUSED +
-   GIMLI_OUT_OF_MEMORY (536) for the attributes of a row, in gimli_entries and gimli_sibling.
+   GIMLI_OUT_OF_MEMORY (536) for the attributes of a row, in gimli_entries, gimli_entries_by and
+   gimli_sibling.
    gimli_first_false takes 24 bytes for each open entry besides, which its 280 may mean. */
 #ifndef GIMLI_H
 #define GIMLI_H
@@ -42,6 +45,7 @@ enum {
     GIMLI_END = 1,           /* nothing is left */
     GIMLI_TOO_DEEP = 2,      /* the depth of the place is so great that depths behind it may be out of range */
     GIMLI_NO_LIST = 3,       /* the attribute's value names no list */
+    GIMLI_UNORDERED = 4,     /* the codes of a table of abbreviations are not 1, 2, .. in this order */
     GIMLI_REFUSED = 256,     /* and a number of gimli_error: what the call begins with was refused */
     GIMLI_ROW_REFUSED = 512  /* and a number of gimli_error: what stands behind all that was written was refused */
 };
@@ -164,6 +168,39 @@ typedef struct {
     size_t wanted; /* where the next row was left since its attributes have no space: their number; else 0 */
 } gimli_filled_t;
 
+/* A declaration of a table of abbreviations. */
+typedef struct {
+    uint64_t code;     /* as gimli_table writes it; in a table the place counts, from 1 on */
+    size_t first;      /* the index of its first attribute among the specifications of the table */
+    size_t attributes; /* their number */
+    uint16_t tag;
+    uint8_t has_children;
+} gimli_declaration_t;
+
+/* A declared attribute. */
+typedef struct {
+    int64_t constant; /* the number of DW_FORM_implicit_const; of any other form nothing */
+    uint16_t name;
+    uint16_t form;
+} gimli_specification_t;
+
+/* A table of abbreviations: the declarations of the codes 1, 2, .. in this order, and their
+   attributes. Any is allowed: an index or a number that is too great stands for what is there, a
+   code that has no declaration is refused (GIMLI_INVALID_ABBREVIATION_CODE) where an entry has it,
+   and an entry with the tag 0 is a null. */
+typedef struct {
+    const gimli_declaration_t *declarations;
+    size_t declared;
+    const gimli_specification_t *specifications;
+    size_t specified;
+} gimli_table_t;
+
+/* How much a table has. */
+typedef struct {
+    size_t declarations;
+    size_t specifications;
+} gimli_counted_t;
+
 /* What the lists of a unit are resolved against: all but `dwo` are values of attributes of its root.
    Of a split unit `address`, `addresses` and the section of addresses are the skeleton's. In GNU's
    split units of version 4 DW_AT_ranges counts from the skeleton's DW_AT_GNU_ranges_base on, which
@@ -237,6 +274,25 @@ uint32_t gimli_rows(const gimli_sections_t *sections, uint64_t unit, gimli_place
    it was refused, the rows that were written are right, and the next call goes on. */
 uint32_t gimli_entries(const gimli_sections_t *sections, uint64_t unit, gimli_place_t *place, gimli_entry_t *rows, size_t room,
                        gimli_attr_t *attrs, size_t space, gimli_filled_t *filled);
+
+/* The table of abbreviations at an offset of `abbrev`, which serves every unit whose
+   `abbreviations` is this offset. `abbrev` is read, and no memory is asked for.
+   END: `counted` declarations and specifications are written, and behind them the buffers are as
+   they were. Else both are as they were. MORE: there is no room for all of the table; `counted` is
+   how much it wants, so a first call may come with no room. UNORDERED, or REFUSED of the offset
+   or of a declaration: `counted` is 0 and 0. What is UNORDERED is read by gimli_rows and
+   gimli_entries alone. */
+uint32_t gimli_table(const gimli_sections_t *sections, uint64_t offset, gimli_declaration_t *declarations, size_t room,
+                     gimli_specification_t *specifications, size_t space, gimli_counted_t *counted);
+
+/* The same as gimli_rows and as gimli_entries by a table, in place of that of the unit: where
+   gimli_table wrote it for the unit, the answers are the same. `units` is read, and the table.
+   Of refusals that come before the first row there are those of the unit and of the place's
+   offset; gimli_rows_by asks for no memory, and gimli_entries_by for that of a row's attributes. */
+uint32_t gimli_rows_by(const gimli_sections_t *sections, uint64_t unit, const gimli_table_t *table, gimli_place_t *place,
+                       gimli_row_t *rows, size_t room, size_t *count);
+uint32_t gimli_entries_by(const gimli_sections_t *sections, uint64_t unit, const gimli_table_t *table, gimli_place_t *place,
+                          gimli_entry_t *rows, size_t room, gimli_attr_t *attrs, size_t space, gimli_filled_t *filled);
 
 /* The next sibling of the row at a place: the next entry of its depth, before the null that
    closes their list. `units` and `abbrev` are read. With `follows` 0 all rows between are read;
@@ -313,6 +369,37 @@ static inline uint32_t gimli_entries_given(const gimli_sections_t *sections, uin
                          attrs ? attrs : GIMLI_NONE(gimli_attr_t), attrs ? space : 0, filled);
 }
 
+static inline gimli_table_t gimli_held_table(const gimli_table_t *table) {
+    gimli_table_t held = *table;
+    if (!held.declarations) held.declarations = GIMLI_NONE(const gimli_declaration_t), held.declared = 0;
+    if (!held.specifications) held.specifications = GIMLI_NONE(const gimli_specification_t), held.specified = 0;
+    return held;
+}
+
+static inline uint32_t gimli_table_given(const gimli_sections_t *sections, uint64_t offset, gimli_declaration_t *declarations,
+                                         size_t room, gimli_specification_t *specifications, size_t space,
+                                         gimli_counted_t *counted) {
+    gimli_sections_t given = gimli_given(sections);
+    return gimli_table(&given, offset, declarations ? declarations : GIMLI_NONE(gimli_declaration_t), declarations ? room : 0,
+                       specifications ? specifications : GIMLI_NONE(gimli_specification_t), specifications ? space : 0, counted);
+}
+
+static inline uint32_t gimli_rows_by_given(const gimli_sections_t *sections, uint64_t unit, const gimli_table_t *table,
+                                           gimli_place_t *place, gimli_row_t *rows, size_t room, size_t *count) {
+    gimli_sections_t given = gimli_given(sections);
+    gimli_table_t held = gimli_held_table(table);
+    return gimli_rows_by(&given, unit, &held, place, rows ? rows : GIMLI_NONE(gimli_row_t), rows ? room : 0, count);
+}
+
+static inline uint32_t gimli_entries_by_given(const gimli_sections_t *sections, uint64_t unit, const gimli_table_t *table,
+                                              gimli_place_t *place, gimli_entry_t *rows, size_t room, gimli_attr_t *attrs,
+                                              size_t space, gimli_filled_t *filled) {
+    gimli_sections_t given = gimli_given(sections);
+    gimli_table_t held = gimli_held_table(table);
+    return gimli_entries_by(&given, unit, &held, place, rows ? rows : GIMLI_NONE(gimli_entry_t), rows ? room : 0,
+                            attrs ? attrs : GIMLI_NONE(gimli_attr_t), attrs ? space : 0, filled);
+}
+
 static inline uint32_t gimli_sibling_given(const gimli_sections_t *sections, uint64_t unit, const gimli_place_t *place,
                                            uint8_t follows, gimli_row_t *row) {
     gimli_sections_t given = gimli_given(sections);
@@ -346,6 +433,9 @@ static inline uint32_t gimli_locations_given(const gimli_sections_t *sections, c
 #define gimli_unit gimli_unit_given
 #define gimli_rows gimli_rows_given
 #define gimli_entries gimli_entries_given
+#define gimli_table gimli_table_given
+#define gimli_rows_by gimli_rows_by_given
+#define gimli_entries_by gimli_entries_by_given
 #define gimli_sibling gimli_sibling_given
 #define gimli_first_false gimli_first_false_given
 #define gimli_unit_of_address gimli_unit_of_address_given
@@ -356,6 +446,8 @@ static inline uint32_t gimli_locations_given(const gimli_sections_t *sections, c
 typedef char gimli_sizes_t[sizeof(size_t) == 8 && sizeof(gimli_bytes_t) == 16 && sizeof(gimli_sections_t) == 136
                            && sizeof(gimli_unit_t) == 56 && sizeof(gimli_place_t) == 16 && sizeof(gimli_row_t) == 24
                            && sizeof(gimli_entry_t) == 40 && sizeof(gimli_attr_t) == 24 && sizeof(gimli_filled_t) == 24
+                           && sizeof(gimli_declaration_t) == 32 && sizeof(gimli_specification_t) == 16
+                           && sizeof(gimli_table_t) == 32 && sizeof(gimli_counted_t) == 16
                            && sizeof(gimli_bases_t) == 40 && sizeof(gimli_range_t) == 16 && sizeof(gimli_location_t) == 32
                            ? 1 : -1];
 

@@ -15,7 +15,7 @@ import sys
 from ctypes import POINTER, Structure, byref, c_char_p, c_int64, c_size_t, c_uint8, c_uint16, c_uint32, c_uint64
 from pathlib import Path
 
-MORE, END, TOO_DEEP, NO_LIST, REFUSED, ROW_REFUSED = 0, 1, 2, 3, 256, 512
+MORE, END, TOO_DEEP, NO_LIST, UNORDERED, REFUSED, ROW_REFUSED = 0, 1, 2, 3, 4, 256, 512
 
 NAMES = """UnexpectedEof BadUnsignedLeb128 BadSignedLeb128 UnknownReservedLength UnknownVersion UnknownUnitType
     UnsupportedAddressSize UnsupportedSegmentSize UnsupportedOffset UnsupportedOffsetSize OffsetOutOfBounds NoEntryAtGivenOffset
@@ -64,6 +64,24 @@ class Filled(Structure):
     _fields_ = [("rows", c_size_t), ("attributes", c_size_t), ("wanted", c_size_t)]
 
 
+class Declaration(Structure):
+    _fields_ = [("code", c_uint64), ("first", c_size_t), ("attributes", c_size_t), ("tag", c_uint16), ("has_children", c_uint8)]
+
+
+class Specification(Structure):
+    _fields_ = [("constant", c_int64), ("name", c_uint16), ("form", c_uint16)]
+
+
+class Table(Structure):
+    """A table of abbreviations, as `Dwarf.table` reads it."""
+    _fields_ = [("declarations", POINTER(Declaration)), ("declared", c_size_t),
+                ("specifications", POINTER(Specification)), ("specified", c_size_t)]
+
+
+class Counted(Structure):
+    _fields_ = [("declarations", c_size_t), ("specifications", c_size_t)]
+
+
 class Bases(Structure):
     """Values of attributes of a unit's root, against which its lists are resolved."""
     _fields_ = [("address", c_uint64), ("addresses", c_uint64), ("rnglists", c_uint64), ("loclists", c_uint64),
@@ -79,8 +97,9 @@ class Location(Structure):
 
 
 # The sizes that the library takes these types to have, as at the end of gimli.h.
-assert [ctypes.sizeof(it) for it in (Bytes, Sections, Unit, Place, Row, Entry, Attr, Filled, Bases, Range, Location)] \
-    == [16, 136, 56, 16, 24, 40, 24, 24, 40, 16, 32]
+assert [ctypes.sizeof(it) for it in (Bytes, Sections, Unit, Place, Row, Entry, Attr, Filled, Declaration, Specification, Table,
+                                    Counted, Bases, Range, Location)] \
+    == [16, 136, 56, 16, 24, 40, 24, 24, 32, 16, 32, 16, 40, 16, 32]
 
 # The kinds of values, as gimli names them; those that only names give do not occur.
 KINDS = {1: "Addr", 2: "Block", 3: "Data1", 4: "Data2", 5: "Data4", 6: "Data8", 7: "Data16", 8: "Sdata", 9: "Udata",
@@ -109,6 +128,10 @@ def load(path):
         "unit": [c_uint64, POINTER(Unit)],
         "rows": [c_uint64, POINTER(Place), POINTER(Row), c_size_t, POINTER(c_size_t)],
         "entries": [c_uint64, POINTER(Place), POINTER(Entry), c_size_t, POINTER(Attr), c_size_t, POINTER(Filled)],
+        "table": [c_uint64, POINTER(Declaration), c_size_t, POINTER(Specification), c_size_t, POINTER(Counted)],
+        "rows_by": [c_uint64, POINTER(Table), POINTER(Place), POINTER(Row), c_size_t, POINTER(c_size_t)],
+        "entries_by": [c_uint64, POINTER(Table), POINTER(Place), POINTER(Entry), c_size_t, POINTER(Attr), c_size_t,
+                       POINTER(Filled)],
         "sibling": [c_uint64, POINTER(Place), c_uint8, POINTER(Row)],
         "first_false": [c_uint64, POINTER(c_uint64)],
         "unit_of_address": [c_uint64, POINTER(c_uint64)],
@@ -156,19 +179,42 @@ class Dwarf:
             yield unit
             offset = unit.offset + unit.length
 
-    def blocks(self, unit, room):
+    def table(self, unit):
+        """The table of a unit's abbreviations for `rows` and `entries`, which then read no table again; None where its codes are
+        not 1, 2, .. in this order."""
+        counted = Counted()
+        declarations, specifications, status = (Declaration * 1)(), (Specification * 1)(), MORE
+        while status == MORE:
+            declarations = (Declaration * max(counted.declarations, 1))()
+            specifications = (Specification * max(counted.specifications, 1))()
+            status = self.call("table", unit.abbreviations, declarations, len(declarations), specifications,
+                               len(specifications), byref(counted))
+        if status == END:
+            return Table(declarations, counted.declarations, specifications, counted.specifications)
+        if status == UNORDERED:
+            return None
+        raise Refused(status)
+
+    def read(self, name, unit, table, *arguments):
+        """A call that reads a unit, by a table where there is one."""
+        if table is None:
+            return self.call(name, unit.offset, *arguments)
+        return self.call(name + "_by", unit.offset, byref(table), *arguments)
+
+    def blocks(self, unit, room, table=None):
         """Buffers of rows, and how many of each were written."""
         room = max(room, 1)
         place, rows, count, status = Place(unit.header_size, 0), (Row * room)(), c_size_t(), MORE
         while status == MORE:
-            status = self.call("rows", unit.offset, byref(place), rows, room, byref(count))
+            status = self.read("rows", unit, table, byref(place), rows, room, byref(count))
             yield rows, count.value
         if status != END:
             raise Refused(status, place.offset)
 
-    def rows(self, unit, room=4096):
-        """Tuples (offset, depth, tag, has_children); a null has the tag 0."""
-        for rows, count in self.blocks(unit, room):
+    def rows(self, unit, room=4096, table=None):
+        """Tuples (offset, depth, tag, has_children); a null has the tag 0. With a table the abbreviations are not read again for
+        each buffer."""
+        for rows, count in self.blocks(unit, room, table):
             for i in range(count):
                 yield row_of(rows[i])
 
@@ -191,13 +237,13 @@ class Dwarf:
             return kind, (attr.number, attr.more)
         return kind, bool(attr.number) if kind == "Flag" else attr.number
 
-    def raw_entries(self, unit, room=1024, space=8192, place=None):
+    def raw_entries(self, unit, room=1024, space=8192, place=None, table=None):
         """Pairs of a row and its attributes as the library writes them, from a place on, which stays as it is."""
         room, space = max(room, 1), max(space, 0)
         place = Place(unit.header_size, 0) if place is None else Place(place.offset, place.depth)
         rows, attrs, filled, status = (Entry * room)(), (Attr * space)(), Filled(), MORE
         while status == MORE:
-            status = self.call("entries", unit.offset, byref(place), rows, room, attrs, space, byref(filled))
+            status = self.read("entries", unit, table, byref(place), rows, room, attrs, space, byref(filled))
             written = (Attr * filled.attributes).from_buffer_copy(attrs)
             for i in range(filled.rows):
                 row = rows[i]
@@ -208,9 +254,9 @@ class Dwarf:
         if status != END:
             raise Refused(status, place.offset)
 
-    def entries(self, unit, room=1024, space=8192):
+    def entries(self, unit, room=1024, space=8192, table=None):
         """Pairs of a row and its attributes, each (name, form, kind, value)."""
-        for row, attrs in self.raw_entries(unit, room, space):
+        for row, attrs in self.raw_entries(unit, room, space, table=table):
             yield row, [(a.name, a.form, *self.value(a)) for a in attrs]
 
     def sibling(self, unit, offset, depth=0, follows=False):

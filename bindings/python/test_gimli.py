@@ -7,7 +7,7 @@ import sys
 from pathlib import Path
 
 import gimli
-from gimli import Attr, Bases, Dwarf, Place, Refused
+from gimli import Attr, Bases, Declaration, Dwarf, Place, Refused, Specification, Table
 
 ROOMS = [(0, 0), (1, 1), (3, 5), (64, 8192)]
 SIBLING = bytes.fromhex("01 2e 01 01 11 00 00  02 34 00 00 00  00")
@@ -49,6 +49,7 @@ def same_rows(name, dwarf, unit):
     rows = list(dwarf.rows(unit))
     for room, _ in ROOMS:
         same(f"{name}: rows, room {room}", list(dwarf.rows(unit, room)), rows)
+        same(f"{name}: rows by a table, room {room}", list(dwarf.rows(unit, room, dwarf.table(unit))), rows)
     return rows
 
 
@@ -84,6 +85,7 @@ def same_entries(name, dwarf, unit, rows):
         kept = list(dwarf.raw_entries(unit, room, space))
         same(f"{name}: entries, room {room}", list(lines_of(dwarf, kept)), lines)
         same(f"{name}: values, room {room}", list(dwarf.entries(unit, room, space)), pairs)
+        same(f"{name}: values by a table, room {room}", list(dwarf.entries(unit, room, space, dwarf.table(unit))), pairs)
     return lines
 
 
@@ -189,6 +191,37 @@ def places(library):
         same("the place", (place.offset, place.depth), (0x0d, 3))
 
 
+def tables(library):
+    """Tables that are read, of codes that are not in order, and that a caller has made."""
+    info = unit_of(False, bytes([1, 0x0f, 2, 0, 2, 2, 0]))
+    dwarf = Dwarf(library, info, SIBLING)
+    unit = dwarf.unit(0)
+    table = dwarf.table(unit)
+    told = [(d.code, d.tag, d.has_children, [(a.name, a.form) for a in table.specifications[d.first:d.first + d.attributes]])
+            for d in table.declarations[:table.declared]]
+    same("declarations", told, [(1, 0x2e, 1, [(1, 0x11)]), (2, 0x34, 0, [])])
+    rows = [(0x0b, 0, 0x2e, 1), (0x0d, 1, 0x34, 0), (0x0e, 1, 0, 0), (0x0f, 0, 0x34, 0), (0x10, 0, 0x34, 0), (0x11, 0, 0, 0)]
+    same("rows by it", list(dwarf.rows(unit, 2, table)), rows)
+    unordered = Dwarf(library, info, bytes.fromhex("02 34 00 0000  01 2e 01 0111 0000  00"))
+    same("a table that is not in order", unordered.table(unit), None)
+    same("rows without it", list(unordered.rows(unit, 2, unordered.table(unit))), rows)
+    same("a table that is cut", refusal(Dwarf(library, info, SIBLING[:-1]).table, unit).name, "UnexpectedEof")
+    same("a declaration without a tag", refusal(Dwarf(library, info, bytes.fromhex("01 00")).table, unit).name, "AbbreviationTagZero")
+    # an entry of the tag 0 is a null, what is not there has no attributes, and a code without a declaration is refused
+    made = Table((Declaration * 1)((7, 5, 3, 0, 1)), 1, (Specification * 1)(), 0)
+    same("rows by a table that was made", refused_rows(dwarf, unit, made), ([(0x0b, 0, 0, 0)], "InvalidAbbreviationCode"))
+
+
+def refused_rows(dwarf, unit, table):
+    """The rows before a refusal, and its name."""
+    rows = []
+    try:
+        rows.extend(dwarf.rows(unit, 1, table))
+    except Refused as refused:
+        return rows, refused.name
+    return rows, None
+
+
 def refusals(library):
     dwarf = Dwarf(library, unit_of(False, bytes([1, 0x0f, 9])), SIBLING)
     refused = refusal(list, dwarf.rows(dwarf.unit(0)))
@@ -206,6 +239,7 @@ def main(path, attrs, data):
         lists(library, big)
     lists_of_five(library)
     places(library)
+    tables(library)
     refusals(library)
     print(f"Python: {files} files, each call as wanted" + ("" if arrays else "; array was not tried, as numpy is not there"))
 

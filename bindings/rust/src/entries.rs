@@ -12,6 +12,9 @@ fn room_for(unit: &UnitHeader, place: Place, room: usize) -> usize {
     room.min(usize::try_from(left).unwrap_or(usize::MAX)).max(1)
 }
 
+// From so many rows a call on it costs little to read the table of abbreviations in each.
+const MANY: usize = 4096;
+
 // Where an iterator over a unit stands.
 struct Reading<'a> {
     sections: Sections<'a>,
@@ -25,6 +28,10 @@ struct Reading<'a> {
     // of the last call
     status: u32,
     row_refused: bool,
+    // from the second call on, which would read that of the unit again
+    table: Option<sys::Abbreviations>,
+    // how many calls there were: 0, 1 or more
+    calls: u8,
 }
 
 impl<'a> Reading<'a> {
@@ -37,6 +44,8 @@ impl<'a> Reading<'a> {
             at: 0,
             status: MORE,
             row_refused: false,
+            table: None,
+            calls: 0,
         }
     }
 
@@ -59,7 +68,13 @@ impl<'a> Reading<'a> {
         self.status = END;
         self.row_refused = false;
         rows.clear();
-        reserve(rows, self.room)
+        reserve(rows, self.room)?;
+        if self.calls == 1 && self.room < MANY {
+            let sections = self.sections.raw(self.unit.types);
+            self.table = sys::Abbreviations::read(&sections, self.unit.debug_abbrev_offset());
+        }
+        self.calls = 2.min(self.calls + 1);
+        Ok(())
     }
 
     fn debug(&self, name: &str, place: Place, f: &mut fmt::Formatter<'_>) -> fmt::Result {
@@ -116,11 +131,12 @@ impl<'a> Rows<'a> {
             if !self.reading.goes_on()? {
                 return Ok(false);
             }
-            let Reading { sections, unit, .. } = self.reading;
             self.reading.start(&mut self.rows)?;
+            let Reading { sections, unit, .. } = self.reading;
             self.reading.status = sys::rows(
                 &sections.raw(unit.types),
                 unit.offset(),
+                self.reading.table.as_ref(),
                 &mut self.reading.place,
                 &mut self.rows,
             );
@@ -229,13 +245,14 @@ impl<'a> Entries<'a> {
             if !self.reading.goes_on()? {
                 return Ok(false);
             }
-            let Reading { sections, unit, .. } = self.reading;
             self.reading.start(&mut self.rows)?;
+            let Reading { sections, unit, .. } = self.reading;
             self.attrs.clear();
             reserve(&mut self.attrs, self.space.max(self.filled.wanted))?;
             self.reading.status = sys::entries(
                 &sections.raw(unit.types),
                 unit.offset(),
+                self.reading.table.as_ref(),
                 &mut self.reading.place,
                 &mut self.rows,
                 &mut self.attrs,

@@ -119,8 +119,99 @@ pub(crate) struct Filled {
     pub(crate) wanted: usize,
 }
 
+#[repr(C)]
+#[derive(Clone, Copy, Debug, Default)]
+struct Declaration {
+    code: u64,
+    first: usize,
+    attributes: usize,
+    tag: u16,
+    has_children: u8,
+}
+
+#[repr(C)]
+#[derive(Clone, Copy, Debug, Default)]
+struct Specification {
+    constant: i64,
+    name: u16,
+    form: u16,
+}
+
+/// A table, as two pointers and lengths.
+#[repr(C)]
+struct Table {
+    declarations: *const Declaration,
+    declared: usize,
+    specifications: *const Specification,
+    specified: usize,
+}
+
+#[repr(C)]
+#[derive(Clone, Copy, Debug, Default)]
+struct Counted {
+    declarations: usize,
+    specifications: usize,
+}
+
+/// The table of a unit's abbreviations, read once.
+pub(crate) struct Abbreviations {
+    declarations: Vec<Declaration>,
+    specifications: Vec<Specification>,
+}
+
+impl Abbreviations {
+    /// The table at an offset. None where it has to be read by the call that reads rows: its codes
+    /// are not in order, it is refused, or there is no memory for it.
+    pub(crate) fn read(sections: &Sections<'_>, offset: u64) -> Option<Abbreviations> {
+        let mut table = Abbreviations {
+            declarations: Vec::new(),
+            specifications: Vec::new(),
+        };
+        let (status, counted) = table.fill(sections, offset);
+        if status == crate::END {
+            return Some(table);
+        }
+        if status != crate::MORE {
+            return None;
+        }
+        crate::reserve(&mut table.declarations, counted.declarations).ok()?;
+        crate::reserve(&mut table.specifications, counted.specifications).ok()?;
+        (table.fill(sections, offset).0 == crate::END).then_some(table)
+    }
+
+    fn fill(&mut self, sections: &Sections<'_>, offset: u64) -> (u32, Counted) {
+        let mut counted = Counted::default();
+        let (room, space) = (self.declarations.capacity(), self.specifications.capacity());
+        // SAFETY: the module's text. Buffers need not be set before; where the status is END, as many
+        // declarations and specifications as are counted are written.
+        unsafe {
+            let (to, and) = (
+                self.declarations.as_mut_ptr(),
+                self.specifications.as_mut_ptr(),
+            );
+            let status = raw::gimli_table(sections, offset, to, room, and, space, &mut counted);
+            if status == crate::END {
+                self.declarations.set_len(counted.declarations);
+                self.specifications.set_len(counted.specifications);
+            }
+            (status, counted)
+        }
+    }
+
+    fn raw(&self) -> Table {
+        Table {
+            declarations: self.declarations.as_ptr(),
+            declared: self.declarations.len(),
+            specifications: self.specifications.as_ptr(),
+            specified: self.specifications.len(),
+        }
+    }
+}
+
 // The sizes that the header says too.
 const _: () = {
+    assert!(size_of::<Declaration>() == 32 && size_of::<Specification>() == 16);
+    assert!(size_of::<Table>() == 32 && size_of::<Counted>() == 16);
     assert!(size_of::<Bytes>() == 16 && size_of::<Sections<'_>>() == 136);
     assert!(size_of::<Unit>() == 56 && size_of::<Place>() == 16 && size_of::<Row>() == 24);
     assert!(size_of::<Entry>() == 40 && size_of::<Attr>() == 24 && size_of::<Filled>() == 24);
@@ -128,7 +219,7 @@ const _: () = {
 };
 
 mod raw {
-    use super::{Attr, Entry, Filled, Sections, Unit};
+    use super::{Attr, Counted, Declaration, Entry, Filled, Sections, Specification, Table, Unit};
     use crate::{Bases, Location, Place, Range, Row};
 
     #[rustfmt::skip]
@@ -136,6 +227,9 @@ mod raw {
         pub(super) fn gimli_unit(s: &Sections<'_>, offset: u64, unit: &mut Unit) -> u32;
         pub(super) fn gimli_rows(s: &Sections<'_>, unit: u64, place: &mut Place, rows: *mut Row, room: usize, count: &mut usize) -> u32;
         pub(super) fn gimli_entries(s: &Sections<'_>, unit: u64, place: &mut Place, rows: *mut Entry, room: usize, attrs: *mut Attr, space: usize, filled: &mut Filled) -> u32;
+        pub(super) fn gimli_table(s: &Sections<'_>, offset: u64, declarations: *mut Declaration, room: usize, specifications: *mut Specification, space: usize, counted: &mut Counted) -> u32;
+        pub(super) fn gimli_rows_by(s: &Sections<'_>, unit: u64, table: &Table, place: &mut Place, rows: *mut Row, room: usize, count: &mut usize) -> u32;
+        pub(super) fn gimli_entries_by(s: &Sections<'_>, unit: u64, table: &Table, place: &mut Place, rows: *mut Entry, room: usize, attrs: *mut Attr, space: usize, filled: &mut Filled) -> u32;
         pub(super) fn gimli_sibling(s: &Sections<'_>, unit: u64, place: &Place, follows: u8, row: &mut Row) -> u32;
         pub(super) fn gimli_first_false(s: &Sections<'_>, unit: u64, offset: &mut u64) -> u32;
         pub(super) fn gimli_unit_of_address(s: &Sections<'_>, address: u64, offset: &mut u64) -> u32;
@@ -149,35 +243,34 @@ pub(crate) fn unit(sections: &Sections<'_>, offset: u64, unit: &mut Unit) -> u32
     unsafe { raw::gimli_unit(sections, offset, unit) }
 }
 
-/// Fills a buffer as far as its capacity.
+/// Fills a buffer as far as its capacity, by a table where there is one.
 pub(crate) fn rows(
     sections: &Sections<'_>,
     unit: u64,
+    table: Option<&Abbreviations>,
     place: &mut Place,
     rows: &mut Vec<Row>,
 ) -> u32 {
     rows.clear();
     let mut count = 0;
+    let (to, room) = (rows.as_mut_ptr(), rows.capacity());
     // SAFETY: the module's text. A buffer need not be set before, and the first `count` rows are
     // written by the call.
     unsafe {
-        let status = raw::gimli_rows(
-            sections,
-            unit,
-            place,
-            rows.as_mut_ptr(),
-            rows.capacity(),
-            &mut count,
-        );
+        let status = match table.map(Abbreviations::raw) {
+            Some(table) => raw::gimli_rows_by(sections, unit, &table, place, to, room, &mut count),
+            None => raw::gimli_rows(sections, unit, place, to, room, &mut count),
+        };
         rows.set_len(count);
         status
     }
 }
 
-/// Fills both buffers as far as their capacity.
+/// Fills both buffers as far as their capacity, by a table where there is one.
 pub(crate) fn entries(
     sections: &Sections<'_>,
     unit: u64,
+    table: Option<&Abbreviations>,
     place: &mut Place,
     rows: &mut Vec<Entry>,
     attrs: &mut Vec<Attr>,
@@ -190,7 +283,11 @@ pub(crate) fn entries(
     // `filled` says are written.
     unsafe {
         let (to, and) = (rows.as_mut_ptr(), attrs.as_mut_ptr());
-        let status = raw::gimli_entries(sections, unit, place, to, room, and, space, filled);
+        let s = sections;
+        let status = match table.map(Abbreviations::raw) {
+            Some(t) => raw::gimli_entries_by(s, unit, &t, place, to, room, and, space, filled),
+            None => raw::gimli_entries(s, unit, place, to, room, and, space, filled),
+        };
         rows.set_len(filled.rows);
         attrs.set_len(filled.attributes);
         status

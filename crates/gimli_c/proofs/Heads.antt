@@ -1,6 +1,6 @@
 -- Entries that are read past: the code's parts, then the whole.
 use Rattle.std.proofs.Common.{◌≡◌, ℕ, ◌+◌, ◌<◌, ◌≤◌, ◌==◌, false, List, [], ◌∷◌}
-use Rattle.std.proofs.Common.{◌++◌, map, drop, length, get_or, Option, Some, None, Ok, Err, refl}
+use Rattle.std.proofs.Common.{◌++◌, map, drop, length, get_or, Option, Some, None, Result, Ok, Err, refl}
 use Rattle.std.proofs.Common.{sym, ap, ◌∙◌}
 use Rattle.std.proofs.Common.{append_assoc, ℤ}
 use Rattle.std.specs.Prelude.{cond}
@@ -8,6 +8,7 @@ use Rattle.std.proofs.lemmas.Bool.{ne_eqb}
 use Rattle.std.proofs.lemmas.List.{drop_more, drop_all, append-nil}
 use Rattle.gimli_base.specs.declared.common.Encoding.{Encoding}
 use Rattle.gimli_base.specs.declared.error.Error.{Error}
+use Rattle.gimli_base.specs.Offset.{answer_of}
 use Rattle.gimli_base.specs.View.{View}
 use Rattle.gimli_base.specs.Reading.{Reads, map_read}
 use Rattle.gimli_base.specs.Abbreviations.{Specification, Declaration, Map}
@@ -177,6 +178,14 @@ pub past_attribute : (limit : ℕ) (e : Encoding) (m : Map) (v w : View) (d : De
     → ◌≡◌ {A = Reads Entry} (Err x) (entry_at limit e m v)
 unfolding entry_at
 past_attribute limit e m v w d x h k = rw (← h, ← k) refl
+
+-- a reader that stands for itself
+pub same_answer : {A : Type 0} {r s : Result A Error} → r ≡ s → answer_of (λ x. x) r ≡ s
+same_answer {A} {r} {s} is = cases r ∙ is
+  where
+    cases : (q : Result A Error) → answer_of (λ x. x) q ≡ q
+    cases (Ok x) = refl
+    cases (Err e) = refl
 
 -- what a row tells of a head
 abbrev told : RowHead → Head

@@ -8,3 +8,7 @@ pub mod Resume
 pub mod TypeUnits
 pub mod SiblingLaw
 pub mod ListFront
+pub mod TableReads
+pub mod TableFront
+pub mod TableLaw
+pub mod ByTable

@@ -5,14 +5,14 @@ use Rattle.std.specs.Prelude.{Some, None, Result, Ok, Err}
 use Rattle.gimli_base.specs.declared.common.SectionId.{SectionId}
 use Rattle.gimli_base.specs.declared.error.Error.{Error}
 use Rattle.gimli_base.specs.declared.error.Error.TheVariants.{OffsetOutOfBounds}
-use Rattle.gimli_base.specs.View.{View, cut}
+use Rattle.gimli_base.specs.View.{View}
 use Rattle.gimli_base.specs.Abbreviations.{Map, map_at}
 use Rattle.gimli_base.specs.Table.{codes_of}
 use Rattle.gimli_units.specs.UnitRows.{unit_rows_from}
 use Rattle.gimli_units.specs.Entry.{entry_at}
 use Rattle.gimli_units.specs.RawPlace.{RawPlace}
 use Rattle.gimli_units.specs.Rows.{Row, Ahead, ahead_at}
-use Rattle.gimli_units.specs.Unit.{UnitView, whole_length, header_size, in_bounds}
+use Rattle.gimli_units.specs.Unit.{UnitView, whole_length, in_bounds}
 use Rattle.gimli_headers.specs.Units.{header_at}
 use Rattle.gimli_c.specs.declared.rows.GimliRow.{GimliRow}
 use Rattle.gimli_c.specs.declared.sections.GimliSections.{GimliSections}

@@ -1,12 +1,15 @@
 -- What a row tells of its entry, and an entry that was read past (DWARF 5, 7.5.2).
-use Rattle.std.specs.Prelude.{◌≡◌, ℕ, List, map, cond, Ok}
+use Rattle.std.specs.Prelude.{◌≡◌, ℕ, List, map, cond, Some, Result, Ok}
 use Rattle.gimli_base.specs.declared.common.Encoding.{Encoding}
+use Rattle.gimli_base.specs.declared.error.Error.{Error}
+use Rattle.gimli_base.specs.Offset.{answer_of}
 use Rattle.gimli_base.specs.View.{View}
 use Rattle.gimli_base.specs.Reading.{Reads}
 use Rattle.gimli_base.specs.Abbreviations.{Specification, Declaration}
-use Rattle.gimli_base.specs.Table.{codes_of}
+use Rattle.gimli_base.specs.Table.{Table, codes_of}
 use Rattle.gimli_units.specs.Entry.{Attr, Entry, attributes_at, entry_at}
 use Rattle.gimli_units.specs.RawPlace.{RawPlace, depth_after}
+use Rattle.gimli_units.specs.Unit.{UnitView, entries_from}
 use Rattle.gimli_c.specs.declared.attrs.GimliAttr.{GimliAttr}
 use Rattle.gimli_c.specs.declared.reading.Head.{Head}
 use Rattle.gimli_c.specs.Attrs.{attr_of}
@@ -40,3 +43,7 @@ pub record IsReadWith (limit : ℕ) (before : RawPlace) (head : Head) (numbers :
     (after : RawPlace) : Type 0 where
   pub past : IsReadPast limit before head after
   pub numbers_are : numbers ≡ map attr_of past.entry.attributes
+
+-- a reader of the entries of a unit by a table is opened at an offset, or the offset is refused
+abbrev pub IsOpened : {T : Type 0} → (T → RawPlace) → UnitView → Table → ℕ → Result T Error → Type 0
+IsOpened place u t offset r = answer_of place r ≡ entries_from u t (Some offset)

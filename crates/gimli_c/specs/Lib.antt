@@ -7,3 +7,5 @@ pub mod Heads
 pub mod Siblings
 pub mod Addresses
 pub mod Lists
+pub mod Tables
+pub mod TableReads

@@ -16,6 +16,10 @@ too_deep = 2
 abbrev pub no_list : ℕ
 no_list = 3
 
+-- the codes of a table are not 1, 2, .. in this order
+abbrev pub unordered : ℕ
+unordered = 4
+
 abbrev pub refusal_status : Error → ℕ
 refusal_status e = 256 + number_of e
 

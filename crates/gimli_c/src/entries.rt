@@ -1,19 +1,24 @@
 //! Rows with their attributes, filled into what the caller hands over.
 
 ghost use Rattle.std.specs.Prelude.{◌≡◌, ◌+◌, ◌<◌, ◌^◌, length, unsigned_abs};
-ghost use Rattle.gimli_base.specs.Table.{codes_of};
+ghost use Rattle.gimli_base.specs.Table.{Table, codes_of};
 ghost use Rattle.gimli_units.specs.UnitHeld.{unit_view};
+ghost use Rattle.gimli_headers.specs.Units.{header_at};
 ghost use Rattle.gimli_c.specs.Units.{section_id};
+ghost use Rattle.gimli_c.specs.Heads.{IsOpened};
+ghost use Rattle.gimli_c.specs.Tables.{table_in, read_by};
 ghost use Rattle.gimli_c.specs.Fronts.{at, ahead_of, unit_ahead, rows_ahead, Resumes};
 ghost use Rattle.gimli_c.specs.Entries.{wrote, FilledEntries, AreTold};
 
 use crate::attrs::{GimliAttr, Numbers, write_attrs};
-use crate::reading::read_numbers;
+use crate::by_table::entries_by;
+use crate::reading::ReadEntries;
 use crate::rows::{GimliPlace, place_of};
 use crate::sections::{UnitSections, header_in};
 use crate::status::{END, MORE, TOO_DEEP, refusal_status, row_refused};
-use gimli_base::{Abbreviations, DebugAbbrev, Reader, ReaderOffset, Section};
-use gimli_units::{EntriesRaw, UnitHeader, UnitOffset};
+use crate::table::GimliTable;
+use gimli_base::{DebugAbbrev, Reader, ReaderOffset, Result, Section};
+use gimli_units::{UnitHeader, UnitOffset};
 use std::alloc::Allocator;
 
 /// An entry of a unit, or the null that closes a list of children.
@@ -82,7 +87,42 @@ pub(crate) fn read_entries<R: Reader, A: Allocator + Copy>(
         Err(error) => return no_entries(offset, depth, refusal_status(error)),
     };
     match header.abbreviations(alloc, &sections.abbreviations) {
-        Ok(table) => unit_entries(alloc, &header, &table, offset, depth, rows, attrs),
+        Ok(table) => {
+            let opened = header.entries_raw(&table, Some(UnitOffset(offset)));
+            unit_entries(alloc, &header, opened, offset, depth, rows, attrs)
+        }
+        Err(error) => no_entries(offset, depth, refusal_status(error)),
+    }
+}
+
+/// The same by a table in the caller's buffers.
+pub(crate) fn read_entries_by<R: Reader, A: Allocator>(
+    alloc: A,
+    sections: &UnitSections<R>,
+    unit: R::Offset,
+    table: GimliTable<'_>,
+    offset: R::Offset,
+    depth: isize,
+    rows: &mut [GimliEntry],
+    attrs: &mut [GimliAttr],
+) -> ToldEntries
+    ensures told { let place = at (R.Offset.number offset) depth in
+        let u = header_at R.Offset.limit (section_id sections.now.types) (R.Offset.number unit)
+        (R.view sections.now.units) in
+        let ahead = read_by R.Offset.limit u (table_in table.entry) in
+        AreTold (ahead place) place rows.old attrs.old result.place rows.new attrs.new
+        result.filled result.status }
+    ensures resumes { let place = at (R.Offset.number offset) depth in
+        let u = header_at R.Offset.limit (section_id sections.now.types) (R.Offset.number unit)
+        (R.view sections.now.units) in
+        let ahead = read_by R.Offset.limit u (table_in table.entry) in
+        Resumes (ahead place) result.filled.rows (ahead result.place) }
+{
+    match header_in(&sections.units, sections.types, unit) {
+        Ok(header) => {
+            let opened = entries_by(&header, table, offset);
+            unit_entries(alloc, &header, opened, offset, depth, rows, attrs)
+        }
         Err(error) => no_entries(offset, depth, refusal_status(error)),
     }
 }
@@ -99,27 +139,30 @@ fn no_entries<O: ReaderOffset>(offset: O, depth: isize, status: u32) -> ToldEntr
     told_entries(status, wrote(0, 0, 0), place)
 }
 
-// Fills rows and attributes of a unit with its abbreviations.
-fn unit_entries<R: Reader, A: Allocator + Copy>(
+// Fills rows and attributes of a unit by a reader of its entries that was opened at an offset.
+fn unit_entries<R: Reader, T: ReadEntries<R> + Drop, A: Allocator>(
     alloc: A,
     unit: &UnitHeader<R>,
-    table: &Abbreviations<A>,
+    opened: Result<T>,
     offset: R::Offset,
     depth: isize,
     rows: &mut [GimliEntry],
     attrs: &mut [GimliAttr],
 ) -> ToldEntries
-    ensures { let place = at (R.Offset.number offset) depth in
-        let ahead = unit_ahead R.Offset.limit (unit_view unit.now) (codes_of table.now) place in
-        AreTold ahead place rows.old attrs.old result.place rows.new attrs.new
-        result.filled result.status }
+    requires { (t : Table)
+        × IsOpened T.place (unit_view unit.now) t (R.Offset.number offset) opened }
+    ensures { let u = unit_view unit.now in let number = R.Offset.number offset in
+        let place = at number depth in
+        (t : Table) → IsOpened T.place u t number opened
+        → AreTold (unit_ahead R.Offset.limit u (codes_of t) place) place rows.old attrs.old
+        result.place rows.new attrs.new result.filled result.status }
 {
     let whole = unit.length_including_self().into_u64();
     let start = offset.into_u64();
     if start == whole {
         return no_entries(offset, depth, END);
     }
-    let mut entries = match unit.entries_raw(table, Some(UnitOffset(offset))) {
+    let mut entries = match opened {
         Ok(entries) => entries,
         Err(error) => return no_entries(offset, depth, refusal_status(error)),
     };
@@ -132,16 +175,16 @@ fn unit_entries<R: Reader, A: Allocator + Copy>(
 }
 
 // Fills rows and their attributes, the depths counted from `base`.
-fn fill_entries<R: Reader, A: Allocator>(
+fn fill_entries<R: Reader, T: ReadEntries<R>, A: Allocator>(
     alloc: A,
-    entries: &mut EntriesRaw<'_, R, A>,
+    entries: &mut T,
     base: isize,
     rows: &mut [GimliEntry],
     attrs: &mut [GimliAttr],
 ) -> ToldEntries
-    requires { let bytes = length entries.old.rest.bytes in
-        unsigned_abs base + unsigned_abs entries.old.depth + bytes < 2 ^ 63 }
-    ensures { let ahead = ahead_of R.Offset.limit base entries.old in
+    requires { let p = T.place entries.old in
+        unsigned_abs base + unsigned_abs p.depth + length p.rest.bytes < 2 ^ 63 }
+    ensures { let ahead = ahead_of R.Offset.limit base (T.place entries.old) in
         FilledEntries ahead rows.old attrs.old result.place rows.new attrs.new
         result.filled result.status }
 {
@@ -150,7 +193,7 @@ fn fill_entries<R: Reader, A: Allocator>(
     let mut used = 0;
     'rows: while count < rows.len() && !entries.is_empty() {
         let place = place_of(entries, base);
-        let head = match read_numbers(entries, &mut numbers) {
+        let head = match entries.read(&mut numbers) {
             Ok(head) => head,
             Err(error) => return told_entries(row_refused(error), wrote(count, used, 0), place),
         };

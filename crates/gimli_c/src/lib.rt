@@ -1,12 +1,13 @@
 //! The reader for callers of C: each call fills what its caller hands over, and keeps nothing.
 //!
 //! A status is 0 where there is more, 1 at the end, 2 at a place whose depth is out of range, 3
-//! where a value names no list, 256 and the number of the refusal of a unit, of its abbreviations
-//! or of an offset, and 512 and that of a row.
+//! where a value names no list, 4 where the codes of a table are not in order, 256 and the number of
+//! the refusal of a unit, of its abbreviations or of an offset, and 512 and that of a row.
 #![tactic(auto)]
 
-ghost use Rattle.std.specs.Prelude.{◌≡◌, ◌<◌, ℕ};
-ghost use Rattle.gimli_c.specs.Units.{units_view, unit_told, section_unit};
+ghost use Rattle.std.specs.Prelude.{◌≡◌, ◌<◌, ℕ, take};
+ghost use Rattle.gimli_c.specs.Units.{units_view, abbreviations_view, unit_told, section_unit};
+ghost use Rattle.gimli_c.specs.Tables.{table_in, table_of, rows_by, IsTableAt, HasTableAt, Serves};
 ghost use Rattle.gimli_c.specs.Fronts.{section_rows, ToldRows, Resumes};
 ghost use Rattle.gimli_c.specs.Entries.{AreTold};
 ghost use Rattle.gimli_c.specs.Status.{more, end, UnlessRefused};
@@ -17,6 +18,7 @@ ghost use Rattle.gimli_c.specs.Lists.{IsToldList};
 
 mod address;
 mod attrs;
+mod by_table;
 mod entries;
 mod first_false;
 mod lists;
@@ -25,6 +27,7 @@ mod rows;
 mod sections;
 mod sibling;
 mod status;
+mod table;
 mod unit;
 
 pub use attrs::GimliAttr;
@@ -36,6 +39,7 @@ pub use rows::{GimliPlace, GimliRow};
 pub use sections::GimliSections;
 use sections::unit_sections;
 use std::alloc::Global;
+pub use table::{GimliCounted, GimliDeclaration, GimliSpecification, GimliTable};
 pub use unit::GimliUnit;
 
 /// Reads the header of the unit at an offset of `units`. Status 0: `unit` is that unit. Otherwise
@@ -118,6 +122,118 @@ pub extern "C" fn gimli_entries(
     } else {
         let opened = unit_sections(sections, BigEndian);
         entries::read_entries(alloc, &opened, unit, offset, place.depth, rows, attrs)
+    };
+    *filled = told.filled;
+    *place = told.place;
+    told.status
+}
+
+/// Reads the table of abbreviations at an offset of `abbreviations` into the caller's buffers, for
+/// `gimli_rows_by` and `gimli_entries_by`. It serves each unit whose abbreviations are there.
+///
+/// `counted` is how many declarations there are and how many attributes they have together.
+///
+/// Status 1: they are written, and what is after them in the buffers stays as it was. Otherwise the
+/// buffers are as they were. Status 0: there is no room for all. Any other: none is counted. Status
+/// 4: their codes are not 1, 2, .. in this order. From 256 on: the offset or a declaration was
+/// refused.
+#[unsafe(no_mangle)]
+pub extern "C" fn gimli_table(
+    sections: &GimliSections<'_>,
+    offset: u64,
+    declarations: &mut [GimliDeclaration],
+    specifications: &mut [GimliSpecification],
+    counted: &mut GimliCounted,
+) -> u32
+    ensures told { IsTableAt offset (abbreviations_view sections.now) declarations.old
+        specifications.old declarations.new specifications.new counted.new result }
+    ensures serves { let ds = take counted.new.declarations declarations.new in
+        let ss = take counted.new.specifications specifications.new in
+        result ≡ end → (unit : ℕ) → HasTableAt offset (section_unit sections.now unit)
+        → Serves sections.now unit (table_of ds ss) }
+{
+    let offset = offset as usize;
+    let abbreviations = sections.abbreviations;
+    let told = if sections.big == 0 {
+        table::read_table(
+            abbreviations,
+            LittleEndian,
+            offset,
+            declarations,
+            specifications,
+        )
+    } else {
+        table::read_table(
+            abbreviations,
+            BigEndian,
+            offset,
+            declarations,
+            specifications,
+        )
+    };
+    *counted = told.counted;
+    told.status
+}
+
+/// The same as `gimli_rows` by a table in the caller's buffers, whatever it holds: the rows are those
+/// that its declarations give. Where `gimli_table` wrote it for the unit, they are the unit's. Only
+/// `units` is read, and no memory is asked for.
+#[unsafe(no_mangle)]
+pub extern "C" fn gimli_rows_by(
+    sections: &GimliSections<'_>,
+    unit: u64,
+    table: &GimliTable<'_>,
+    place: &mut GimliPlace,
+    rows: &mut [GimliRow],
+    count: &mut usize,
+) -> u32
+    ensures told { let ahead = rows_by sections.now unit (table_in table.now) in
+        ToldRows (ahead place.old) place.old rows.old place.new rows.new count.new result }
+    ensures resumes { let ahead = rows_by sections.now unit (table_in table.now) in
+        Resumes (ahead place.old) count.new (ahead place.new) }
+{
+    let unit = unit as usize;
+    let offset = place.offset as usize;
+    let told = if sections.big == 0 {
+        let opened = unit_sections(sections, LittleEndian);
+        rows::read_rows_by(&opened, unit, *table, offset, place.depth, rows)
+    } else {
+        let opened = unit_sections(sections, BigEndian);
+        rows::read_rows_by(&opened, unit, *table, offset, place.depth, rows)
+    };
+    *count = told.count;
+    *place = told.place;
+    told.status
+}
+
+/// The same as `gimli_entries` by a table in the caller's buffers, as `gimli_rows_by`. Memory is asked
+/// for the attributes of a row alone.
+#[unsafe(no_mangle)]
+pub extern "C" fn gimli_entries_by(
+    alloc: Global,
+    sections: &GimliSections<'_>,
+    unit: u64,
+    table: &GimliTable<'_>,
+    place: &mut GimliPlace,
+    rows: &mut [GimliEntry],
+    attrs: &mut [GimliAttr],
+    filled: &mut GimliFilled,
+) -> u32
+    ensures told { let ahead = rows_by sections.now unit (table_in table.now) in
+        AreTold (ahead place.old) place.old rows.old attrs.old place.new rows.new attrs.new
+        filled.new result }
+    ensures resumes { let ahead = rows_by sections.now unit (table_in table.now) in
+        Resumes (ahead place.old) filled.new.rows (ahead place.new) }
+{
+    let unit = unit as usize;
+    let offset = place.offset as usize;
+    let depth = place.depth;
+    let told = if sections.big == 0 {
+        let opened = unit_sections(sections, LittleEndian);
+        entries::read_entries_by(alloc, &opened, unit, *table, offset, depth, rows, attrs)
+    } else {
+        let opened = unit_sections(sections, BigEndian);
+        entries::read_entries_by(alloc, &opened, unit, *table, offset, depth, rows, attrs)
     };
     *filled = told.filled;
     *place = told.place;

@@ -1,15 +1,16 @@
 //! Entries that are read one after the other, each into what a row tells of it.
 
-ghost use Rattle.std.specs.Prelude.{◌≡◌, ◌≢◌, [], map, IfOk, IfErr, OnErr};
+ghost use Rattle.std.specs.Prelude.{◌≡◌, ◌≢◌, ◌↔◌, [], map, length, IsTrue, IfOk, IfErr, OnErr};
 ghost use Rattle.gimli_base.specs.Table.{codes_of};
 ghost use Rattle.gimli_base.specs.Reading.{read_of, answer_leaving, map_read, UnlessMemory};
 ghost use Rattle.gimli_units.specs.Entry.{attributes_at, entry_at};
+ghost use Rattle.gimli_units.specs.RawPlace.{RawPlace, next_offset_of};
 ghost use Rattle.gimli_base.specs.declared.error.Error.TheVariants.{OutOfMemory};
 ghost use Rattle.gimli_c.specs.Attrs.{attr_of};
 ghost use Rattle.gimli_c.specs.Heads.{null_head, declared_head, IsReadPast, IsReadWith};
 
 use crate::attrs::Numbers;
-use gimli_base::{Abbreviation, AttributeSpecification, Reader, Result};
+use gimli_base::{Abbreviation, AttributeSpecification, Reader, ReaderOffset, Result};
 use gimli_units::EntriesRaw;
 use std::alloc::Allocator;
 
@@ -20,14 +21,84 @@ pub(crate) struct Head {
     pub(crate) has_children: u8,
 }
 
-// The null that closes a list of children.
-#[inline(always)]
-fn null_head() -> Head
-    ensures { result ≡ null_head }
-{
-    Head {
-        tag: 0,
-        has_children: 0,
+impl Head {
+    /// That of the null that closes a list of children.
+    #[inline(always)]
+    pub(crate) fn null() -> Head
+        ensures { result ≡ null_head }
+    {
+        Head {
+            tag: 0,
+            has_children: 0,
+        }
+    }
+}
+
+/// A reader of the entries of a unit, one after the other, by a table of abbreviations.
+///
+/// A refused call leaves it as it was.
+pub(crate) trait ReadEntries<R: Reader> {
+    // where it stands
+    ghost place: { Self → RawPlace };
+
+    /// Whether no byte is left.
+    fn is_empty(&self) -> bool
+        ensures { IsTrue result ↔ (length (place self.now).rest.bytes ≡ 0) };
+
+    /// The offset of what is read next.
+    fn next_offset(&self) -> u64
+        ensures { result ≡ next_offset_of (place self.now) };
+
+    /// The depth of what is read next.
+    fn next_depth(&self) -> isize
+        ensures { result ≡ (place self.now).depth };
+
+    /// Reads on past the next entry, and keeps its head alone. Refused as reading the entry is.
+    fn pass(&mut self) -> Result<Head>
+        ensures past { IfOk result
+            (λ head. IsReadPast R.Offset.limit (place self.old) head (place self.new)) }
+        ensures refused { let p = place self.old in
+            IfErr result (λ e. Err e
+            ≡ entry_at R.Offset.limit p.encoding (codes_of p.abbreviations) p.rest) }
+        ensures kept { OnErr result (place self.new ≡ place self.old) };
+
+    /// Reads the next entry, and keeps its head, and its attributes in place of those in `numbers`.
+    /// Refused as reading the entry is, or for memory.
+    fn read<A: Allocator>(&mut self, numbers: &mut Numbers<A>) -> Result<Head>
+        ensures past { IfOk result (λ head. IsReadWith R.Offset.limit (place self.old) head
+            numbers.new.0.items (place self.new)) }
+        ensures refused { let p = place self.old in
+            IfErr result (λ e. (e ≡ OutOfMemory → ⊥) → Err e
+            ≡ entry_at R.Offset.limit p.encoding (codes_of p.abbreviations) p.rest) }
+        ensures kept { OnErr result (place self.new ≡ place self.old) };
+}
+
+impl<'abbrev, R: Reader, B: Allocator> ReadEntries<R> for EntriesRaw<'abbrev, R, B> {
+    ghost place = { λ e. e };
+
+    #[inline(always)]
+    fn is_empty(&self) -> bool {
+        self.is_empty()
+    }
+
+    #[inline(always)]
+    fn next_offset(&self) -> u64 {
+        self.next_offset().0.into_u64()
+    }
+
+    #[inline(always)]
+    fn next_depth(&self) -> isize {
+        self.next_depth()
+    }
+
+    #[inline(always)]
+    fn pass(&mut self) -> Result<Head> {
+        pass_entry(self)
+    }
+
+    #[inline(always)]
+    fn read<A: Allocator>(&mut self, numbers: &mut Numbers<A>) -> Result<Head> {
+        read_numbers(self, numbers)
     }
 }
 
@@ -43,12 +114,10 @@ fn declared_head<A: Allocator>(declared: &Abbreviation<A>) -> Head
     }
 }
 
-/// Reads on past the next entry, and keeps its head alone. Refused as reading the entry is; then
-/// `entries` stays.
+// Reads on past the next entry, and keeps its head alone. Refused as reading the entry is; then
+// `entries` stays.
 #[inline(always)]
-pub(crate) fn pass_entry<R: Reader, A: Allocator>(
-    entries: &mut EntriesRaw<'_, R, A>,
-) -> Result<Head>
+fn pass_entry<R: Reader, A: Allocator>(entries: &mut EntriesRaw<'_, R, A>) -> Result<Head>
     ensures past { IfOk result (λ head. IsReadPast R.Offset.limit entries.old head entries.new) }
     ensures refused { IfErr result (λ e. Err e
         ≡ entry_at R.Offset.limit entries.old.encoding (codes_of entries.old.abbreviations)
@@ -57,15 +126,15 @@ pub(crate) fn pass_entry<R: Reader, A: Allocator>(
 {
     match entries.read_head()? {
         Some(declared) => Ok(declared_head(declared)),
-        None => Ok(null_head()),
+        None => Ok(Head::null()),
     }
 }
 
-/// Reads the next entry, and keeps its head, and its attributes in place of those in `numbers`.
-/// Refused as reading the entry is, or for memory; then `entries` stays.
+// Reads the next entry, and keeps its head, and its attributes in place of those in `numbers`.
+// Refused as reading the entry is, or for memory; then `entries` stays.
 #[inline(always)]
-pub(crate) fn read_numbers<R: Reader, A: Allocator>(
-    entries: &mut EntriesRaw<'_, R, A>,
+fn read_numbers<R: Reader, A: Allocator, B: Allocator>(
+    entries: &mut EntriesRaw<'_, R, B>,
     numbers: &mut Numbers<A>,
 ) -> Result<Head>
     ensures past { IfOk result
@@ -79,7 +148,7 @@ pub(crate) fn read_numbers<R: Reader, A: Allocator>(
     let mut rest = entries.copy();
     let Some(declared) = rest.read_abbreviation()? else {
         *entries = rest;
-        return Ok(null_head());
+        return Ok(Head::null());
     };
     push_numbers(&mut rest, declared.attributes(), numbers)?;
     *entries = rest;
@@ -89,8 +158,8 @@ pub(crate) fn read_numbers<R: Reader, A: Allocator>(
 // Reads the attributes of these specifications into an empty list; where one is refused, `entries`
 // and the list are left anywhere.
 #[inline(always)]
-fn push_numbers<R: Reader, A: Allocator>(
-    entries: &mut EntriesRaw<'_, R, A>,
+fn push_numbers<R: Reader, A: Allocator, B: Allocator>(
+    entries: &mut EntriesRaw<'_, R, B>,
     specifications: &[AttributeSpecification],
     numbers: &mut Numbers<A>,
 ) -> Result<()>

@@ -1,19 +1,24 @@
 //! Rows, filled into what the caller hands over.
 
 ghost use Rattle.std.specs.Prelude.{◌≡◌, ◌+◌, ◌-◌, ◌<◌, ◌≤◌, ◌^◌, ◌+ℤ◌, length, unsigned_abs};
-ghost use Rattle.gimli_base.specs.Table.{codes_of};
+ghost use Rattle.gimli_base.specs.Table.{Table, codes_of};
 ghost use Rattle.gimli_units.specs.RawPlace.{next_offset_of};
 ghost use Rattle.gimli_units.specs.Unit.{whole_length};
 ghost use Rattle.gimli_units.specs.UnitHeld.{unit_view};
+ghost use Rattle.gimli_headers.specs.Units.{header_at};
 ghost use Rattle.gimli_c.specs.Units.{section_id};
+ghost use Rattle.gimli_c.specs.Heads.{IsOpened};
+ghost use Rattle.gimli_c.specs.Tables.{table_in, read_by};
 ghost use Rattle.gimli_c.specs.Fronts.{at, ahead_of, unit_ahead, rows_ahead, Filled, ToldRows};
 ghost use Rattle.gimli_c.specs.Fronts.{Resumes};
 
-use crate::reading::pass_entry;
+use crate::by_table::entries_by;
+use crate::reading::ReadEntries;
 use crate::sections::{UnitSections, header_in};
 use crate::status::{END, MORE, TOO_DEEP, refusal_status, row_refused};
-use gimli_base::{Abbreviations, DebugAbbrev, Reader, ReaderOffset, Section};
-use gimli_units::{EntriesRaw, UnitHeader, UnitOffset};
+use crate::table::GimliTable;
+use gimli_base::{DebugAbbrev, Reader, ReaderOffset, Result, Section};
+use gimli_units::{UnitHeader, UnitOffset};
 use std::alloc::Allocator;
 
 /// A place in a unit, between two rows.
@@ -73,7 +78,39 @@ pub(crate) fn read_rows<R: Reader, A: Allocator + Copy>(
         Err(error) => return no_rows(offset, depth, refusal_status(error)),
     };
     match header.abbreviations(alloc, &sections.abbreviations) {
-        Ok(table) => unit_rows(&header, &table, offset, depth, rows),
+        Ok(table) => {
+            let opened = header.entries_raw(&table, Some(UnitOffset(offset)));
+            unit_rows(&header, opened, offset, depth, rows)
+        }
+        Err(error) => no_rows(offset, depth, refusal_status(error)),
+    }
+}
+
+/// The same by a table in the caller's buffers.
+pub(crate) fn read_rows_by<R: Reader>(
+    sections: &UnitSections<R>,
+    unit: R::Offset,
+    table: GimliTable<'_>,
+    offset: R::Offset,
+    depth: isize,
+    rows: &mut [GimliRow],
+) -> Told
+    ensures told { let place = at (R.Offset.number offset) depth in
+        let u = header_at R.Offset.limit (section_id sections.now.types) (R.Offset.number unit)
+        (R.view sections.now.units) in
+        let ahead = read_by R.Offset.limit u (table_in table.entry) in
+        ToldRows (ahead place) place rows.old result.place rows.new result.count result.status }
+    ensures resumes { let place = at (R.Offset.number offset) depth in
+        let u = header_at R.Offset.limit (section_id sections.now.types) (R.Offset.number unit)
+        (R.view sections.now.units) in
+        let ahead = read_by R.Offset.limit u (table_in table.entry) in
+        Resumes (ahead place) result.count (ahead result.place) }
+{
+    match header_in(&sections.units, sections.types, unit) {
+        Ok(header) => {
+            let opened = entries_by(&header, table, offset);
+            unit_rows(&header, opened, offset, depth, rows)
+        }
         Err(error) => no_rows(offset, depth, refusal_status(error)),
     }
 }
@@ -92,24 +129,28 @@ fn no_rows<O: ReaderOffset>(offset: O, depth: isize, status: u32) -> Told
     }
 }
 
-// Fills rows of a unit with its abbreviations.
-fn unit_rows<R: Reader, A: Allocator + Copy>(
+// Fills rows of a unit by a reader of its entries that was opened at an offset.
+fn unit_rows<R: Reader, T: ReadEntries<R> + Drop>(
     unit: &UnitHeader<R>,
-    table: &Abbreviations<A>,
+    opened: Result<T>,
     offset: R::Offset,
     depth: isize,
     rows: &mut [GimliRow],
 ) -> Told
-    ensures { let place = at (R.Offset.number offset) depth in
-        let ahead = unit_ahead R.Offset.limit (unit_view unit.now) (codes_of table.now) place in
-        ToldRows ahead place rows.old result.place rows.new result.count result.status }
+    requires { (t : Table)
+        × IsOpened T.place (unit_view unit.now) t (R.Offset.number offset) opened }
+    ensures { let u = unit_view unit.now in let number = R.Offset.number offset in
+        let place = at number depth in
+        (t : Table) → IsOpened T.place u t number opened
+        → ToldRows (unit_ahead R.Offset.limit u (codes_of t) place) place rows.old result.place
+        rows.new result.count result.status }
 {
     let whole = unit.length_including_self().into_u64();
     let start = offset.into_u64();
     if start == whole {
         return no_rows(offset, depth, END);
     }
-    let mut entries = match unit.entries_raw(table, Some(UnitOffset(offset))) {
+    let mut entries = match opened {
         Ok(entries) => entries,
         Err(error) => return no_rows(offset, depth, refusal_status(error)),
     };
@@ -122,20 +163,20 @@ fn unit_rows<R: Reader, A: Allocator + Copy>(
 }
 
 // Fills rows, their depths counted from `base`.
-fn fill_rows<R: Reader, A: Allocator>(
-    entries: &mut EntriesRaw<'_, R, A>,
+fn fill_rows<R: Reader, T: ReadEntries<R>>(
+    entries: &mut T,
     base: isize,
     rows: &mut [GimliRow],
 ) -> Told
-    requires { let bytes = length entries.old.rest.bytes in
-        unsigned_abs base + unsigned_abs entries.old.depth + bytes < 2 ^ 63 }
-    ensures { let ahead = ahead_of R.Offset.limit base entries.old in
+    requires { let p = T.place entries.old in
+        unsigned_abs base + unsigned_abs p.depth + length p.rest.bytes < 2 ^ 63 }
+    ensures { let ahead = ahead_of R.Offset.limit base (T.place entries.old) in
         Filled ahead rows.old result.place rows.new result.count result.status }
 {
     let mut count = 0;
     'rows: while count < rows.len() && !entries.is_empty() {
         let place = place_of(entries, base);
-        match pass_entry(entries) {
+        match entries.pass() {
             Ok(head) => {
                 rows[count] = GimliRow {
                     offset: place.offset,
@@ -164,16 +205,13 @@ fn fill_rows<R: Reader, A: Allocator>(
 
 /// Where entries stand.
 #[inline(always)]
-pub(crate) fn place_of<R: Reader, A: Allocator>(
-    entries: &EntriesRaw<'_, R, A>,
-    base: isize,
-) -> GimliPlace
-    requires { unsigned_abs base + unsigned_abs entries.now.depth < 2 ^ 63 }
-    ensures offset { result.offset ≡ next_offset_of entries.now }
-    ensures depth { result.depth ≡ base +ℤ entries.now.depth }
+pub(crate) fn place_of<R: Reader, T: ReadEntries<R>>(entries: &T, base: isize) -> GimliPlace
+    requires { unsigned_abs base + unsigned_abs (T.place entries.now).depth < 2 ^ 63 }
+    ensures offset { result.offset ≡ next_offset_of (T.place entries.now) }
+    ensures depth { result.depth ≡ base +ℤ (T.place entries.now).depth }
 {
     GimliPlace {
-        offset: entries.next_offset().0.into_u64(),
+        offset: entries.next_offset(),
         depth: base + entries.next_depth(),
     }
 }

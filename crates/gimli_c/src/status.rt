@@ -17,6 +17,9 @@ pub(crate) const TOO_DEEP: u32 = 2;
 /// The value of an attribute names no list.
 pub(crate) const NO_LIST: u32 = 3;
 
+/// The codes of a table are not 1, 2, .. in this order.
+pub(crate) const UNORDERED: u32 = 4;
+
 /// The status of a refusal of a unit, of its abbreviations or of an offset.
 pub(crate) fn refusal_status(error: Error) -> u32
     ensures { result ≡ refusal_status error }

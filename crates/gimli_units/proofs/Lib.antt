@@ -22,7 +22,7 @@ pub mod TreeSteps
 mod PassPlaces
 mod SkipTurns
 mod SizedReads
-mod ReadTurns
+pub mod ReadTurns
 mod SumReads
 mod RunReads
 mod RunTurns

@@ -1,14 +1,21 @@
 //! Attributes of entries.
 
-ghost use Rattle.std.specs.Prelude.{◌≡◌, ◌^◌};
+ghost use Rattle.std.specs.Prelude.{◌≡◌, ◌^◌, OnErr};
 ghost use Rattle.std.specs.Option.{option_map};
+ghost use Rattle.gimli_base.specs.Offset.{answer_of};
+ghost use Rattle.gimli_base.specs.Reading.{read_of, map_read};
+ghost use Rattle.gimli_units.specs.Entry.{attribute_at};
 ghost use Rattle.gimli_units.specs.Value.{map_value, map_attribute};
 ghost use Rattle.gimli_units.specs.Kind.{unit_reference};
 ghost use Rattle.gimli_units.specs.NormalValue.{udata_of, sdata_of, sec_offset_of, exprloc_of};
 ghost use Rattle.gimli_units.specs.NormalValue.{string_of, string_sup_of, below};
 
+use crate::form::read_form;
 use crate::{AttributeValue, UnitOffset};
-use gimli_base::{DebugStr, DwAt, DwForm, Expression, Reader, Section};
+use gimli_base::{
+    AttributeSpecification, DebugStr, DwAt, DwForm, Encoding, Expression, Reader, Result, Section,
+};
+use taker::TakeAttribute;
 
 pub(crate) mod list;
 mod normal;
@@ -41,6 +48,30 @@ impl<R, Offset> Attribute<R, Offset> {
 }
 
 impl<R: Reader> Attribute<R> {
+    /// Reads the attribute of a specification and hands it to a taker, which has room for it; put in
+    /// place where it is called. It is for those who keep declarations of their own: in a unit's
+    /// entries `EntriesRaw::read_attribute_to` does the same.
+    ///
+    /// Refusals: those of `EntriesRaw::read_attribute`; the input and the taker then stay.
+    #[inline(always)]
+    pub fn read_to<T: TakeAttribute<R>>(
+        input: &mut R,
+        encoding: Encoding,
+        specification: &AttributeSpecification,
+        taker: &mut T,
+    ) -> Result<T::Answer>
+        requires { T.has_room taker.old }
+        ensures value { read_of (answer_of (T.stand taker.new) result) (R.view input.new)
+            ≡ map_read (T.taken taker.old)
+            (attribute_at R.Offset.limit encoding specification.now (R.view input.old)) }
+        ensures kept { OnErr result ((input.new ≡ input.old) × (taker.new ≡ taker.old)) }
+    {
+        let mut rest = input.copy();
+        let taken = read_form::<R, T, true>(&mut rest, encoding, specification, taker)?;
+        *input = rest;
+        Ok(taken)
+    }
+
     /// The value as the form shows it.
     #[inline(always)]
     pub fn raw_value(&self) -> AttributeValue<R>

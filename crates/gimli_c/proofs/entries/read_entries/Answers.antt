@@ -5,6 +5,7 @@ use Rattle.gimli_units.specs.UnitHeld.{unit_view}
 use Rattle.gimli_c.specs.Fronts.{at, unit_ahead}
 use Rattle.gimli_base.specs.Table.{codes_of}
 use Rattle.gimli_c.proofs.EntryBounds.{told_undeclared}
+use Rattle.gimli_c.proofs.Heads.{same_answer}
 use Rattle.gimli_c.proofs.Resume.{unit_resumes, moved_entries}
 use Rattle.gimli_c.proofs.entries.read_entries.Goals as goal
 
@@ -29,7 +30,8 @@ pub returns-in-Ok-abbreviations-clause-resumes : goal.returns-in-Ok-abbreviation
 returns-in-Ok-abbreviations-clause-resumes g c =
     let back : to_z w64 (of_z w64 c.args.depth) ≡ c.args.depth = to_z-of_z w64 _ c.ranges.depth in
     let number = g.R.Offset.ReaderOffset.number c.args.offset in
-    let told = rw back at c.unit_entries.ensures in
+    let table = c.in-Ok-abbreviations.table in
+    let told = rw back at c.unit_entries.ensures table (same_answer c.entries_raw-opened.ensures) in
     rw (← c.in-Ok.ensures, ← c.in-Ok-abbreviations.ensures)
     (unit_resumes g.R.Offset.ReaderOffset.limit (unit_view c.in-Ok.header)
     (codes_of c.in-Ok-abbreviations.table) c.in-Ok.header.entries_fit (at number c.args.depth)
@@ -38,3 +40,10 @@ returns-in-Ok-abbreviations-clause-resumes g c =
     (codes_of c.in-Ok-abbreviations.table) (at number c.args.depth)) (at number c.args.depth)
     c.args.rows.now c.args.attrs.now c.unit_entries.result.place c.unit_entries.new.rows
     c.unit_entries.new.attrs c.unit_entries.result.filled c.unit_entries.result.status told))
+
+pub returns-in-Ok-abbreviations-clause-told : goal.returns-in-Ok-abbreviations-clause-told
+returns-in-Ok-abbreviations-clause-told g c =
+    let back : to_z w64 (of_z w64 c.args.depth) ≡ c.args.depth = to_z-of_z w64 _ c.ranges.depth in
+    let table = c.in-Ok-abbreviations.table in
+    rw (← c.in-Ok.ensures, ← c.in-Ok-abbreviations.ensures)
+    (rw back at c.unit_entries.ensures table (same_answer c.entries_raw-opened.ensures))

@@ -14,9 +14,9 @@ returns-in-None-clause-past g c =
     let p = c.args.entries.now in
     let q = c.read_head.new.self in
     let e = rw c.in-None.is at c.in_ok-declared.ensures in
-    past_head limit p q None c.null_head.result
+    past_head limit p q None c.null.result
     (entry_of limit p None q.rest q.depth e.value e.some e.depth)
-    c.null_head.ensures e.same
+    c.null.ensures e.same
 
 pub returns-in-Some-clause-past : goal.returns-in-Some-clause-past
 returns-in-Some-clause-past g c =

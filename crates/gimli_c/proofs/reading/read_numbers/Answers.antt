@@ -14,7 +14,7 @@ returns-in_default-clause-past g c =
     let p = c.args.entries.now in
     let left = c.read_abbreviation.new.self.rest in
     let e = rw (c.copy-rest.ensures, c.in_default.is) at c.in_ok-declared.ensures in
-    rw c.null_head.ensures (null_with _ p c.read_abbreviation.new.self e.value
+    rw c.null.ensures (null_with _ p c.read_abbreviation.new.self e.value
     (e.same ∙ ap (λ (d : ℤ). record p { rest = left; depth = d }) e.depth) _ (search rules))
 
 pub returns-in_err-push_numbers-clause-refused : goal.returns-in_err-push_numbers-clause-refused

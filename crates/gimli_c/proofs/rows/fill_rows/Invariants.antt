@@ -3,7 +3,7 @@ use Rattle.gimli_c.proofs.Front.{Front}
 use Rattle.gimli_c.proofs.rows.fill_rows.Given as goal
 
 abbrev pub invariant-rows : goal.invariant-rows
-invariant-rows g l = Front g.R.Offset.ReaderOffset.limit l.fn.base l.initial.entries l.entries
+invariant-rows g l = Front g.R.Offset.ReaderOffset.limit l.fn.base (g.T.ReadEntries.place l.initial.entries) (g.T.ReadEntries.place l.entries)
     l.initial.rows l.rows l.count
 
 abbrev pub decreases-rows : goal.decreases-rows

@@ -5,6 +5,7 @@ use Rattle.gimli_units.specs.UnitHeld.{unit_view}
 use Rattle.gimli_c.specs.Fronts.{at, unit_ahead}
 use Rattle.gimli_base.specs.Table.{codes_of}
 use Rattle.gimli_c.proofs.Bounds.{told_undeclared}
+use Rattle.gimli_c.proofs.Heads.{same_answer}
 use Rattle.gimli_c.proofs.Resume.{unit_resumes, moved_rows}
 use Rattle.gimli_c.proofs.rows.read_rows.Goals as goal
 
@@ -29,7 +30,8 @@ pub returns-in-Ok-abbreviations-clause-resumes : goal.returns-in-Ok-abbreviation
 returns-in-Ok-abbreviations-clause-resumes g c =
     let back : to_z w64 (of_z w64 c.args.depth) ≡ c.args.depth = to_z-of_z w64 _ c.ranges.depth in
     let number = g.R.Offset.ReaderOffset.number c.args.offset in
-    let told = rw back at c.unit_rows.ensures in
+    let table = c.in-Ok-abbreviations.table in
+    let told = rw back at c.unit_rows.ensures table (same_answer c.entries_raw-opened.ensures) in
     rw (← c.in-Ok.ensures, ← c.in-Ok-abbreviations.ensures)
     (unit_resumes g.R.Offset.ReaderOffset.limit (unit_view c.in-Ok.header)
     (codes_of c.in-Ok-abbreviations.table) c.in-Ok.header.entries_fit (at number c.args.depth)
@@ -38,3 +40,10 @@ returns-in-Ok-abbreviations-clause-resumes g c =
     (codes_of c.in-Ok-abbreviations.table) (at number c.args.depth)) (at number c.args.depth)
     c.args.rows.now c.unit_rows.result.place c.unit_rows.new.rows c.unit_rows.result.count
     c.unit_rows.result.status told))
+
+pub returns-in-Ok-abbreviations-clause-told : goal.returns-in-Ok-abbreviations-clause-told
+returns-in-Ok-abbreviations-clause-told g c =
+    let back : to_z w64 (of_z w64 c.args.depth) ≡ c.args.depth = to_z-of_z w64 _ c.ranges.depth in
+    let table = c.in-Ok-abbreviations.table in
+    rw (← c.in-Ok.ensures, ← c.in-Ok-abbreviations.ensures)
+    (rw back at c.unit_rows.ensures table (same_answer c.entries_raw-opened.ensures))

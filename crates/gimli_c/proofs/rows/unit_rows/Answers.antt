@@ -12,33 +12,37 @@ use Rattle.gimli_c.proofs.rows.unit_rows.Goals.{then-left-via-else-left+then-ste
 use Rattle.gimli_c.proofs.rows.unit_rows.Goals as goal
 
 pub returns-then-start-whole : goal.returns-then-start-whole
-returns-then-start-whole g c =
+returns-then-start-whole g c = λ t opened.
     let back : to_z w64 (of_z w64 c.args.depth) ≡ c.args.depth = to_z-of_z w64 _ c.ranges.depth in
     let number = g.R.Offset.ReaderOffset.number c.args.offset in
     let here : number ≡ whole_length (unit_view c.args.unit.now) =
     sym c.into_u64-start.ensures.value ∙ c.if-start-whole.true ∙ c.into_u64-whole.ensures.value
     ∙ c.length_including_self.ensures in
     rw (c.no_rows.ensures, back)
-    (told_ended g.R.Offset.ReaderOffset.limit (unit_view c.args.unit.now) c.args.table.now
+    (told_ended g.R.Offset.ReaderOffset.limit (unit_view c.args.unit.now) t
     (at number c.args.depth) c.args.rows.now c.args.unit.now.entries_fit here)
 
 pub returns-in-Err : goal.returns-in-Err
-returns-in-Err g c =
+returns-in-Err g c = λ t opened.
+    let no = rw c.in-Err.is at opened in
     let back : to_z w64 (of_z w64 c.args.depth) ≡ c.args.depth = to_z-of_z w64 _ c.ranges.depth in
     let number = g.R.Offset.ReaderOffset.number c.args.offset in
     let apart : number ≡ whole_length (unit_view c.args.unit.now) → ⊥ =
     λ h. c.if-start-whole.false (c.into_u64-start.ensures.value ∙ h
     ∙ sym (c.into_u64-whole.ensures.value ∙ c.length_including_self.ensures)) in
     rw (c.no_rows-in-Err.ensures, c.refusal_status.ensures, back)
-    (told_outside g.R.Offset.ReaderOffset.limit (unit_view c.args.unit.now) c.args.table.now
-    (at number c.args.depth) c.args.rows.now apart c.in-Err.error c.in-Err.ensures)
+    (told_outside g.R.Offset.ReaderOffset.limit (unit_view c.args.unit.now) t
+    (at number c.args.depth) c.args.rows.now apart c.in-Err.error no)
 
 pub overflow_sub-left : goal.overflow_sub-left
 overflow_sub-left g c =
+    let t = c.requires.0 in
+    let p = g.T.ReadEntries.place c.in-Ok.entries in
+    let is = rw c.in-Ok.is at c.requires.1 in
     let number = g.R.Offset.ReaderOffset.number c.args.offset in
     let below = below_end (unit_view c.args.unit.now) number
-    (read_bounds (unit_view c.args.unit.now) c.args.table.now number c.in-Ok.entries
-    c.in-Ok.ensures).0 in
+    (read_bounds (unit_view c.args.unit.now) t number p
+    is).0 in
     omega (
       arith,
       below.1,
@@ -48,7 +52,9 @@ overflow_sub-left g c =
     )
 
 pub returns-then-left : goal.returns-then-left
-returns-then-left g c =
+returns-then-left g c = λ t opened.
+    let p = g.T.ReadEntries.place c.in-Ok.entries in
+    let is = rw c.in-Ok.is at opened in
     let back : to_z w64 (of_z w64 c.args.depth) ≡ c.args.depth = to_z-of_z w64 _ c.ranges.depth in
     let number = g.R.Offset.ReaderOffset.number c.args.offset in
     let apart : number ≡ whole_length (unit_view c.args.unit.now) → ⊥ =
@@ -72,11 +78,14 @@ returns-then-left g c =
       )
     ] in
     rw (c.no_rows-then-left.ensures, back)
-    (told_deep g.R.Offset.ReaderOffset.limit (unit_view c.args.unit.now) c.args.table.now
-    (at number c.args.depth) c.args.rows.now apart c.in-Ok.entries c.in-Ok.ensures deep)
+    (told_deep g.R.Offset.ReaderOffset.limit (unit_view c.args.unit.now) t
+    (at number c.args.depth) c.args.rows.now apart p is deep)
 
 pub fill_rows-requires : goal.fill_rows-requires
 fill_rows-requires g c =
+    let t = c.requires.0 in
+    let p = g.T.ReadEntries.place c.in-Ok.entries in
+    let is = rw c.in-Ok.is at c.requires.1 in
     let back : to_z w64 (of_z w64 c.args.depth) ≡ c.args.depth = to_z-of_z w64 _ c.ranges.depth in
     let number = g.R.Offset.ReaderOffset.number c.args.offset in
     let start : c.into_u64-start.result ≡ number = c.into_u64-start.ensures.value in
@@ -84,13 +93,13 @@ fill_rows-requires g c =
     c.into_u64-whole.ensures.value ∙ c.length_including_self.ensures in
     let steps : c.unsigned_abs-steps.result ≡ unsigned_abs c.args.depth =
     c.unsigned_abs-steps.ensures.value ∙ ap unsigned_abs back in
-    let yes = read_bounds (unit_view c.args.unit.now) c.args.table.now number c.in-Ok.entries
-    c.in-Ok.ensures in
-    let bytes : length c.in-Ok.entries.rest.bytes ≡ whole_length (unit_view c.args.unit.now)
+    let yes = read_bounds (unit_view c.args.unit.now) t number p
+    is in
+    let bytes : length p.rest.bytes ≡ whole_length (unit_view c.args.unit.now)
     - number =
     ap (λ (p : RawPlace). length p.rest.bytes) yes.1 ∙ bytes_left (unit_view c.args.unit.now) number
     c.args.unit.now.entries_fit yes.0 in
-    let none : unsigned_abs c.in-Ok.entries.depth ≡ 0 =
+    let none : unsigned_abs p.depth ≡ 0 =
     ap (λ (p : RawPlace). unsigned_abs p.depth) yes.1 in
     rw back (omega (
       arith,
@@ -104,7 +113,9 @@ fill_rows-requires g c =
     ))
 
 pub returns : goal.returns
-returns g c =
+returns g c = λ t opened.
+    let p = g.T.ReadEntries.place c.in-Ok.entries in
+    let is = rw c.in-Ok.is at opened in
     let back : to_z w64 (of_z w64 c.args.depth) ≡ c.args.depth = to_z-of_z w64 _ c.ranges.depth in
     let number = g.R.Offset.ReaderOffset.number c.args.offset in
     let apart : number ≡ whole_length (unit_view c.args.unit.now) → ⊥ =
@@ -119,7 +130,7 @@ returns g c =
     < 2 ^ 63 =
     omega (arith, c.if-left.false, c.if-steps-left.false, start, whole, steps) in
     let f = rw back at c.fill_rows.ensures in
-    told_filled g.R.Offset.ReaderOffset.limit (unit_view c.args.unit.now) c.args.table.now
-    (at number c.args.depth) c.args.rows.now apart c.in-Ok.entries c.fill_rows.result.place
+    told_filled g.R.Offset.ReaderOffset.limit (unit_view c.args.unit.now) t
+    (at number c.args.depth) c.args.rows.now apart p c.fill_rows.result.place
     c.fill_rows.new.rows c.fill_rows.result.count c.fill_rows.result.status
-    c.in-Ok.ensures shallow f
+    is shallow f

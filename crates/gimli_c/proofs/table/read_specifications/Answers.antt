@@ -1,0 +1,73 @@
+use Rattle.std.proofs.Common.{◌≡◌, ◌+◌, ◌<◌, ◌≤◌, rules, ap, sym, arith, [], ◌∷◌, ◌++◌}
+use Rattle.std.proofs.Common.{length, length-append, refl}
+use Rattle.gimli_base.specs.Abbreviations.{specifications_at}
+use Rattle.gimli_base.specs.Items.{all_items}
+use Rattle.gimli_base.proofs.ItemTurns.{items_begin, items_more, items_refused, items_end}
+use Rattle.gimli_base.proofs.AbbreviationReads.{specification_at-shorter}
+use Rattle.gimli_c.specs.Tables.{specification_in}
+use Rattle.gimli_c.proofs.TableFront.{behind_none, behind_more, behind_counted}
+use Rattle.gimli_c.proofs.table.read_specifications.Goals.{then-at-specifications}
+use Rattle.gimli_c.proofs.table.read_specifications.Goals.{else-at-specifications}
+use Rattle.gimli_c.proofs.table.read_specifications.Goals as goal
+
+pub each-init : goal.each-init
+each-init g c = record {
+  taken = [];
+  read = items_begin _ _;
+  at_is = omega arith;
+  takes = omega arith;
+  behind = behind_none c.args.from c.args.specifications.now;
+}
+
+pub returns-in_err-specification-clause-refused : goal.returns-in_err-specification-clause-refused
+unfolding specifications_at
+returns-in_err-specification-clause-refused g c =
+    let ended =
+    ap all_items (items_refused _ _ _ _ _ c.each.invariant.read c.in_err-specification.ensures) in
+    search rules
+
+pub each-smaller : goal.each-smaller
+each-smaller g c = specification_at-shorter _ _ _ c.in_ok-specification.ensures
+
+pub each-preserved : goal.each-preserved
+each-preserved g c =
+    let inv = c.each.invariant in
+    let s = specification_in c.in-Some.specification in
+    let next = rw c.in-Some.is at c.in_ok-specification.ensures in
+    let shorter = specification_at-shorter _ _ _ next in
+    let longer : length (inv.taken ++ s ∷ []) ≡ length inv.taken + 1 = rw (length-append) refl in
+    record {
+      taken = inv.taken ++ s ∷ [];
+      read = items_more _ _ _ _ _ _ inv.read next shorter;
+      at_is = omega (arith, inv.at_is, longer);
+      takes = omega (arith, inv.takes, longer, shorter);
+      behind = elim c.if-at-specifications.branch [
+        | then-at-specifications w ↦
+            let room : c.args.from + length inv.taken < length c.each.specifications =
+            omega (arith, w.if-at-specifications.true, inv.at_is, c.each.auto.specifications) in
+            rw (w.specifications-is, inv.at_is)
+            (behind_more c.args.from inv.taken c.args.specifications.now c.each.specifications
+            c.in-Some.specification s inv.behind room refl)
+        | else-at-specifications w ↦
+            let full : length c.each.specifications ≤ c.args.from + length inv.taken =
+            omega (arith, w.if-at-specifications.false, inv.at_is, c.each.auto.specifications) in
+            rw w.specifications-is
+            (behind_counted c.args.from inv.taken c.args.specifications.now
+            c.each.specifications s inv.behind full)
+      ];
+    }
+
+pub returns-clause-read : goal.returns-clause-read
+unfolding specifications_at
+returns-clause-read g c =
+    let inv = c.each.invariant in
+    let last = rw c.in_default.is at c.in_ok-specification.ensures in
+    let ended = ap all_items (items_end _ _ _ _ _ inv.read last) in
+    let shorter = specification_at-shorter _ _ _ last in
+    record {
+      specifications = inv.taken;
+      read = sym ended;
+      count = omega (arith, inv.at_is);
+      takes = omega (arith, inv.at_is, inv.takes, shorter);
+      behind = inv.behind;
+    }

@@ -1,0 +1,278 @@
+//! Entries that are read one after the other by a table in a caller's buffers.
+
+ghost use Rattle.std.specs.Prelude.{◌≡◌, ◌+◌, ◌-◌, ◌<◌, ◌≤◌, ◌^◌, ℕ, map, length, pos, ◌-ℤ◌, unsigned_abs};
+ghost use Rattle.std.specs.Prelude.{Some, List, [], IfOk, IfErr, OnErr};
+ghost use Rattle.std.specs.Option.{option_map};
+ghost use Rattle.gimli_base.specs.Offset.{answer_of};
+ghost use Rattle.gimli_base.specs.Reading.{read_of, answer_leaving, map_read, UnlessMemory};
+ghost use Rattle.gimli_base.specs.Table.{codes_of};
+ghost use Rattle.gimli_base.specs.declared.error.Error.TheVariants.{OutOfMemory};
+ghost use Rattle.gimli_units.specs.Entry.{Attr, attributes_at, abbreviation_at, entry_at};
+ghost use Rattle.gimli_units.specs.RawPlace.{RawPlace, next_offset_of};
+ghost use Rattle.gimli_units.specs.Sized.{left_by};
+ghost use Rattle.gimli_units.specs.Unit.{whole_length, entries_from};
+ghost use Rattle.gimli_units.specs.UnitHeld.{unit_view};
+ghost use Rattle.gimli_c.specs.Attrs.{attr_of};
+ghost use Rattle.gimli_c.specs.Tables.{specification_in, declaration_in, declared_in, table_in};
+ghost use Rattle.gimli_c.specs.TableReads.{told_head, depth_behind_head, IsHeadRead, IsHeadReadWith};
+
+use crate::attrs::Numbers;
+use crate::reading::{Head, ReadEntries};
+use crate::table::{GimliDeclaration, GimliSpecification, GimliTable};
+use gimli_base::{AttributeSpecification, Encoding, Error, Reader, ReaderOffset, Result};
+use gimli_units::{Attribute, AttributeValue, TakeAttribute, UnitHeader, UnitOffset};
+use std::alloc::Allocator;
+use std::marker::Model;
+
+/// A reader of entries by a caller's table.
+///
+/// A refused call leaves it as it was.
+#[derive(Drop)]
+pub(crate) struct EntriesBy<'t, R: Reader> {
+    input: R,
+    encoding: Encoding,
+    table: GimliTable<'t>,
+    // the offset of the end of the input
+    end: R::Offset,
+    depth: isize,
+}
+
+impl<'t, R: Reader> Model for EntriesBy<'t, R> {
+    ghost Value = { RawPlace };
+
+    ghost view = { λ e.
+        record {
+          rest = R.view e.input;
+          encoding = e.encoding;
+          abbreviations = table_in e.table;
+          end = R.Offset.number e.end;
+          depth = e.depth;
+        } };
+
+    ghost invariant = { λ e. (length (R.view e.input).bytes ≤ R.Offset.number e.end)
+        × (unsigned_abs e.depth + length (R.view e.input).bytes < 2 ^ 63) };
+}
+
+/// A reader of the entries of a unit from an offset on.
+pub(crate) fn entries_by<'t, R: Reader>(
+    unit: &UnitHeader<R>,
+    table: GimliTable<'t>,
+    offset: R::Offset,
+) -> Result<EntriesBy<'t, R>>
+    ensures { result ≡ entries_from (unit_view unit.now) (table_in table.entry)
+        (Some (R.Offset.number offset)) }
+{
+    let input = unit.range_from(UnitOffset(offset)..)?;
+    Ok(EntriesBy {
+        input,
+        encoding: unit.encoding(),
+        table,
+        end: unit.length_including_self(),
+        depth: 0,
+    })
+}
+
+impl<'t, R: Reader> EntriesBy<'t, R> {
+    // Goes behind an entry of which a row tells this.
+    #[inline(always)]
+    fn go_behind(&mut self, rest: R, head: Head)
+        requires { length (R.view rest).bytes < length self.old.rest.bytes }
+        ensures { self.new
+            ≡ record self.old {
+              rest = R.view rest;
+              depth = depth_behind_head head self.old.depth;
+            } }
+    {
+        self.input = rest;
+        if head.tag == 0 {
+            self.depth -= 1;
+        } else if head.has_children != 0 {
+            self.depth += 1;
+        }
+    }
+}
+
+impl<'t, R: Reader> ReadEntries<R> for EntriesBy<'t, R> {
+    ghost place = { λ e. e };
+
+    #[inline(always)]
+    fn is_empty(&self) -> bool {
+        self.input.is_empty()
+    }
+
+    #[inline(always)]
+    fn next_offset(&self) -> u64 {
+        self.end.into_u64() - self.input.len().into_u64()
+    }
+
+    #[inline(always)]
+    fn next_depth(&self) -> isize {
+        self.depth
+    }
+
+    #[inline(always)]
+    fn pass(&mut self) -> Result<Head> {
+        let mut rest = self.input.copy();
+        let head = pass_entry(&mut rest, self.encoding, self.table)?;
+        self.go_behind(rest, head);
+        Ok(head)
+    }
+
+    #[inline(always)]
+    fn read<A: Allocator>(&mut self, numbers: &mut Numbers<A>) -> Result<Head> {
+        let mut rest = self.input.copy();
+        let head = read_numbers(&mut rest, self.encoding, self.table, numbers)?;
+        self.go_behind(rest, head);
+        Ok(head)
+    }
+}
+
+// Passes the next entry, and keeps its head; where it is refused, the input is left anywhere.
+#[inline(always)]
+fn pass_entry<R: Reader>(input: &mut R, encoding: Encoding, table: GimliTable<'_>) -> Result<Head>
+    ensures past { let declared = codes_of (table_in table.entry) in
+        IfOk result (λ head. IsHeadRead R.Offset.limit encoding declared (R.view input.old) head
+        (R.view input.new)) }
+    ensures refused { let declared = codes_of (table_in table.entry) in
+        IfErr result (λ e. Err e
+        ≡ entry_at R.Offset.limit encoding declared (R.view input.old)) }
+{
+    let Some(declared) = next_declared(input, table)? else {
+        return Ok(Head::null());
+    };
+    let specifications = declared.attributes_in(table.specifications);
+    pass_values(input, encoding, specifications)?;
+    Ok(head_by(declared))
+}
+
+// Reads the next entry, and keeps its head, and its attributes in place of those in `numbers`; where
+// it is refused, the input and the list are left anywhere.
+#[inline(always)]
+fn read_numbers<R: Reader, A: Allocator>(
+    input: &mut R,
+    encoding: Encoding,
+    table: GimliTable<'_>,
+    numbers: &mut Numbers<A>,
+) -> Result<Head>
+    ensures past { let declared = codes_of (table_in table.entry) in
+        IfOk result (λ head. IsHeadReadWith R.Offset.limit encoding declared (R.view input.old)
+        head numbers.new.0.items (R.view input.new)) }
+    ensures refused { let declared = codes_of (table_in table.entry) in
+        IfErr result (λ e. (e ≡ OutOfMemory → ⊥) → Err e
+        ≡ entry_at R.Offset.limit encoding declared (R.view input.old)) }
+{
+    numbers.0.clear();
+    let Some(declared) = next_declared(input, table)? else {
+        return Ok(Head::null());
+    };
+    let specifications = declared.attributes_in(table.specifications);
+    push_values(input, encoding, specifications, numbers)?;
+    let head = head_by(declared);
+    if head.tag == 0 {
+        numbers.0.clear();
+    }
+    Ok(head)
+}
+
+// What a row tells of an entry of this declaration; one of the tag 0 is a null.
+#[inline(always)]
+fn head_by(declared: &GimliDeclaration) -> Head
+    ensures { (ss : List GimliSpecification) → result ≡ told_head (declaration_in ss declared.now) }
+{
+    if declared.tag == 0 {
+        return Head::null();
+    }
+    Head {
+        tag: declared.tag,
+        has_children: u8::from(declared.has_children != 0),
+    }
+}
+
+// The declaration of the entry that is next, or none for a null; where it is refused, the input is
+// left anywhere.
+#[inline(always)]
+#[tactic(auto, unfolding(gimli_units::specs::Entry::abbreviation_at))]
+fn next_declared<'t, R: Reader>(
+    input: &mut R,
+    table: GimliTable<'t>,
+) -> Result<Option<&'t GimliDeclaration>>
+    ensures { let ss = table.entry.specifications.now in
+        let told = option_map (λ d. declaration_in ss d.now) in
+        read_of (answer_of told result) (R.view input.new)
+        ≡ abbreviation_at (codes_of (table_in table.entry)) (R.view input.old) }
+{
+    let code = input.read_uleb128()?;
+    if code == 0 {
+        return Ok(None);
+    }
+    match table.declarations.get((code - 1) as usize) {
+        Some(declared) => Ok(Some(declared)),
+        None => Err(Error::InvalidAbbreviationCode(code)),
+    }
+}
+
+// A taker that lets go what it is handed.
+#[derive(Drop)]
+struct Forget;
+
+impl<R: Reader> TakeAttribute<R> for Forget {
+    type Answer = ();
+
+    ghost Stand = { Unit {0} };
+
+    ghost stand = { λ _ _. tt };
+
+    ghost taken = { λ _ _. tt };
+
+    ghost has_room = { λ _. Unit {0} };
+
+    #[inline(always)]
+    fn take(&mut self, _specification: &AttributeSpecification, _value: AttributeValue<R>)
+        ensures { Unit {0} }
+    {}
+}
+
+// Passes what reading the attributes of these specifications reads, with the same refusals; where
+// one is refused, the input is left anywhere.
+#[inline(always)]
+fn pass_values<R: Reader>(
+    input: &mut R,
+    encoding: Encoding,
+    specifications: &[GimliSpecification],
+) -> Result<()>
+    ensures { let declared = map specification_in specifications.now in
+        read_of result (R.view input.new)
+        ≡ left_by (attributes_at R.Offset.limit encoding declared (R.view input.old)) }
+{
+    let mut rest = input.copy();
+    'each: for told in specifications {
+        Attribute::read_to(&mut rest, encoding, &told.specification(), &mut Forget)?;
+    }
+    *input = rest;
+    Ok(())
+}
+
+// Reads the attributes of these specifications into an empty list; where one is refused, the input
+// and the list are left anywhere.
+#[inline(always)]
+fn push_values<R: Reader, A: Allocator>(
+    input: &mut R,
+    encoding: Encoding,
+    specifications: &[GimliSpecification],
+    numbers: &mut Numbers<A>,
+) -> Result<()>
+    requires { numbers.old.0.items ≡ [] }
+    ensures { let declared = map specification_in specifications.now in
+        UnlessMemory result
+        (read_of (answer_leaving numbers.new.0.items result) (R.view input.new)
+        ≡ map_read (map attr_of)
+        (attributes_at R.Offset.limit encoding declared (R.view input.old))) }
+{
+    numbers.0.reserve(specifications.len())?;
+    let mut rest = input.copy();
+    'each: for told in specifications {
+        Attribute::read_to(&mut rest, encoding, &told.specification(), numbers)?;
+    }
+    *input = rest;
+    Ok(())
+}

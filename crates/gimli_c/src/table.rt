@@ -1,0 +1,279 @@
+//! Tables of abbreviations in a caller's buffers.
+
+ghost use Rattle.std.specs.Prelude.{◌≡◌, ◌+◌, ◌<◌, ◌^◌, length, [], take, drop, IfOk, IfErr};
+ghost use Rattle.std.specs.Option.{option_map};
+ghost use Rattle.gimli_base.specs.Offset.{answer_of};
+ghost use Rattle.gimli_base.specs.Reading.{read_of};
+ghost use Rattle.gimli_base.specs.Abbreviations.{specification_at, specifications_at};
+ghost use Rattle.gimli_base.specs.Abbreviations.{declaration_at, declarations_at};
+ghost use Rattle.gimli_c.specs.Tables.{specification_in, declared_in, count_of, have_room, IsTableAt};
+ghost use Rattle.gimli_c.specs.Lists.{section_view};
+ghost use Rattle.gimli_c.specs.TableReads.{WroteDeclared, ReadNext, IsScanned};
+
+use crate::status::{END, MORE, UNORDERED, refusal_status};
+use gimli_base::{
+    AttributeSpecification, DW_FORM_implicit_const, DebugAbbrev, DwAt, DwForm, EndianSlice,
+    Endianity, Error, Reader, Result, Section,
+};
+
+/// A declaration of a table of abbreviations.
+#[repr(C)]
+#[derive(Clone, Copy, Debug)]
+pub struct GimliDeclaration {
+    /// The code by which entries name it, as `gimli_table` writes it; who reads by a table takes
+    /// the place in it for the code, from 1 on.
+    pub code: u64,
+    /// The index of its first attribute among the specifications of the table.
+    pub first: usize,
+    /// The number of its attributes.
+    pub attributes: usize,
+    /// The tag of its entries.
+    pub tag: u16,
+    /// 1 where children follow its entries, else 0.
+    pub has_children: u8,
+}
+
+/// A declared attribute.
+#[repr(C)]
+#[derive(Clone, Copy, Debug)]
+pub struct GimliSpecification {
+    /// The number that the form implicit_const has here; of any other form it tells nothing.
+    pub constant: i64,
+    /// The name.
+    pub name: u16,
+    /// The form.
+    pub form: u16,
+}
+
+/// A table of abbreviations: the declarations of the codes 1, 2, .., and their attributes.
+#[repr(C)]
+#[derive(Clone, Copy, Debug)]
+pub struct GimliTable<'a> {
+    /// The declarations, that of the code 1 first.
+    pub declarations: &'a [GimliDeclaration],
+    /// The attributes of all of them.
+    pub specifications: &'a [GimliSpecification],
+}
+
+/// How much a table holds.
+#[repr(C)]
+#[derive(Clone, Copy, Debug)]
+pub struct GimliCounted {
+    /// The number of declarations.
+    pub declarations: usize,
+    /// The number of their attributes.
+    pub specifications: usize,
+}
+
+impl GimliSpecification {
+    /// The same as the library has it.
+    #[inline(always)]
+    pub(crate) fn specification(&self) -> AttributeSpecification
+        ensures { result ≡ specification_in self.now }
+    {
+        let form = DwForm(self.form);
+        let constant = if form == DW_FORM_implicit_const {
+            Some(self.constant)
+        } else {
+            None
+        };
+        AttributeSpecification::new(DwAt(self.name), form, constant)
+    }
+}
+
+impl GimliDeclaration {
+    /// Its attributes, as far as they are there.
+    #[inline(always)]
+    pub(crate) fn attributes_in<'t>(
+        &self,
+        specifications: &'t [GimliSpecification],
+    ) -> &'t [GimliSpecification]
+        ensures { result.now ≡ declared_in specifications.now self.now }
+    {
+        let first = self.first.min(specifications.len());
+        let behind = &specifications[first..];
+        let count = self.attributes.min(behind.len());
+        &behind[..count]
+    }
+}
+
+/// What a reading of a table tells.
+#[derive(Clone, Copy)]
+pub(crate) struct ToldTable {
+    pub(crate) status: u32,
+    pub(crate) counted: GimliCounted,
+}
+
+// A status where nothing is counted.
+fn none_told(status: u32) -> ToldTable
+    ensures { result ≡ record { status = status; counted = count_of [] } }
+{
+    ToldTable {
+        status,
+        counted: GimliCounted {
+            declarations: 0,
+            specifications: 0,
+        },
+    }
+}
+
+/// Reads the table at an offset of `.debug_abbrev`, first to count what it has, and then into the
+/// buffers, if there is room for all.
+pub(crate) fn read_table<E: Endianity>(
+    abbreviations: &[u8],
+    endian: E,
+    offset: usize,
+    declarations: &mut [GimliDeclaration],
+    specifications: &mut [GimliSpecification],
+) -> ToldTable
+    ensures { let v = section_view (E.big endian) abbreviations.now in
+        IsTableAt offset v declarations.old specifications.old declarations.new
+        specifications.new result.counted result.status }
+{
+    let mut input = EndianSlice::new(abbreviations, endian);
+    match input.skip(offset) {
+        Ok(()) => {}
+        Err(error) => return none_told(refusal_status(error)),
+    }
+    let told = scan(&mut input.copy(), &mut [], &mut []);
+    if told.status > END {
+        return told;
+    }
+    if has_room(told.counted, declarations.len(), specifications.len()) {
+        return scan(&mut input, declarations, specifications);
+    }
+    ToldTable {
+        status: MORE,
+        counted: told.counted,
+    }
+}
+
+// Whether there is room for so much.
+fn has_room(counted: GimliCounted, room: usize, space: usize) -> bool
+    ensures { result ≡ have_room room space counted }
+{
+    counted.declarations <= room && counted.specifications <= space
+}
+
+// Reads the declarations up to the code 0 into the buffers, as far as there is room for them, and
+// counts them all; where they are refused, or there is no room for all, the buffers are left anywhere.
+fn scan<R: Reader>(
+    input: &mut R,
+    declarations: &mut [GimliDeclaration],
+    specifications: &mut [GimliSpecification],
+) -> ToldTable
+    requires { length (R.view input.old).bytes < 2 ^ 63 }
+    ensures { IsScanned (declarations_at (R.view input.old)) declarations.old specifications.old
+        declarations.new specifications.new result.counted result.status }
+{
+    let mut count = 0;
+    let mut used = 0;
+    'declared: loop {
+        match read_declaration(input, used, specifications) {
+            Ok(Some(declared)) => {
+                if declared.code != count as u64 + 1 {
+                    return none_told(UNORDERED);
+                }
+                if count < declarations.len() {
+                    declarations[count] = declared;
+                }
+                count += 1;
+                used += declared.attributes;
+            }
+            Ok(None) => {
+                let counted = GimliCounted {
+                    declarations: count,
+                    specifications: used,
+                };
+                let fits = has_room(counted, declarations.len(), specifications.len());
+                let status = if fits { END } else { MORE };
+                return ToldTable { status, counted };
+            }
+            Err(error) => return none_told(refusal_status(error)),
+        }
+    }
+}
+
+// The next declaration, whose attributes are written behind the first `from`, as far as there is
+// room for them; where it is refused, all is left anywhere.
+#[tactic(auto, unfolding(gimli_base::specs::Abbreviations::declared_at, gimli_base::specs::Abbreviations::tag_at, gimli_base::specs::Abbreviations::children_at))]
+fn read_declaration<R: Reader>(
+    input: &mut R,
+    from: usize,
+    specifications: &mut [GimliSpecification],
+) -> Result<Option<GimliDeclaration>>
+    requires { from + length (R.view input.old).bytes < 2 ^ 63 }
+    ensures read { IfOk result (λ next. ReadNext from (R.view input.old) (R.view input.new)
+        specifications.old specifications.new next) }
+    ensures refused { IfErr result (λ e. Err e ≡ declaration_at (R.view input.old)) }
+    ensures long { length specifications.new ≡ length specifications.old }
+{
+    let code = input.read_uleb128()?;
+    if code == 0 {
+        return Ok(None);
+    }
+    let tag = input.read_uleb128_u16()?;
+    if tag == 0 {
+        return Err(Error::AbbreviationTagZero);
+    }
+    let has_children = input.read_u8()?;
+    if has_children > 1 {
+        return Err(Error::InvalidAbbreviationChildren);
+    }
+    let attributes = read_specifications(input, from, specifications)?;
+    Ok(Some(GimliDeclaration {
+        code,
+        first: from,
+        attributes,
+        tag,
+        has_children,
+    }))
+}
+
+// The attributes of a declaration up to two zeros, written behind the first `from` as far as there
+// is room for them, and their number; where they are refused, all is left anywhere.
+fn read_specifications<R: Reader>(
+    input: &mut R,
+    from: usize,
+    specifications: &mut [GimliSpecification],
+) -> Result<usize>
+    requires { from + length (R.view input.old).bytes < 2 ^ 63 }
+    ensures read { IfOk result (λ n. WroteDeclared from (R.view input.old) (R.view input.new)
+        specifications.old specifications.new n) }
+    ensures refused { IfErr result (λ e. Err e ≡ specifications_at (R.view input.old)) }
+    ensures long { length specifications.new ≡ length specifications.old }
+{
+    let mut at = from;
+    'each: while let Some(specification) = read_specification(input)? {
+        if at < specifications.len() {
+            specifications[at] = specification;
+        }
+        at += 1;
+    }
+    Ok(at - from)
+}
+
+// The next declared attribute, or none where two zeros end the list; where it is refused, the input
+// is left anywhere.
+#[inline]
+#[tactic(auto, unfolding(gimli_base::specs::Abbreviations::specification_at))]
+fn read_specification<R: Reader>(input: &mut R) -> Result<Option<GimliSpecification>>
+    ensures { read_of (answer_of (option_map specification_in) result) (R.view input.new)
+        ≡ specification_at (R.view input.old) }
+{
+    let name = input.read_uleb128_u16()?;
+    let form = input.read_uleb128_u16()?;
+    let mut constant = 0;
+    match (name, form) {
+        (0, 0) => return Ok(None),
+        (0, _) => return Err(Error::AttributeNameZero),
+        (_, 0) => return Err(Error::AttributeFormZero),
+        (_, 0x21) => constant = input.read_sleb128()?,
+        _ => {}
+    }
+    Ok(Some(GimliSpecification {
+        constant,
+        name,
+        form,
+    }))
+}
