@@ -12,3 +12,4 @@ pub mod TableReads
 pub mod TableFront
 pub mod TableLaw
 pub mod ByTable
+pub mod TableSizes

@@ -5,11 +5,13 @@ use Rattle.gimli_base.specs.declared.common.Encoding.{Encoding}
 use Rattle.gimli_base.specs.View.{View}
 use Rattle.gimli_base.specs.Reading.{Reads}
 use Rattle.gimli_base.specs.Items.{Items}
+use Rattle.gimli_base.specs.Width.{attributes_size}
 use Rattle.gimli_base.specs.Abbreviations.{Specification, Declaration, Map, specifications_at}
 use Rattle.gimli_base.specs.Abbreviations.{declaration_at}
 use Rattle.gimli_units.specs.Entry.{Entry, entry_at}
 use Rattle.gimli_units.specs.RawPlace.{below_flag, depth_after}
 use Rattle.gimli_c.specs.declared.attrs.GimliAttr.{GimliAttr}
+use Rattle.gimli_c.specs.declared.by_table.Known.{Known}
 use Rattle.gimli_c.specs.declared.reading.Head.{Head}
 use Rattle.gimli_c.specs.declared.table.GimliCounted.{GimliCounted}
 use Rattle.gimli_c.specs.declared.table.GimliDeclaration.{GimliDeclaration}
@@ -41,6 +43,12 @@ pub record IsHeadReadWith (limit : ℕ) (e : Encoding) (declared : Map) (v : Vie
     (numbers : List GimliAttr) (w : View) : Type 0 where
   pub read : IsHeadRead limit e declared v head w
   pub numbers_are : numbers ≡ map attr_of read.entry.attributes
+
+-- a size of at most 64 is that of the values of these attributes of a table
+abbrev pub IsKnown : Encoding → List GimliSpecification → Known → Type 0
+IsKnown e ss k =
+    k.size ≤ 64 → attributes_size e (map specification_in (take k.attributes (drop k.first ss)))
+    ≡ Some k.size
 
 -- these attributes are written behind the first `from`, where there is room for them
 pub record AreBehind (from : ℕ) (ss : List Specification) (old new : List GimliSpecification)

@@ -1,11 +1,12 @@
 //! Entries that are read one after the other by a table in a caller's buffers.
 
 ghost use Rattle.std.specs.Prelude.{◌≡◌, ◌+◌, ◌-◌, ◌<◌, ◌≤◌, ◌^◌, ℕ, map, length, pos, ◌-ℤ◌, unsigned_abs};
-ghost use Rattle.std.specs.Prelude.{Some, List, [], IfOk, IfErr, OnErr};
+ghost use Rattle.std.specs.Prelude.{Some, List, [], All, IfOk, IfErr, OnErr};
 ghost use Rattle.std.specs.Option.{option_map};
 ghost use Rattle.gimli_base.specs.Offset.{answer_of};
 ghost use Rattle.gimli_base.specs.Reading.{read_of, answer_leaving, map_read, UnlessMemory};
 ghost use Rattle.gimli_base.specs.Table.{codes_of};
+ghost use Rattle.gimli_base.specs.Width.{attributes_size};
 ghost use Rattle.gimli_base.specs.declared.error.Error.TheVariants.{OutOfMemory};
 ghost use Rattle.gimli_units.specs.Entry.{Attr, attributes_at, abbreviation_at, entry_at};
 ghost use Rattle.gimli_units.specs.RawPlace.{RawPlace, next_offset_of};
@@ -14,7 +15,7 @@ ghost use Rattle.gimli_units.specs.Unit.{whole_length, entries_from};
 ghost use Rattle.gimli_units.specs.UnitHeld.{unit_view};
 ghost use Rattle.gimli_c.specs.Attrs.{attr_of};
 ghost use Rattle.gimli_c.specs.Tables.{specification_in, declaration_in, declared_in, table_in};
-ghost use Rattle.gimli_c.specs.TableReads.{told_head, depth_behind_head, IsHeadRead, IsHeadReadWith};
+ghost use Rattle.gimli_c.specs.TableReads.{told_head, depth_behind_head, IsHeadRead, IsHeadReadWith, IsKnown};
 
 use crate::attrs::Numbers;
 use crate::reading::{Head, ReadEntries};
@@ -23,6 +24,18 @@ use gimli_base::{AttributeSpecification, Encoding, Error, Reader, ReaderOffset, 
 use gimli_units::{Attribute, AttributeValue, TakeAttribute, UnitHeader, UnitOffset};
 use std::alloc::Allocator;
 use std::marker::Model;
+
+// How many sizes are kept.
+const SLOTS: usize = 64;
+
+// How many bytes the values of an entry have together; above 64 where they are more, or the bytes
+// of a value tell. Its declaration has these attributes of the table.
+#[derive(Clone, Copy)]
+struct Known {
+    first: usize,
+    attributes: usize,
+    size: u64,
+}
 
 /// A reader of entries by a caller's table.
 ///
@@ -35,6 +48,8 @@ pub(crate) struct EntriesBy<'t, R: Reader> {
     // the offset of the end of the input
     end: R::Offset,
     depth: isize,
+    // sizes that were looked up, each at the index of the first attribute
+    known: [Known; SLOTS],
 }
 
 impl<'t, R: Reader> Model for EntriesBy<'t, R> {
@@ -50,7 +65,8 @@ impl<'t, R: Reader> Model for EntriesBy<'t, R> {
         } };
 
     ghost invariant = { λ e. (length (R.view e.input).bytes ≤ R.Offset.number e.end)
-        × (unsigned_abs e.depth + length (R.view e.input).bytes < 2 ^ 63) };
+        × (unsigned_abs e.depth + length (R.view e.input).bytes < 2 ^ 63)
+        × All (IsKnown e.encoding e.table.specifications.now) e.known };
 }
 
 /// A reader of the entries of a unit from an offset on.
@@ -63,12 +79,18 @@ pub(crate) fn entries_by<'t, R: Reader>(
         (Some (R.Offset.number offset)) }
 {
     let input = unit.range_from(UnitOffset(offset)..)?;
+    let none = Known {
+        first: 0,
+        attributes: 0,
+        size: 0,
+    };
     Ok(EntriesBy {
         input,
         encoding: unit.encoding(),
         table,
         end: unit.length_including_self(),
         depth: 0,
+        known: [none; SLOTS],
     })
 }
 
@@ -113,7 +135,7 @@ impl<'t, R: Reader> ReadEntries<R> for EntriesBy<'t, R> {
     #[inline(always)]
     fn pass(&mut self) -> Result<Head> {
         let mut rest = self.input.copy();
-        let head = pass_entry(&mut rest, self.encoding, self.table)?;
+        let head = pass_entry(&mut rest, self.encoding, self.table, &mut self.known)?;
         self.go_behind(rest, head);
         Ok(head)
     }
@@ -129,20 +151,95 @@ impl<'t, R: Reader> ReadEntries<R> for EntriesBy<'t, R> {
 
 // Passes the next entry, and keeps its head; where it is refused, the input is left anywhere.
 #[inline(always)]
-fn pass_entry<R: Reader>(input: &mut R, encoding: Encoding, table: GimliTable<'_>) -> Result<Head>
+fn pass_entry<R: Reader>(
+    input: &mut R,
+    encoding: Encoding,
+    table: GimliTable<'_>,
+    known: &mut [Known; SLOTS],
+) -> Result<Head>
+    requires { All (IsKnown encoding table.specifications.now) known.old }
     ensures past { let declared = codes_of (table_in table.entry) in
         IfOk result (λ head. IsHeadRead R.Offset.limit encoding declared (R.view input.old) head
         (R.view input.new)) }
     ensures refused { let declared = codes_of (table_in table.entry) in
         IfErr result (λ e. Err e
         ≡ entry_at R.Offset.limit encoding declared (R.view input.old)) }
+    ensures known { All (IsKnown encoding table.entry.specifications.now) known.new }
 {
     let Some(declared) = next_declared(input, table)? else {
         return Ok(Head::null());
     };
+    let size = look_up(known, encoding, table.specifications, declared);
     let specifications = declared.attributes_in(table.specifications);
-    pass_values(input, encoding, specifications)?;
+    pass_known(input, encoding, specifications, size)?;
     Ok(head_by(declared))
+}
+
+// Passes what reading the attributes of these specifications reads, with the same refusals; where
+// one is refused, the input is left anywhere. A size of at most 64 is that of their values.
+#[inline(always)]
+fn pass_known<R: Reader>(
+    input: &mut R,
+    encoding: Encoding,
+    specifications: &[GimliSpecification],
+    size: u64,
+) -> Result<()>
+    requires { let declared = map specification_in specifications.now in
+        size ≤ 64 → attributes_size encoding declared ≡ Some size }
+    ensures { let declared = map specification_in specifications.now in
+        read_of result (R.view input.new)
+        ≡ left_by (attributes_at R.Offset.limit encoding declared (R.view input.old)) }
+{
+    if Attribute::pass_sized(input, encoding, size) {
+        return Ok(());
+    }
+    pass_values(input, encoding, specifications)
+}
+
+// The size of the values of a declaration's entries, as `Known` has it.
+#[inline(always)]
+fn look_up(
+    known: &mut [Known; SLOTS],
+    encoding: Encoding,
+    specifications: &[GimliSpecification],
+    declared: &GimliDeclaration,
+) -> u64
+    requires { All (IsKnown encoding specifications.now) known.old }
+    ensures size { let told = declared_in specifications.now declared.now in
+        result ≤ 64 → attributes_size encoding (map specification_in told) ≡ Some result }
+    ensures known { All (IsKnown encoding specifications.now) known.new }
+{
+    let slot = declared.first % SLOTS;
+    let found = known[slot];
+    if found.first == declared.first && found.attributes == declared.attributes {
+        return found.size;
+    }
+    let size = size_of(declared.attributes_in(specifications), encoding);
+    known[slot] = Known {
+        first: declared.first,
+        attributes: declared.attributes,
+        size,
+    };
+    size
+}
+
+// How many bytes the values of these attributes have together; above 64 where they are more, or the
+// bytes of a value tell.
+fn size_of(specifications: &[GimliSpecification], encoding: Encoding) -> u64
+    ensures { let declared = map specification_in specifications.now in
+        result ≤ 64 → attributes_size encoding declared ≡ Some result }
+{
+    let mut sum = 0;
+    'each: for told in specifications {
+        let Some(size) = told.specification().size(encoding) else {
+            return 65;
+        };
+        sum += u64::from(size);
+        if sum > 64 {
+            return sum;
+        }
+    }
+    sum
 }
 
 // Reads the next entry, and keeps its head, and its attributes in place of those in `numbers`; where
@@ -232,9 +329,7 @@ impl<R: Reader> TakeAttribute<R> for Forget {
     {}
 }
 
-// Passes what reading the attributes of these specifications reads, with the same refusals; where
-// one is refused, the input is left anywhere.
-#[inline(always)]
+// The same value by value.
 fn pass_values<R: Reader>(
     input: &mut R,
     encoding: Encoding,

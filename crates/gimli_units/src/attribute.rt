@@ -1,16 +1,20 @@
 //! Attributes of entries.
 
-ghost use Rattle.std.specs.Prelude.{◌≡◌, ◌^◌, OnErr};
+ghost use Rattle.std.specs.Prelude.{◌≡◌, ◌≤◌, ◌^◌, List, All, Some, Ok, true, false, OnErr};
 ghost use Rattle.std.specs.Option.{option_map};
 ghost use Rattle.gimli_base.specs.Offset.{answer_of};
 ghost use Rattle.gimli_base.specs.Reading.{read_of, map_read};
-ghost use Rattle.gimli_units.specs.Entry.{attribute_at};
+ghost use Rattle.gimli_units.specs.Entry.{attribute_at, attributes_at};
+ghost use Rattle.gimli_units.specs.Sized.{left_by};
+ghost use Rattle.gimli_base.specs.Abbreviations.{Specification, IsWellFormed};
+ghost use Rattle.gimli_base.specs.Width.{attributes_size};
 ghost use Rattle.gimli_units.specs.Value.{map_value, map_attribute};
 ghost use Rattle.gimli_units.specs.Kind.{unit_reference};
 ghost use Rattle.gimli_units.specs.NormalValue.{udata_of, sdata_of, sec_offset_of, exprloc_of};
 ghost use Rattle.gimli_units.specs.NormalValue.{string_of, string_sup_of, below};
 
 use crate::form::read_form;
+use crate::pass::pass_sized;
 use crate::{AttributeValue, UnitOffset};
 use gimli_base::{
     AttributeSpecification, DebugStr, DwAt, DwForm, Encoding, Expression, Reader, Result, Section,
@@ -70,6 +74,21 @@ impl<R: Reader> Attribute<R> {
         let taken = read_form::<R, T, true>(&mut rest, encoding, specification, taker)?;
         *input = rest;
         Ok(taken)
+    }
+
+    /// Passes the values of attributes that have `size` bytes together (DWARF 5, 7.5.6), if all of
+    /// them are there and reading refuses none; answers whether it does, and else the input stays. A
+    /// size above 64 is never passed so.
+    #[inline(always)]
+    pub fn pass_sized(input: &mut R, encoding: Encoding, size: u64) -> bool
+        ensures within { result ≡ true → size ≤ 64 }
+        ensures passed { result ≡ true → (ss : List Specification) → All IsWellFormed ss
+            → attributes_size encoding ss ≡ Some size
+            → Ok (tt, R.view input.new)
+            ≡ left_by (attributes_at R.Offset.limit encoding ss (R.view input.old)) }
+        ensures kept { result ≡ false → input.new ≡ input.old }
+    {
+        pass_sized(input, encoding, size)
     }
 
     /// The value as the form shows it.

@@ -7,13 +7,13 @@ ghost use Rattle.std.specs.Option.{option_map};
 ghost use Rattle.gimli_base.specs.Offset.{answer_of};
 ghost use Rattle.gimli_base.specs.Reading.{read_of, map_read, is_size};
 ghost use Rattle.gimli_base.specs.View.{cut};
-ghost use Rattle.gimli_base.specs.Width.{form_size};
-ghost use Rattle.gimli_base.specs.Abbreviations.{IsWellFormed};
+ghost use Rattle.gimli_base.specs.Width.{form_size, attributes_size};
+ghost use Rattle.gimli_base.specs.Abbreviations.{Specification, IsWellFormed};
 ghost use Rattle.gimli_units.specs.Kind.{unit_reference};
 ghost use Rattle.gimli_units.specs.Entry.{attribute_at, attributes_at};
 ghost use Rattle.gimli_units.specs.Sized.{ReadsAny, IsRoom, PassesAsOne, GoesOn, IsThere};
 ghost use Rattle.gimli_units.specs.Sized.{left_by, sibling_at};
-ghost use Rattle.std.specs.Prelude.{Ok, Some, ◌&&◌};
+ghost use Rattle.std.specs.Prelude.{Ok, Some, List, true, false, ◌&&◌};
 
 use crate::UnitOffset;
 use crate::attribute::taker::{Keep, Pass};
@@ -249,6 +249,24 @@ pub(crate) fn pass_as_read<R: Reader>(
         pass_value(input, encoding, specification)?;
         left = behind;
     }
+}
+
+/// Passes values that have `size` bytes together, if all of them are there and reading refuses none;
+/// answers whether it does, and else the input stays.
+#[inline(always)]
+pub(crate) fn pass_sized<R: Reader>(input: &mut R, encoding: Encoding, size: u64) -> bool
+    ensures within { result ≡ true → size ≤ 64 }
+    ensures passed { result ≡ true → (ss : List Specification) → All IsWellFormed ss
+        → attributes_size encoding ss ≡ Some size
+        → Ok (tt, R.view input.new)
+        ≡ left_by (attributes_at R.Offset.limit encoding ss (R.view input.old)) }
+    ensures kept { result ≡ false → input.new ≡ input.old }
+{
+    if size > room(input.len().into_u64()) || above_any::<R>(encoding) < 256 {
+        return false;
+    }
+    pass_bytes(input, size);
+    true
 }
 
 // How many bytes the values of a declaration have, if reading refuses none, as all are there.

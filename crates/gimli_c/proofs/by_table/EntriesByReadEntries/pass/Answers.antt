@@ -15,5 +15,4 @@ go_behind-requires g c =
 pub returns-clause-past : goal.returns-clause-past
 returns-clause-past g c =
     rw (← c.self.view_is)
-    (read_past _ _ _ _ (rw c.copy-rest.ensures at c.in_ok-head.ensures.past) _
-    (rw (← c.self.view_is) at c.go_behind.ensures))
+    (read_past _ _ _ _ (rw c.copy-rest.ensures at c.in_ok-head.ensures.past) _ c.go_behind.ensures)
