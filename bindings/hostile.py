@@ -333,7 +333,7 @@ def constant_of(word, form):
 
 def is_value(kind, text, attr, start, section):
     """Whether an attribute has the value that a row tells: its kind, and a number or a place and
-    bytes.
+    bytes. The bytes of the row begin at `start`.
     """
     number, more = attr[3:5]
     if attr[2] != KINDS[kind]:

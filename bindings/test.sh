@@ -36,7 +36,11 @@ files=0
 for info in "$data"/*.info; do
     file=${info%.info}
     for room in 0 1 3 64 4096; do
-        timeout 60 "$target/rows" "$info" "$file.abbrev" first "$room" | cmp - "$file.rows"
+        for units in first first_by; do
+            timeout 60 "$target/rows" "$info" "$file.abbrev" $units "$room" | cmp - "$file.rows"
+        done
+        cmp <(timeout 60 "$target/attrs" "$info" "$file.abbrev" "$room" "$room") \
+            <(timeout 60 "$target/attrs" "$info" "$file.abbrev" "$room" "$room" 0 by)
     done
     "$target/memory" "$info" "$file.abbrev" > "$target/memory.txt" || { cat "$target/memory.txt"; exit 1; }
     python3 "$here/python/gimli.py" "$target/libgimli.so" "$info" "$file.abbrev" | cmp - "$file.rows"
