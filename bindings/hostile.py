@@ -354,6 +354,9 @@ def is_value(kind, text, attr, start, section):
 
 
 def attribute_check(row, start, section, specifications, text, following):
+    # (a row may say where its bytes begin)
+    begin = start - row.place
+
     def check(answer):
         unit = answer.units()[0]
         refused = re.match(r"refused (\d+)", text)
@@ -361,7 +364,7 @@ def attribute_check(row, start, section, specifications, text, following):
             return unlike([0, ROW_REFUSED + int(refused[1])], [len(unit["row"]), unit["rows"][0]])
         attrs = [it for at, it in unit["attr"] if at == 0]
         kind, _, value = text.partition(" ")
-        if len(attrs) != 1 or attrs[0][:2] != list(specifications[0][:2]) or not is_value(kind, value, attrs[0], start, section):
+        if len(attrs) != 1 or attrs[0][:2] != list(specifications[0][:2]) or not is_value(kind, value, attrs[0], begin, section):
             return f"wanted {text}, got {attrs}, {unit['rows']}"
         if following is None:
             return None

@@ -262,7 +262,8 @@ pub(crate) fn pass_sized<R: Reader>(input: &mut R, encoding: Encoding, size: u64
         ≡ left_by (attributes_at R.Offset.limit encoding ss (R.view input.old)) }
     ensures kept { result ≡ false → input.new ≡ input.old }
 {
-    if size > room(input.len().into_u64()) || above_any::<R>(encoding) < 256 {
+    let most = room(input.len().into_u64());
+    if most < size || above_any::<R>(encoding) < 256 {
         return false;
     }
     pass_bytes(input, size);
