@@ -2,7 +2,7 @@
 -- 7.5.3).
 use Rattle.std.specs.Prelude.{◌≡◌, ℕ, ◌+◌, ◌==◌, ◌^◌, ◌&&◌, nat_le, not, if◌then◌else◌, Bool, true}
 use Rattle.std.specs.Prelude.{false, List, [], ◌∷◌, ◌++◌, map, take, drop, length, Result, Ok, Err}
-use Rattle.std.specs.Prelude.{unwrap_or, cond, pos, IfOk}
+use Rattle.std.specs.Prelude.{cond, IfOk}
 use Rattle.gimli_base.specs.declared.error.Error.{Error}
 use Rattle.gimli_base.specs.View.{View}
 use Rattle.gimli_base.specs.Reading.{Reads, skip_at}
@@ -67,11 +67,6 @@ in_order k (d ∷ ds) = if d.code == k then in_order (k + 1) ds else false
 abbrev pub all_specifications : List Declaration → List Specification
 all_specifications [] = []
 all_specifications (d ∷ ds) = d.attributes ++ all_specifications ds
-
--- a declared attribute as a caller has it
-abbrev pub told_specification : Specification → GimliSpecification
-told_specification s =
-    record { constant = unwrap_or s.constant (pos 0); name = s.name.0; form = s.form.0 }
 
 -- a declaration whose first attribute has this index
 abbrev pub numbered : ℕ → Declaration → GimliDeclaration
