@@ -70,8 +70,10 @@ impl<R: Reader> Attribute<R> {
             (attribute_at R.Offset.limit encoding specification.now (R.view input.old)) }
         ensures kept { OnErr result ((input.new ≡ input.old) × (taker.new ≡ taker.old)) }
     {
+        // (`false`, so that this is another copy of the function than that of a unit's entries, and
+        // the compiler puts each in place)
         let mut rest = input.copy();
-        let taken = read_form::<R, T, true>(&mut rest, encoding, specification, taker)?;
+        let taken = read_form::<R, T, false>(&mut rest, encoding, specification, taker)?;
         *input = rest;
         Ok(taken)
     }
