@@ -19,7 +19,7 @@ ar rs "$target/libgimli.a" "$target"/heap/*.o
 
 calls=$(grep -o '^uint32_t gimli_[a-z_]*' "$here/include/gimli.h" | cut -d' ' -f2)
 printf '{ global: %s local: *; };\n' "$(printf '%s; ' $calls)" > "$target/exports"
-cc -shared -o "$target/libgimli.so" -Wl,--whole-archive "$target/libgimli.a" -Wl,--no-whole-archive \
+cc -shared -Wl,-soname,libgimli.so -o "$target/libgimli.so" -Wl,--whole-archive "$target/libgimli.a" -Wl,--no-whole-archive \
     -Wl,--version-script="$target/exports" -Wl,-z,defs
 # names its own folder, so that it stays right where the tree moves; the archive is linked, as the
 # shared library would have to be found

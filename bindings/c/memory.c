@@ -147,6 +147,14 @@ static void ask_for_none(void) {
     gimli_ranges(&sections, &unit, &attr, &bases, &range, 1, &count);
     gimli_locations(&sections, &unit, &attr, &bases, &location, 1, &count);
     gimli_unit_of_address(&sections, 1, &offset);
+    gimli_declaration_t declarations[8];
+    gimli_specification_t specifications[64];
+    gimli_counted_t counted;
+    gimli_row_t row;
+    gimli_place_t place = {unit.header_size, 0};
+    gimli_table(&sections, unit.abbreviations, declarations, 8, specifications, 64, &counted);
+    gimli_table_t table = {declarations, 0, specifications, 0};
+    gimli_rows_by(&sections, 0, &table, &place, &row, 1, &count);
     if (requests != had) fails("memory that is not asked for", 0);
 }
 

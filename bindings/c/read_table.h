@@ -1,4 +1,6 @@
-/* The table of abbreviations of a unit, in memory that is used again. */
+/* The table of abbreviations of a unit, in memory that is used again: it is right until the next call. */
+#ifndef READ_TABLE_H
+#define READ_TABLE_H
 #include "gimli.h"
 #include <stdlib.h>
 
@@ -16,6 +18,8 @@ static const gimli_table_t *read_table(const gimli_sections_t *sections, const g
                                       specifications_held, room_held.specifications, &counted);
         if (status == GIMLI_END) break;
         if (status != GIMLI_MORE) return NULL;
+        if (counted.declarations < room_held.declarations) counted.declarations = room_held.declarations;
+        if (counted.specifications < room_held.specifications) counted.specifications = room_held.specifications;
         free(declarations_held);
         free(specifications_held);
         declarations_held = calloc(counted.declarations + 1, sizeof *declarations_held);
@@ -29,3 +33,4 @@ static const gimli_table_t *read_table(const gimli_sections_t *sections, const g
     table_read.specified = counted.specifications;
     return &table_read;
 }
+#endif

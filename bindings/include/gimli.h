@@ -6,8 +6,8 @@
    its end and the tests are all that compares the two.
 
    What a caller owes:
-   - Pointers are valid for the lengths beside them, and lengths are at most 2^63 - 1. A section
-     and a buffer may be null, which is one of no bytes and of no room: the end of this header
+   - Pointers are valid for the lengths beside them, and lengths are at most 2^63 - 1. A section, a
+     buffer and an array of a table may be null, which is one of no bytes and of no room: the end of this header
      sees to that. Who calls the library without it hands over an address that is not null, also
      where the length is 0. No other pointer is null, and each is aligned as its type is.
    - What is written to overlaps nothing that the same call reads or writes, and no byte that a
@@ -18,10 +18,10 @@
    - No call is made from a signal handler, or in the forked child of a process with threads.
    Buffers need not be set before a call; sections are, each field.
 
-   Memory is asked for by gimli_rows, gimli_entries, gimli_sibling and gimli_first_false, and given
-   back before they answer. Each of their calls reads the whole table of the unit's abbreviations;
-   who reads few rows at a time reads the table once, by gimli_table, and then calls gimli_rows_by
-   (which asks for no memory) or gimli_entries_by.
+   Memory is asked for by gimli_rows, gimli_entries, gimli_entries_by, gimli_sibling and
+   gimli_first_false, and given back before they answer. Each call of these but gimli_entries_by
+   reads the whole table of the unit's abbreviations; who reads few rows at a time reads the table
+   once, by gimli_table, and then calls gimli_rows_by (which asks for no memory) or gimli_entries_by.
    A declaration takes 256 bytes in memory, and up to some 600 with what is kept free beside it,
    where in the section it may have 5 to 7: of a hostile .debug_abbrev a table takes 40 to 100
    times the size, and more for a moment while a list of them is moved. Memory that is refused is
@@ -41,12 +41,12 @@ extern "C" {
 
 /* Statuses. Each call says which of them it answers, and what it has written then. */
 enum {
-    GIMLI_MORE = 0,          /* something was found, and there may be more; of rows with no room: nothing was, see there */
+    GIMLI_MORE = 0,          /* something was found, and there may be more; with no room for rows or for a table see there */
     GIMLI_END = 1,           /* nothing is left */
     GIMLI_TOO_DEEP = 2,      /* the depth of the place is so great that depths behind it may be out of range */
     GIMLI_NO_LIST = 3,       /* the attribute's value names no list */
     GIMLI_UNORDERED = 4,     /* the codes of a table of abbreviations are not 1, 2, .. in this order */
-    GIMLI_REFUSED = 256,     /* and a number of gimli_error: what the call begins with was refused */
+    GIMLI_REFUSED = 256,     /* and a number of gimli_error: what the call begins with was refused, or a table */
     GIMLI_ROW_REFUSED = 512  /* and a number of gimli_error: what stands behind all that was written was refused */
 };
 
@@ -161,7 +161,7 @@ enum {
     GIMLI_ADDR_INDEX_OFFSET = 48  /* an index as GIMLI_ADDR_INDEX, and `more` is added to the address there */
 };
 
-/* How much gimli_entries wrote. */
+/* How much gimli_entries or gimli_entries_by wrote. */
 typedef struct {
     size_t rows;
     size_t attributes;
@@ -170,24 +170,25 @@ typedef struct {
 
 /* A declaration of a table of abbreviations. */
 typedef struct {
-    uint64_t code;     /* as gimli_table writes it; in a table the place counts, from 1 on */
+    uint64_t code;     /* as gimli_table writes it; the calls by a table ignore it: that at index i has the code i + 1 */
     size_t first;      /* the index of its first attribute among the specifications of the table */
     size_t attributes; /* their number */
     uint16_t tag;
-    uint8_t has_children;
+    uint8_t has_children; /* 0, or any other where it has some */
 } gimli_declaration_t;
 
 /* A declared attribute. */
 typedef struct {
-    int64_t constant; /* the number of DW_FORM_implicit_const; of any other form nothing */
+    int64_t constant; /* the number of DW_FORM_implicit_const; of any other form it is ignored, and may be any */
     uint16_t name;
     uint16_t form;
 } gimli_specification_t;
 
 /* A table of abbreviations: the declarations of the codes 1, 2, .. in this order, and their
-   attributes. Any is allowed: an index or a number that is too great stands for what is there, a
-   code that has no declaration is refused (GIMLI_INVALID_ABBREVIATION_CODE) where an entry has it,
-   and an entry with the tag 0 is a null. */
+   attributes. Any is allowed: of `first` and `attributes` that reach past `specified` those count
+   that are there; an entry whose code has no declaration is a row that is refused
+   (GIMLI_ROW_REFUSED + GIMLI_INVALID_ABBREVIATION_CODE); and one whose declaration has the tag 0 is a
+   null: the bytes of its attributes are passed, and it has none. */
 typedef struct {
     const gimli_declaration_t *declarations;
     size_t declared;
@@ -275,20 +276,22 @@ uint32_t gimli_rows(const gimli_sections_t *sections, uint64_t unit, gimli_place
 uint32_t gimli_entries(const gimli_sections_t *sections, uint64_t unit, gimli_place_t *place, gimli_entry_t *rows, size_t room,
                        gimli_attr_t *attrs, size_t space, gimli_filled_t *filled);
 
-/* The table of abbreviations at an offset of `abbrev`, which serves every unit whose
-   `abbreviations` is this offset. `abbrev` is read, and no memory is asked for.
+/* The table of abbreviations at an offset of `abbrev`. `abbrev` is read, and no memory is asked for.
    END: `counted` declarations and specifications are written, and behind them the buffers are as
-   they were. Else both are as they were. MORE: there is no room for all of the table; `counted` is
-   how much it wants, so a first call may come with no room. UNORDERED, or REFUSED of the offset
-   or of a declaration: `counted` is 0 and 0. What is UNORDERED is read by gimli_rows and
-   gimli_entries alone. */
+   they were: the table of every unit whose `abbreviations` is this offset. Else both are as they
+   were. MORE: there is no room for all of the table; `counted` is how much it wants, so a first
+   call may come with no room. UNORDERED, or REFUSED of the offset or of a declaration: `counted` is
+   0 and 0. UNORDERED is where the codes of the declarations, up to the first that is refused, are not
+   1, 2, .. in this order, as where one stands twice: then gimli_rows and gimli_entries, which read
+   the table themselves, tell what it is. */
 uint32_t gimli_table(const gimli_sections_t *sections, uint64_t offset, gimli_declaration_t *declarations, size_t room,
                      gimli_specification_t *specifications, size_t space, gimli_counted_t *counted);
 
-/* The same as gimli_rows and as gimli_entries by a table, in place of that of the unit: where
-   gimli_table wrote it for the unit, the answers are the same. `units` is read, and the table.
-   Of refusals that come before the first row there are those of the unit and of the place's
-   offset; gimli_rows_by asks for no memory, and gimli_entries_by for that of a row's attributes. */
+/* The same as gimli_rows and as gimli_entries by a table, in place of that of the unit. `units` is
+   read, and the table. Where gimli_table answered END for the unit's `abbreviations`, and `declared`
+   and `specified` are what it counted, the answers are the same unless memory is refused. REFUSED is
+   of the unit or of the place's offset alone; gimli_rows_by asks for no memory, and gimli_entries_by
+   for that of a row's attributes. */
 uint32_t gimli_rows_by(const gimli_sections_t *sections, uint64_t unit, const gimli_table_t *table, gimli_place_t *place,
                        gimli_row_t *rows, size_t room, size_t *count);
 uint32_t gimli_entries_by(const gimli_sections_t *sections, uint64_t unit, const gimli_table_t *table, gimli_place_t *place,

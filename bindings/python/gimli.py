@@ -73,9 +73,19 @@ class Specification(Structure):
 
 
 class Table(Structure):
-    """A table of abbreviations, as `Dwarf.table` reads it."""
+    """A table of abbreviations, as `Dwarf.table` reads it. Who makes one hands over two ctypes arrays; the counts are theirs."""
     _fields_ = [("declarations", POINTER(Declaration)), ("declared", c_size_t),
                 ("specifications", POINTER(Specification)), ("specified", c_size_t)]
+
+    def __init__(self, declarations=None, specifications=None):
+        # (the library is never handed null, also where there are none)
+        super().__init__(declarations or (Declaration * 1)(), len(declarations or ()),
+                         specifications or (Specification * 1)(), len(specifications or ()))
+
+    def take(self, declared, specified):
+        """The same of so many of them."""
+        self.declared, self.specified = min(declared, self.declared), min(specified, self.specified)
+        return self
 
 
 class Counted(Structure):
@@ -115,7 +125,8 @@ class Refused(Exception):
 
     def __init__(self, status, offset=None, found=()):
         self.number = status % 256 if status >= REFUSED else 0
-        self.name = NAMES[self.number - 1] if self.number else {TOO_DEEP: "TooDeep", NO_LIST: "NoList"}[status]
+        other = {TOO_DEEP: "TooDeep", NO_LIST: "NoList"}.get(status, "UnknownStatus")
+        self.name = NAMES[self.number - 1] if 0 < self.number <= len(NAMES) else other
         self.offset, self.found = offset if status >= ROW_REFUSED else None, list(found)
         number = f" (error {self.number})" if self.number else ""
         super().__init__(self.name + number + ("" if self.offset is None else f" at {self.offset:#x}"))
@@ -155,7 +166,7 @@ class Dwarf:
         self.library, self.units_bytes = library, bytes(debug_types if types else debug_info)
         self.kept = [self.units_bytes, *map(bytes, (debug_abbrev, debug_addr, debug_aranges, debug_ranges, debug_rnglists,
                                                     debug_loc, debug_loclists))]
-        self.sections = Sections(*map(Bytes.of, self.kept), big, types)
+        self.sections = Sections(*map(Bytes.of, self.kept), bool(big), bool(types))
 
     def call(self, name, *arguments):
         return getattr(self.library, "gimli_" + name)(byref(self.sections), *arguments)
@@ -190,7 +201,7 @@ class Dwarf:
             status = self.call("table", unit.abbreviations, declarations, len(declarations), specifications,
                                len(specifications), byref(counted))
         if status == END:
-            return Table(declarations, counted.declarations, specifications, counted.specifications)
+            return Table(declarations, specifications).take(counted.declarations, counted.specifications)
         if status == UNORDERED:
             return None
         raise Refused(status)
@@ -204,8 +215,9 @@ class Dwarf:
     def blocks(self, unit, room, table=None):
         """Buffers of rows, and how many of each were written."""
         room = max(room, 1)
-        place, rows, count, status = Place(unit.header_size, 0), (Row * room)(), c_size_t(), MORE
+        place, count, status = Place(unit.header_size, 0), c_size_t(), MORE
         while status == MORE:
+            rows = (Row * room)()
             status = self.read("rows", unit, table, byref(place), rows, room, byref(count))
             yield rows, count.value
         if status != END:
@@ -218,10 +230,10 @@ class Dwarf:
             for i in range(count):
                 yield row_of(rows[i])
 
-    def array(self, unit, room=4096):
-        """Structured arrays of numpy over the rows, a buffer each without a copy: use one before the next is taken."""
+    def array(self, unit, room=4096, table=None):
+        """Structured arrays of numpy over the rows, each over a buffer of its own without a copy."""
         import numpy
-        for rows, count in self.blocks(unit, room):
+        for rows, count in self.blocks(unit, room, table):
             yield numpy.ctypeslib.as_array(rows)[:count]
 
     def value(self, attr):

@@ -208,8 +208,13 @@ def tables(library):
     same("a table that is cut", refusal(Dwarf(library, info, SIBLING[:-1]).table, unit).name, "UnexpectedEof")
     same("a declaration without a tag", refusal(Dwarf(library, info, bytes.fromhex("01 00")).table, unit).name, "AbbreviationTagZero")
     # an entry of the tag 0 is a null, what is not there has no attributes, and a code without a declaration is refused
-    made = Table((Declaration * 1)((7, 5, 3, 0, 1)), 1, (Specification * 1)(), 0)
+    made = Table((Declaration * 1)((7, 5, 3, 0, 1)))
     same("rows by a table that was made", refused_rows(dwarf, unit, made), ([(0x0b, 0, 0, 0)], "InvalidAbbreviationCode"))
+    greatest = 2 ** 64 - 1
+    made = Table((Declaration * 2)((0, greatest, greatest, 0x2e, 255), (0, 0, greatest, 0x34, 0)), (Specification * 1)((0, 1, 0x11)))
+    rows = [(0x0b, 0, 0x2e, 1)]
+    same("rows by odd numbers", refused_rows(dwarf, unit, made), (rows, "InvalidAbbreviationCode"))
+    same("rows by no table at all", refused_rows(dwarf, unit, Table()), ([], "InvalidAbbreviationCode"))
 
 
 def refused_rows(dwarf, unit, table):

@@ -12,7 +12,7 @@ fn room_for(unit: &UnitHeader, place: Place, room: usize) -> usize {
     room.min(usize::try_from(left).unwrap_or(usize::MAX)).max(1)
 }
 
-// From so many rows a call on it costs little to read the table of abbreviations in each.
+// Where a call gives so many rows, it costs little to read the table of abbreviations in each.
 const MANY: usize = 4096;
 
 // Where an iterator over a unit stands.
@@ -67,11 +67,15 @@ impl<'a> Reading<'a> {
         self.at = 0;
         self.status = END;
         self.row_refused = false;
+        let given = rows.len();
         rows.clear();
         reserve(rows, self.room)?;
-        if self.calls == 1 && self.room < MANY {
-            let sections = self.sections.raw(self.unit.types);
-            self.table = sys::Abbreviations::read(&sections, self.unit.debug_abbrev_offset());
+        if self.calls == 1 && given < MANY {
+            let unit = self.sections.unit_at(self.unit.types, self.unit.offset());
+            if let Ok(Some(unit)) = unit {
+                let sections = self.sections.raw(unit.types);
+                self.table = sys::Abbreviations::read(&sections, unit.debug_abbrev_offset());
+            }
         }
         self.calls = 2.min(self.calls + 1);
         Ok(())
@@ -168,6 +172,8 @@ impl Iterator for Rows<'_> {
         Some(Ok(row))
     }
 }
+
+impl core::iter::FusedIterator for Rows<'_> {}
 
 /// The entries of a unit with their attributes, up to the first that is refused.
 ///

@@ -19,7 +19,7 @@ use Rattle.gimli_c.specs.declared.table.GimliDeclaration.{GimliDeclaration}
 use Rattle.gimli_c.specs.declared.table.GimliSpecification.{GimliSpecification}
 use Rattle.gimli_c.specs.declared.table.GimliTable.{GimliTable}
 use Rattle.gimli_c.specs.Fronts.{unit_ahead, section_rows}
-use Rattle.gimli_c.specs.Status.{more, end, unordered, refusal_status}
+use Rattle.gimli_c.specs.Status.{more, end, unordered, refusal_status, memory_refused}
 use Rattle.gimli_c.specs.Units.{section_unit}
 
 -- a declared attribute of a caller's
@@ -30,7 +30,7 @@ specification_in s = record {
   constant = constant_of s.form s.constant;
 }
 
--- the attributes of a caller's declaration, as far as they are there
+-- the attributes of a caller's declaration: those that lie within the list
 abbrev pub declared_in : List GimliSpecification → GimliDeclaration → List GimliSpecification
 declared_in ss d = take d.attributes (drop d.first ss)
 
@@ -42,7 +42,7 @@ declaration_in ss d = record {
   attributes = map specification_in (declared_in ss d);
 }
 
--- a caller's table: that of the code 1 comes first
+-- a caller's table: the declaration at index i is that of the code i + 1, whatever its `code` is
 abbrev pub table_of : List GimliDeclaration → List GimliSpecification → Table
 table_of ds ss = record { dense = map (declaration_in ss) ds; others = [] }
 
@@ -57,6 +57,12 @@ read_by limit (Err e) t place = Err (refusal_status e)
 -- those of the unit at an offset of a caller's units
 abbrev pub rows_by : GimliSections → ℕ → Table → GimliPlace → Result Ahead ℕ
 rows_by s unit t place = read_by (2 ^ 64) (section_unit s unit) t place
+
+-- the status of a call that reads by a table: it never tells that memory was refused for a table,
+-- and a refusal of the unit is told
+abbrev pub NoTableRefused : Result UnitView Error → ℕ → Type 0
+NoTableRefused (Ok u) status = status ≡ memory_refused → ⊥
+NoTableRefused (Err e) status = status ≡ refusal_status e
 
 -- the codes of declarations are k, k + 1, ..
 abbrev pub in_order : ℕ → List Declaration → Bool
@@ -130,7 +136,7 @@ abbrev pub IsTableAt : ℕ → View → List GimliDeclaration → List GimliSpec
 IsTableAt offset v old old_s new new_s n status =
     IsTableIn (skip_at offset v) old old_s new new_s n status
 
--- a unit that is read has its abbreviations at an offset
+-- a unit's abbreviations are at an offset; it holds of a unit that is refused
 abbrev pub HasTableAt : ℕ → Result UnitView Error → Type 0
 HasTableAt offset r = IfOk r (λ u. u.abbreviations ≡ offset)
 

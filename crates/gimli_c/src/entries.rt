@@ -6,7 +6,8 @@ ghost use Rattle.gimli_units.specs.UnitHeld.{unit_view};
 ghost use Rattle.gimli_headers.specs.Units.{header_at};
 ghost use Rattle.gimli_c.specs.Units.{section_id};
 ghost use Rattle.gimli_c.specs.Heads.{IsOpened};
-ghost use Rattle.gimli_c.specs.Tables.{table_in, read_by};
+ghost use Rattle.gimli_c.specs.Status.{memory_refused};
+ghost use Rattle.gimli_c.specs.Tables.{table_in, read_by, NoTableRefused};
 ghost use Rattle.gimli_c.specs.Fronts.{at, ahead_of, unit_ahead, rows_ahead, Resumes};
 ghost use Rattle.gimli_c.specs.Entries.{wrote, FilledEntries, AreTold};
 
@@ -117,6 +118,9 @@ pub(crate) fn read_entries_by<R: Reader, A: Allocator>(
         (R.view sections.now.units) in
         let ahead = read_by R.Offset.limit u (table_in table.entry) in
         Resumes (ahead place) result.filled.rows (ahead result.place) }
+    ensures memory { let id = section_id sections.now.types in
+        let u = header_at R.Offset.limit id (R.Offset.number unit) (R.view sections.now.units) in
+        NoTableRefused u result.status }
 {
     match header_in(&sections.units, sections.types, unit) {
         Ok(header) => {
@@ -151,11 +155,12 @@ fn unit_entries<R: Reader, T: ReadEntries<R> + Drop, A: Allocator>(
 ) -> ToldEntries
     requires { (t : Table)
         × IsOpened T.place (unit_view unit.now) t (R.Offset.number offset) opened }
-    ensures { let u = unit_view unit.now in let number = R.Offset.number offset in
+    ensures told { let u = unit_view unit.now in let number = R.Offset.number offset in
         let place = at number depth in
         (t : Table) → IsOpened T.place u t number opened
         → AreTold (unit_ahead R.Offset.limit u (codes_of t) place) place rows.old attrs.old
         result.place rows.new attrs.new result.filled result.status }
+    ensures memory { result.status ≡ memory_refused → ⊥ }
 {
     let whole = unit.length_including_self().into_u64();
     let start = offset.into_u64();
@@ -184,9 +189,10 @@ fn fill_entries<R: Reader, T: ReadEntries<R>, A: Allocator>(
 ) -> ToldEntries
     requires { let p = T.place entries.old in
         unsigned_abs base + unsigned_abs p.depth + length p.rest.bytes < 2 ^ 63 }
-    ensures { let ahead = ahead_of R.Offset.limit base (T.place entries.old) in
+    ensures told { let ahead = ahead_of R.Offset.limit base (T.place entries.old) in
         FilledEntries ahead rows.old attrs.old result.place rows.new attrs.new
         result.filled result.status }
+    ensures memory { result.status ≡ memory_refused → ⊥ }
 {
     let mut numbers = Numbers(Vec::new(alloc));
     let mut count = 0;

@@ -2,12 +2,13 @@
 //!
 //! A status is 0 where there is more, 1 at the end, 2 at a place whose depth is out of range, 3
 //! where a value names no list, 4 where the codes of a table are not in order, 256 and the number of
-//! the refusal of a unit, of its abbreviations or of an offset, and 512 and that of a row.
+//! the refusal of a unit, of abbreviations or of an offset, and 512 and that of a row.
 #![tactic(auto)]
 
 ghost use Rattle.std.specs.Prelude.{◌≡◌, ◌<◌, ℕ, take};
 ghost use Rattle.gimli_c.specs.Units.{units_view, abbreviations_view, unit_told, section_unit};
 ghost use Rattle.gimli_c.specs.Tables.{table_in, table_of, rows_by, IsTableAt, HasTableAt, Serves};
+ghost use Rattle.gimli_c.specs.Tables.{NoTableRefused};
 ghost use Rattle.gimli_c.specs.Fronts.{section_rows, ToldRows, Resumes};
 ghost use Rattle.gimli_c.specs.Entries.{AreTold};
 ghost use Rattle.gimli_c.specs.Status.{more, end, UnlessRefused};
@@ -129,14 +130,14 @@ pub extern "C" fn gimli_entries(
 }
 
 /// Reads the table of abbreviations at an offset of `abbreviations` into the caller's buffers, for
-/// `gimli_rows_by` and `gimli_entries_by`. It serves each unit whose abbreviations are there.
+/// `gimli_rows_by` and `gimli_entries_by`.
 ///
-/// `counted` is how many declarations there are and how many attributes they have together.
-///
-/// Status 1: they are written, and what is after them in the buffers stays as it was. Otherwise the
-/// buffers are as they were. Status 0: there is no room for all. Any other: none is counted. Status
-/// 4: their codes are not 1, 2, .. in this order. From 256 on: the offset or a declaration was
-/// refused.
+/// Status 1: the declarations and their attributes are written, `counted` is how many they are, and
+/// what is after them in the buffers stays as it was. By these each unit whose abbreviations are
+/// there has its own rows. Otherwise the buffers are as they were. Status 0: there is no room for
+/// all; `counted` is how many they are. Any other: `counted` is 0 and 0. Status 4: the codes of the
+/// declarations, up to the first that is refused, are not 1, 2, .. in this order, so that one may
+/// stand twice. From 256 on: the offset was refused, or a declaration after such codes.
 #[unsafe(no_mangle)]
 pub extern "C" fn gimli_table(
     sections: &GimliSections<'_>,
@@ -149,8 +150,10 @@ pub extern "C" fn gimli_table(
         specifications.old declarations.new specifications.new counted.new result }
     ensures serves { let ds = take counted.new.declarations declarations.new in
         let ss = take counted.new.specifications specifications.new in
-        result ≡ end → (unit : ℕ) → HasTableAt offset (section_unit sections.now unit)
-        → Serves sections.now unit (table_of ds ss) }
+        result ≡ end → (s : GimliSections)
+        → abbreviations_view s ≡ abbreviations_view sections.now
+        → (unit : ℕ) → HasTableAt offset (section_unit s unit)
+        → Serves s unit (table_of ds ss) }
 {
     let offset = offset as usize;
     let abbreviations = sections.abbreviations;
@@ -176,8 +179,8 @@ pub extern "C" fn gimli_table(
 }
 
 /// The same as `gimli_rows` by a table in the caller's buffers, whatever it holds: the rows are those
-/// that its declarations give. Where `gimli_table` wrote it for the unit, they are the unit's. Only
-/// `units` is read, and no memory is asked for.
+/// that its declarations give. Those that `gimli_table` wrote and counted give the unit's own. Of the
+/// sections only `units` is read, and no memory is asked for: status 280 does not come.
 #[unsafe(no_mangle)]
 pub extern "C" fn gimli_rows_by(
     sections: &GimliSections<'_>,
@@ -191,6 +194,7 @@ pub extern "C" fn gimli_rows_by(
         ToldRows (ahead place.old) place.old rows.old place.new rows.new count.new result }
     ensures resumes { let ahead = rows_by sections.now unit (table_in table.now) in
         Resumes (ahead place.old) count.new (ahead place.new) }
+    ensures memory { NoTableRefused (section_unit sections.now unit) result }
 {
     let unit = unit as usize;
     let offset = place.offset as usize;
@@ -224,6 +228,7 @@ pub extern "C" fn gimli_entries_by(
         filled.new result }
     ensures resumes { let ahead = rows_by sections.now unit (table_in table.now) in
         Resumes (ahead place.old) filled.new.rows (ahead place.new) }
+    ensures memory { NoTableRefused (section_unit sections.now unit) result }
 {
     let unit = unit as usize;
     let offset = place.offset as usize;

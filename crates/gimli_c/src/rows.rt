@@ -8,7 +8,8 @@ ghost use Rattle.gimli_units.specs.UnitHeld.{unit_view};
 ghost use Rattle.gimli_headers.specs.Units.{header_at};
 ghost use Rattle.gimli_c.specs.Units.{section_id};
 ghost use Rattle.gimli_c.specs.Heads.{IsOpened};
-ghost use Rattle.gimli_c.specs.Tables.{table_in, read_by};
+ghost use Rattle.gimli_c.specs.Status.{memory_refused};
+ghost use Rattle.gimli_c.specs.Tables.{table_in, read_by, NoTableRefused};
 ghost use Rattle.gimli_c.specs.Fronts.{at, ahead_of, unit_ahead, rows_ahead, Filled, ToldRows};
 ghost use Rattle.gimli_c.specs.Fronts.{Resumes};
 
@@ -105,6 +106,9 @@ pub(crate) fn read_rows_by<R: Reader>(
         (R.view sections.now.units) in
         let ahead = read_by R.Offset.limit u (table_in table.entry) in
         Resumes (ahead place) result.count (ahead result.place) }
+    ensures memory { let id = section_id sections.now.types in
+        let u = header_at R.Offset.limit id (R.Offset.number unit) (R.view sections.now.units) in
+        NoTableRefused u result.status }
 {
     match header_in(&sections.units, sections.types, unit) {
         Ok(header) => {
@@ -139,11 +143,12 @@ fn unit_rows<R: Reader, T: ReadEntries<R> + Drop>(
 ) -> Told
     requires { (t : Table)
         × IsOpened T.place (unit_view unit.now) t (R.Offset.number offset) opened }
-    ensures { let u = unit_view unit.now in let number = R.Offset.number offset in
+    ensures told { let u = unit_view unit.now in let number = R.Offset.number offset in
         let place = at number depth in
         (t : Table) → IsOpened T.place u t number opened
         → ToldRows (unit_ahead R.Offset.limit u (codes_of t) place) place rows.old result.place
         rows.new result.count result.status }
+    ensures memory { result.status ≡ memory_refused → ⊥ }
 {
     let whole = unit.length_including_self().into_u64();
     let start = offset.into_u64();
@@ -170,8 +175,9 @@ fn fill_rows<R: Reader, T: ReadEntries<R>>(
 ) -> Told
     requires { let p = T.place entries.old in
         unsigned_abs base + unsigned_abs p.depth + length p.rest.bytes < 2 ^ 63 }
-    ensures { let ahead = ahead_of R.Offset.limit base (T.place entries.old) in
+    ensures told { let ahead = ahead_of R.Offset.limit base (T.place entries.old) in
         Filled ahead rows.old result.place rows.new result.count result.status }
+    ensures memory { result.status ≡ memory_refused → ⊥ }
 {
     let mut count = 0;
     'rows: while count < rows.len() && !entries.is_empty() {

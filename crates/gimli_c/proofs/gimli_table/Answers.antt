@@ -1,3 +1,4 @@
+use Rattle.std.proofs.Common.{sym}
 use Rattle.gimli_c.specs.Units.{abbreviations_view}
 use Rattle.gimli_c.specs.Tables.{IsTableAt}
 use Rattle.gimli_c.proofs.TableLaw.{serves, as_little, as_big}
@@ -6,17 +7,17 @@ use Rattle.gimli_c.proofs.gimli_table.Goals as goal
 
 pub returns-clause-serves : goal.returns-clause-serves
 returns-clause-serves c =
-    let s = c.args.sections.now in
-    let told : IsTableAt c.args.offset (abbreviations_view s) c.args.declarations.now
+    let own = c.args.sections.now in
+    let told : IsTableAt c.args.offset (abbreviations_view own) c.args.declarations.now
     c.args.specifications.now c.if-sections-eq0.declarations c.if-sections-eq0.specifications
     c.if-sections-eq0.told.counted c.if-sections-eq0.told.status =
     elim c.if-sections-eq0.branch [
       | then-sections-eq0 w ↦ rw (w.told-is, w.declarations-is, w.specifications-is)
-          (rw (as_little s w.if-sections-eq0.true) at w.read_table-told.ensures)
+          (rw (as_little own w.if-sections-eq0.true) at w.read_table-told.ensures)
       | else-sections-eq0 w ↦ rw (w.told-is, w.declarations-is, w.specifications-is)
-          (rw (as_big s w.if-sections-eq0.false) at w.read_table-told-else-sections-eq0.ensures)
+          (rw (as_big own w.if-sections-eq0.false) at w.read_table-told-else-sections-eq0.ensures)
     ] in
-    λ is unit has.
+    λ is s same unit has.
     serves s unit c.args.offset c.args.declarations.now c.if-sections-eq0.declarations
     c.args.specifications.now c.if-sections-eq0.specifications c.if-sections-eq0.told.counted
-    c.if-sections-eq0.told.status told is has
+    c.if-sections-eq0.told.status (rw (sym same) at told) is has

@@ -27,8 +27,8 @@ rows-init g c =
       fits = c.requires;
     })
 
-pub returns-in-Err : goal.returns-in-Err
-returns-in-Err g c =
+pub returns-in-Err-clause-told : goal.returns-in-Err-clause-told
+returns-in-Err-clause-told g c =
     let back : to_z w64 (of_z w64 c.args.base) ≡ c.args.base = to_z-of_z w64 _ c.ranges.base in
     let f = rw back at c.rows.invariant in
     let some : length (g.T.ReadEntries.place c.rows.entries).rest.bytes ≡ 0 → ⊥ = λ none. let t : c.is_empty.result ≡ true =
@@ -43,8 +43,8 @@ returns-in-Err g c =
     f c.place_of-place.ensures.offset depth c.in-Err.error some room
     (λ other. c.in-Err.ensures.refused (λ is. other (ap row_refused is))))
 
-pub returns-then-attributes-attrs : goal.returns-then-attributes-attrs
-returns-then-attributes-attrs g c =
+pub returns-then-attributes-attrs-clause-told : goal.returns-then-attributes-attrs-clause-told
+returns-then-attributes-attrs-clause-told g c =
     let back : to_z w64 (of_z w64 c.args.base) ≡ c.args.base = to_z-of_z w64 _ c.ranges.base in
     let f = rw back at c.rows.invariant in
     let some : length (g.T.ReadEntries.place c.rows.entries).rest.bytes ≡ 0 → ⊥ = λ none. let t : c.is_empty.result ≡ true =
@@ -97,8 +97,8 @@ rows-preserved g c =
     c.rows.rows c.args.attrs.now c.rows.attrs c.write_attrs.new.into c.rows.count c.rows.used e
     (g.T.ReadEntries.place c.read.new.self).rest _ f room space some r.past.is refl wrote)
 
-pub returns : goal.returns
-returns g c =
+pub returns-clause-told : goal.returns-clause-told
+returns-clause-told g c =
     let p = g.T.ReadEntries.place c.rows.entries in
     let back : to_z w64 (of_z w64 c.args.base) ≡ c.args.base = to_z-of_z w64 _ c.ranges.base in
     let f = rw back at c.rows.invariant in

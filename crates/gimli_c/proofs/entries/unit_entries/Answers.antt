@@ -5,14 +5,14 @@ use Rattle.gimli_units.specs.Unit.{whole_length}
 use Rattle.gimli_units.specs.RawPlace.{RawPlace}
 use Rattle.gimli_units.specs.UnitHeld.{unit_view}
 use Rattle.gimli_c.specs.Fronts.{at}
-use Rattle.gimli_c.proofs.Bounds.{read_bounds, below_end, bytes_left}
+use Rattle.gimli_c.proofs.Bounds.{unread_bounds, read_bounds, below_end, bytes_left}
 use Rattle.gimli_c.proofs.EntryBounds.{told_ended, told_outside, told_deep, told_filled}
 use Rattle.gimli_c.proofs.entries.unit_entries.Goals.{then-left-via-then-left}
 use Rattle.gimli_c.proofs.entries.unit_entries.Goals.{then-left-via-else-left+then-steps-left}
 use Rattle.gimli_c.proofs.entries.unit_entries.Goals as goal
 
-pub returns-then-start-whole : goal.returns-then-start-whole
-returns-then-start-whole g c = λ t opened.
+pub returns-then-start-whole-clause-told : goal.returns-then-start-whole-clause-told
+returns-then-start-whole-clause-told g c = λ t opened.
     let back : to_z w64 (of_z w64 c.args.depth) ≡ c.args.depth = to_z-of_z w64 _ c.ranges.depth in
     let number = g.R.Offset.ReaderOffset.number c.args.offset in
     let here : number ≡ whole_length (unit_view c.args.unit.now) =
@@ -22,8 +22,8 @@ returns-then-start-whole g c = λ t opened.
     (told_ended g.R.Offset.ReaderOffset.limit (unit_view c.args.unit.now) t
     (at number c.args.depth) c.args.rows.now c.args.attrs.now c.args.unit.now.entries_fit here)
 
-pub returns-in-Err : goal.returns-in-Err
-returns-in-Err g c = λ t opened.
+pub returns-in-Err-clause-told : goal.returns-in-Err-clause-told
+returns-in-Err-clause-told g c = λ t opened.
     let no = rw c.in-Err.is at opened in
     let back : to_z w64 (of_z w64 c.args.depth) ≡ c.args.depth = to_z-of_z w64 _ c.ranges.depth in
     let number = g.R.Offset.ReaderOffset.number c.args.offset in
@@ -52,8 +52,8 @@ overflow_sub-left g c =
       c.length_including_self.ensures,
     )
 
-pub returns-then-left : goal.returns-then-left
-returns-then-left g c = λ t opened.
+pub returns-then-left-clause-told : goal.returns-then-left-clause-told
+returns-then-left-clause-told g c = λ t opened.
     let p = g.T.ReadEntries.place c.in-Ok.entries in
     let is = rw c.in-Ok.is at opened in
     let back : to_z w64 (of_z w64 c.args.depth) ≡ c.args.depth = to_z-of_z w64 _ c.ranges.depth in
@@ -114,8 +114,8 @@ fill_entries-requires g c =
       none,
     ))
 
-pub returns : goal.returns
-returns g c = λ t opened.
+pub returns-clause-told : goal.returns-clause-told
+returns-clause-told g c = λ t opened.
     let p = g.T.ReadEntries.place c.in-Ok.entries in
     let is = rw c.in-Ok.is at opened in
     let back : to_z w64 (of_z w64 c.args.depth) ≡ c.args.depth = to_z-of_z w64 _ c.ranges.depth in
@@ -131,9 +131,16 @@ returns g c = λ t opened.
     let shallow : unsigned_abs c.args.depth + (whole_length (unit_view c.args.unit.now) - number)
     < 2 ^ 63 =
     omega (arith, c.if-left.false, c.if-steps-left.false, start, whole, steps) in
-    let f = rw back at c.fill_entries.ensures in
+    let f = rw back at c.fill_entries.ensures.told in
     told_filled g.R.Offset.ReaderOffset.limit (unit_view c.args.unit.now) t
     (at number c.args.depth) c.args.rows.now c.args.attrs.now apart p
     c.fill_entries.result.place c.fill_entries.new.rows c.fill_entries.new.attrs
     c.fill_entries.result.filled c.fill_entries.result.status
     is shallow f
+
+pub returns-in-Err-clause-memory : goal.returns-in-Err-clause-memory
+returns-in-Err-clause-memory g c =
+    let number = g.R.Offset.ReaderOffset.number c.args.offset in
+    let no = rw c.in-Err.is at c.requires.1 in
+    let e = (unread_bounds (unit_view c.args.unit.now) c.requires.0 number c.in-Err.error no).1 in
+    rw (c.no_entries-in-Err.ensures, c.refusal_status.ensures, e) (λ is. absurd (omega (arith, is)))

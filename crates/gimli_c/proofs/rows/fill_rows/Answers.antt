@@ -19,8 +19,8 @@ rows-init g c =
       fits = c.requires;
     })
 
-pub returns-in-Err : goal.returns-in-Err
-returns-in-Err g c =
+pub returns-in-Err-clause-told : goal.returns-in-Err-clause-told
+returns-in-Err-clause-told g c =
     let back : to_z w64 (of_z w64 c.args.base) ≡ c.args.base = to_z-of_z w64 _ c.ranges.base in
     let f = rw back at c.rows.invariant in
     let some : length (g.T.ReadEntries.place c.rows.entries).rest.bytes ≡ 0 → ⊥ = λ none. let t : c.is_empty.result ≡ true =
@@ -53,8 +53,8 @@ rows-preserved g c =
     (front_more g.R.Offset.ReaderOffset.limit c.args.base (g.T.ReadEntries.place c.args.entries.now) p c.args.rows.now
     c.rows.rows c.rows.count past.entry (g.T.ReadEntries.place c.pass.new.self).rest _ f room some past.is refl)
 
-pub returns : goal.returns
-returns g c =
+pub returns-clause-told : goal.returns-clause-told
+returns-clause-told g c =
     let p = g.T.ReadEntries.place c.rows.entries in
     let back : to_z w64 (of_z w64 c.args.base) ≡ c.args.base = to_z-of_z w64 _ c.ranges.base in
     let f = rw back at c.rows.invariant in

@@ -31,7 +31,7 @@ returns-in-Ok-abbreviations-clause-resumes g c =
     let back : to_z w64 (of_z w64 c.args.depth) ≡ c.args.depth = to_z-of_z w64 _ c.ranges.depth in
     let number = g.R.Offset.ReaderOffset.number c.args.offset in
     let table = c.in-Ok-abbreviations.table in
-    let told = rw back at c.unit_rows.ensures table (same_answer c.entries_raw-opened.ensures) in
+    let told = rw back at c.unit_rows.ensures.told table (same_answer c.entries_raw-opened.ensures) in
     rw (← c.in-Ok.ensures, ← c.in-Ok-abbreviations.ensures)
     (unit_resumes g.R.Offset.ReaderOffset.limit (unit_view c.in-Ok.header)
     (codes_of c.in-Ok-abbreviations.table) c.in-Ok.header.entries_fit (at number c.args.depth)
@@ -46,4 +46,4 @@ returns-in-Ok-abbreviations-clause-told g c =
     let back : to_z w64 (of_z w64 c.args.depth) ≡ c.args.depth = to_z-of_z w64 _ c.ranges.depth in
     let table = c.in-Ok-abbreviations.table in
     rw (← c.in-Ok.ensures, ← c.in-Ok-abbreviations.ensures)
-    (rw back at c.unit_rows.ensures table (same_answer c.entries_raw-opened.ensures))
+    (rw back at c.unit_rows.ensures.told table (same_answer c.entries_raw-opened.ensures))

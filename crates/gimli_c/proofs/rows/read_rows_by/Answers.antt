@@ -15,7 +15,7 @@ returns-in-Ok-clause-resumes g c =
     let limit = g.R.Offset.ReaderOffset.limit in
     let u = unit_view c.in-Ok.header in
     let codes = codes_of (table_in c.args.table) in
-    let told = rw back at c.unit_rows.ensures (table_in c.args.table)
+    let told = rw back at c.unit_rows.ensures.told (table_in c.args.table)
     (same_answer c.entries_by-opened.ensures) in
     rw (← c.in-Ok.ensures)
     (unit_resumes limit u codes c.in-Ok.header.entries_fit (at number c.args.depth)
