@@ -50,6 +50,9 @@ enum {
     GIMLI_ROW_REFUSED = 512  /* and a number of gimli_error: what stands behind all that was written was refused */
 };
 
+/* The number of a refusal, of a status from GIMLI_REFUSED on. */
+#define GIMLI_ERROR(status) ((status) & 255)
+
 /* The numbers of refusals. */
 enum gimli_error {
     GIMLI_UNEXPECTED_EOF = 1, GIMLI_BAD_UNSIGNED_LEB128, GIMLI_BAD_SIGNED_LEB128, GIMLI_UNKNOWN_RESERVED_LENGTH,

@@ -8,7 +8,7 @@
 
 Rows are tuples (offset, depth, tag, has_children); with numpy, `array` gives those of a unit as a structured array. Where
 room is asked for, one of 0 is one of 1, since with none no call gives a row. What each call of the library gives is proved;
-this module is not.
+this module is not. Sections are copied, so no byte of them changes. No call is made in the forked child of a process with threads.
 """
 import ctypes
 import sys
@@ -154,6 +154,13 @@ def load(path):
     return library
 
 
+def number(value):
+    """A number of 64 bits: ctypes would leave the others out."""
+    if not 0 <= value < 1 << 64:
+        raise OverflowError(f"{value} is no number of 64 bits")
+    return value
+
+
 def row_of(row):
     return row.offset, row.depth, row.tag, row.has_children
 
@@ -163,9 +170,11 @@ class Dwarf:
 
     def __init__(self, library, debug_info=b"", debug_abbrev=b"", debug_addr=b"", debug_aranges=b"", debug_ranges=b"",
                  debug_rnglists=b"", debug_loc=b"", debug_loclists=b"", debug_types=b"", big=False, types=False):
-        self.library, self.units_bytes = library, bytes(debug_types if types else debug_info)
-        self.kept = [self.units_bytes, *map(bytes, (debug_abbrev, debug_addr, debug_aranges, debug_ranges, debug_rnglists,
-                                                    debug_loc, debug_loclists))]
+        sections = (debug_types if types else debug_info, debug_abbrev, debug_addr, debug_aranges, debug_ranges, debug_rnglists,
+                    debug_loc, debug_loclists)
+        # (a number of bytes is no section)
+        self.library, self.kept = library, [bytes(memoryview(it)) for it in sections]
+        self.units_bytes = self.kept[0]
         self.sections = Sections(*map(Bytes.of, self.kept), bool(big), bool(types))
 
     def call(self, name, *arguments):
@@ -181,7 +190,7 @@ class Dwarf:
 
     def unit(self, offset):
         """The unit at an offset, or None at the section's end."""
-        return self.found("unit", Unit(), offset)
+        return self.found("unit", Unit(), number(offset))
 
     def units(self):
         """The units, one after the other."""
@@ -278,7 +287,7 @@ class Dwarf:
         in the unit; where it finds one, it need not be a row of the unit, and stands
         behind the offset.
         """
-        row = self.found("sibling", Row(), unit.offset, byref(Place(offset, depth)), follows)
+        row = self.found("sibling", Row(), unit.offset, byref(Place(number(offset), depth)), follows)
         return row and row_of(row)
 
     def first_false(self, unit):
@@ -288,7 +297,7 @@ class Dwarf:
 
     def unit_of_address(self, address):
         """Where the unit of an address begins in .debug_info, by .debug_aranges, or None."""
-        offset = self.found("unit_of_address", c_uint64(), address)
+        offset = self.found("unit_of_address", c_uint64(), number(address))
         return None if offset is None else offset.value
 
     def listed(self, name, kind, tuple_of, unit, attr, bases):

@@ -231,6 +231,11 @@ def refusals(library):
     dwarf = Dwarf(library, unit_of(False, bytes([1, 0x0f, 9])), SIBLING)
     refused = refusal(list, dwarf.rows(dwarf.unit(0)))
     same("its words", str(refused), "InvalidAbbreviationCode (error 13) at 0xd")
+    for call, wrong in ((dwarf.unit, 2 ** 64), (dwarf.unit, -1), (dwarf.unit_of_address, 2 ** 64)):
+        try:
+            sys.exit(f"{wrong} is taken: {call(wrong)}")
+        except OverflowError:
+            pass
     same("its words", str(refusal(dwarf.unit, 1)), "UnexpectedEof (error 1)")
     same("its words", str(refusal(dwarf.ranges, dwarf.unit(0), Attr(kind=3))), "NoList")
 

@@ -2,7 +2,11 @@
 //! and locations.
 //!
 //! What each call of the library gives is proved on the other side, for all bytes; this crate is
-//! not, and adds nothing but iterators over buffers. Names are gimli's where they fit.
+//! not, and adds iterators over buffers, which read a table of abbreviations once where buffers are
+//! small. Names are gimli's where they fit.
+//!
+//! The library wants a processor with x86-64-v2, and `malloc`, `realloc` and `free` of one allocator;
+//! and no call from a signal handler, or in the forked child of a process with threads.
 //!
 //! Nothing aborts or panics where memory is refused: the answer is [`Error::OutOfMemory`], and the
 //! call may be made again.

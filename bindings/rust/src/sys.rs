@@ -1,9 +1,11 @@
 //! The declarations of the library, and the only code of this crate that is `unsafe`.
 //!
-//! Each call is allowed for all numbers and all slices: the library's functions have no
-//! precondition but that pointers are valid for the lengths beside them, and that what is written
-//! to overlaps nothing else, which references and slices guarantee. A slice's pointer is never
-//! null, and its length is below 2^63.
+//! Each call is allowed for all numbers and all slices. What the header says that a caller owes is
+//! guaranteed by references and slices, as far as it is of memory: pointers are valid for the
+//! lengths beside them, aligned and never null, a length is below 2^63, what is written to overlaps
+//! nothing else, and no byte that is read changes meanwhile. The rest (the processor, the allocator
+//! of C, no call from a signal handler or in the forked child of a process with threads) is left to
+//! who builds the program, as the crate's text says.
 
 use crate::{Bases, Location, Place, Range, Row};
 use alloc::vec::Vec;
