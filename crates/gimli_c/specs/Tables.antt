@@ -114,8 +114,8 @@ pub record AreWritten (ds : List Declaration) (old : List GimliDeclaration)
       map specification_in (take n new_s) ≡ all_specifications ds
   pub rest : let n = length (all_specifications ds) in drop n new_s ≡ drop n old_s
 
--- All declarations up to the code 0 are counted, and written where there is room for all of them and
--- for their attributes; else the buffers stay as they were.
+-- All declarations up to the code 0 are counted, and written where there is room for all of them
+-- and for their attributes; else the buffers stay as they were.
 pub record IsTable (ds : Items Declaration) (old : List GimliDeclaration)
     (old_s : List GimliSpecification) (new : List GimliDeclaration)
     (new_s : List GimliSpecification) (n : GimliCounted) (status : ℕ) : Type 0 where

@@ -242,8 +242,8 @@ fn size_of(specifications: &[GimliSpecification], encoding: Encoding) -> u64
     sum
 }
 
-// Reads the next entry, and keeps its head, and its attributes in place of those in `numbers`; where
-// it is refused, the input and the list are left anywhere.
+// Reads the next entry, and keeps its head, and its attributes in place of those in `numbers`;
+// where it is refused, the input and the list are left anywhere.
 #[inline(always)]
 fn read_numbers<R: Reader, A: Allocator>(
     input: &mut R,

@@ -1,8 +1,8 @@
 //! The reader for callers of C: each call fills what its caller hands over, and keeps nothing.
 //!
 //! A status is 0 where there is more, 1 at the end, 2 at a place whose depth is out of range, 3
-//! where a value names no list, 4 where the codes of a table are not in order, 256 and the number of
-//! the refusal of a unit, of abbreviations or of an offset, and 512 and that of a row.
+//! where a value names no list, 4 where the codes of a table are not in order, 256 and the number
+//! of the refusal of a unit, of abbreviations or of an offset, and 512 and that of a row.
 #![tactic(auto)]
 
 ghost use Rattle.std.specs.Prelude.{◌≡◌, ◌<◌, ℕ, take};
@@ -178,9 +178,9 @@ pub extern "C" fn gimli_table(
     told.status
 }
 
-/// The same as `gimli_rows` by a table in the caller's buffers, whatever it holds: the rows are those
-/// that its declarations give. Those that `gimli_table` wrote and counted give the unit's own. Of the
-/// sections only `units` is read, and no memory is asked for: status 280 does not come.
+/// The same as `gimli_rows` by a table in the caller's buffers, whatever it holds: the rows are
+/// those that its declarations give. Those that `gimli_table` wrote and counted give the unit's
+/// own. Of the sections only `units` is read, and no memory is asked for: status 280 does not come.
 #[unsafe(no_mangle)]
 pub extern "C" fn gimli_rows_by(
     sections: &GimliSections<'_>,
@@ -210,8 +210,8 @@ pub extern "C" fn gimli_rows_by(
     told.status
 }
 
-/// The same as `gimli_entries` by a table in the caller's buffers, as `gimli_rows_by`. Memory is asked
-/// for the attributes of a row alone.
+/// The same as `gimli_entries` by a table in the caller's buffers, as `gimli_rows_by`. Memory is
+/// asked for the attributes of a row alone.
 #[unsafe(no_mangle)]
 pub extern "C" fn gimli_entries_by(
     alloc: Global,

@@ -156,7 +156,8 @@ fn has_room(counted: GimliCounted, room: usize, space: usize) -> bool
 }
 
 // Reads the declarations up to the code 0 into the buffers, as far as there is room for them, and
-// counts them all; where they are refused, or there is no room for all, the buffers are left anywhere.
+// counts them all; where they are refused, or there is no room for all, the buffers are left
+// anywhere.
 fn scan<R: Reader>(
     input: &mut R,
     declarations: &mut [GimliDeclaration],

@@ -52,8 +52,8 @@ impl<R, Offset> Attribute<R, Offset> {
 }
 
 impl<R: Reader> Attribute<R> {
-    /// Reads the attribute of a specification and hands it to a taker, which has room for it; put in
-    /// place where it is called. It is for those who keep declarations of their own: in a unit's
+    /// Reads the attribute of a specification and hands it to a taker, which has room for it; put
+    /// in place where it is called. It is for those who keep declarations of their own: in a unit's
     /// entries `EntriesRaw::read_attribute_to` does the same.
     ///
     /// Refusals: those of `EntriesRaw::read_attribute`; the input and the taker then stay.
@@ -79,8 +79,8 @@ impl<R: Reader> Attribute<R> {
     }
 
     /// Passes the values of attributes that have `size` bytes together (DWARF 5, 7.5.6), if all of
-    /// them are there and reading refuses none; answers whether it does, and else the input stays. A
-    /// size above 64 is never passed so.
+    /// them are there and reading refuses none; answers whether it does, and else the input stays.
+    /// A size above 64 is never passed so.
     #[inline(always)]
     pub fn pass_sized(input: &mut R, encoding: Encoding, size: u64) -> bool
         ensures within { result ≡ true → size ≤ 64 }

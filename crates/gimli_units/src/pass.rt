@@ -251,8 +251,8 @@ pub(crate) fn pass_as_read<R: Reader>(
     }
 }
 
-/// Passes values that have `size` bytes together, if all of them are there and reading refuses none;
-/// answers whether it does, and else the input stays.
+/// Passes values that have `size` bytes together, if all of them are there and reading refuses
+/// none; answers whether it does, and else the input stays.
 #[inline(always)]
 pub(crate) fn pass_sized<R: Reader>(input: &mut R, encoding: Encoding, size: u64) -> bool
     ensures within { result ≡ true → size ≤ 64 }
