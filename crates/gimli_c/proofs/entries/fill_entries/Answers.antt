@@ -29,15 +29,17 @@ rows-init g c =
 
 pub returns-in-Err-clause-told : goal.returns-in-Err-clause-told
 returns-in-Err-clause-told g c =
+    let p = g.T.ReadEntries.place c.rows.entries in
+    let start = g.T.ReadEntries.place c.args.entries.now in
     let back : to_z w64 (of_z w64 c.args.base) ≡ c.args.base = to_z-of_z w64 _ c.ranges.base in
     let f = rw back at c.rows.invariant in
-    let some : length (g.T.ReadEntries.place c.rows.entries).rest.bytes ≡ 0 → ⊥ = λ none. let t : c.is_empty.result ≡ true =
+    let some : length p.rest.bytes ≡ 0 → ⊥ = λ none. let t : c.is_empty.result ≡ true =
     c.is_empty.ensures.1 none in let no = c.if-not-is_empty.true in cc in
     let room : c.rows.count < length c.args.rows.now =
     omega (arith, c.rows-test.true, c.rows.auto.rows) in
     let depth = rw back at c.place_of-place.ensures.depth in
     rw (c.told_entries.ensures, c.wrote.ensures, c.row_refused.ensures)
-    (entries_refused g.R.Offset.ReaderOffset.limit c.args.base (g.T.ReadEntries.place c.args.entries.now) (g.T.ReadEntries.place c.rows.entries)
+    (entries_refused g.R.Offset.ReaderOffset.limit c.args.base start p
     c.args.rows.now c.rows.rows c.args.attrs.now c.rows.attrs c.place_of-place.result c.rows.count
     c.rows.used
     f c.place_of-place.ensures.offset depth c.in-Err.error some room
@@ -45,9 +47,11 @@ returns-in-Err-clause-told g c =
 
 pub returns-then-attributes-attrs-clause-told : goal.returns-then-attributes-attrs-clause-told
 returns-then-attributes-attrs-clause-told g c =
+    let p = g.T.ReadEntries.place c.rows.entries in
+    let start = g.T.ReadEntries.place c.args.entries.now in
     let back : to_z w64 (of_z w64 c.args.base) ≡ c.args.base = to_z-of_z w64 _ c.ranges.base in
     let f = rw back at c.rows.invariant in
-    let some : length (g.T.ReadEntries.place c.rows.entries).rest.bytes ≡ 0 → ⊥ = λ none. let t : c.is_empty.result ≡ true =
+    let some : length p.rest.bytes ≡ 0 → ⊥ = λ none. let t : c.is_empty.result ≡ true =
     c.is_empty.ensures.1 none in let no = c.if-not-is_empty.true in cc in
     let room : c.rows.count < length c.args.rows.now =
     omega (arith, c.rows-test.true, c.rows.auto.rows) in
@@ -60,15 +64,17 @@ returns-then-attributes-attrs-clause-told g c =
     let large : length c.args.attrs.now - c.rows.used < length e.attributes =
     omega (arith, many, c.if-attributes-attrs.true, c.rows.auto.attrs) in
     rw (c.told_entries-then-attributes-attrs.ensures, c.wrote-then-attributes-attrs.ensures, many)
-    (entries_large g.R.Offset.ReaderOffset.limit c.args.base (g.T.ReadEntries.place c.args.entries.now) (g.T.ReadEntries.place c.rows.entries)
+    (entries_large g.R.Offset.ReaderOffset.limit c.args.base start p
     c.args.rows.now c.rows.rows c.args.attrs.now c.rows.attrs c.place_of-place.result c.rows.count
     c.rows.used
-    f c.place_of-place.ensures.offset depth e (g.T.ReadEntries.place c.read.new.self).rest some room r.past.is
+    f c.place_of-place.ensures.offset depth e (g.T.ReadEntries.place c.read.new.self).rest some
+    room r.past.is
     large)
 
 pub rows-preserved : goal.rows-preserved
 rows-preserved g c =
     let p = g.T.ReadEntries.place c.rows.entries in
+    let start = g.T.ReadEntries.place c.args.entries.now in
     let back : to_z w64 (of_z w64 c.args.base) ≡ c.args.base = to_z-of_z w64 _ c.ranges.base in
     let f = rw back at c.rows.invariant in
     let some : length p.rest.bytes ≡ 0 → ⊥ = λ none. let t : c.is_empty.result ≡ true =
@@ -93,13 +99,14 @@ rows-preserved g c =
     ++ drop (c.rows.used + length e.attributes) c.rows.attrs =
     rw (c.as_slice-numbers_read.ensures.value, r.numbers_are, each) at c.write_attrs.ensures in
     rw (back, depth, back_sum, c.place_of-place.ensures.offset, many, tag, flag, r.past.moved)
-    (entry_more g.R.Offset.ReaderOffset.limit c.args.base (g.T.ReadEntries.place c.args.entries.now) p c.args.rows.now
+    (entry_more g.R.Offset.ReaderOffset.limit c.args.base start p c.args.rows.now
     c.rows.rows c.args.attrs.now c.rows.attrs c.write_attrs.new.into c.rows.count c.rows.used e
     (g.T.ReadEntries.place c.read.new.self).rest _ f room space some r.past.is refl wrote)
 
 pub returns-clause-told : goal.returns-clause-told
 returns-clause-told g c =
     let p = g.T.ReadEntries.place c.rows.entries in
+    let start = g.T.ReadEntries.place c.args.entries.now in
     let back : to_z w64 (of_z w64 c.args.base) ≡ c.args.base = to_z-of_z w64 _ c.ranges.base in
     let f = rw back at c.rows.invariant in
     let offset = c.place_of.ensures.offset in
@@ -109,7 +116,7 @@ returns-clause-told g c =
       | then-is_empty w ↦
           let none : length p.rest.bytes ≡ 0 = c.is_empty-2.ensures.0 w.if-is_empty.true in
           rw (c.told_entries-2.ensures, c.wrote-2.ensures, w.status-is)
-          (entries_ended limit c.args.base (g.T.ReadEntries.place c.args.entries.now) p c.args.rows.now
+          (entries_ended limit c.args.base start p c.args.rows.now
           c.rows.rows c.args.attrs.now c.rows.attrs c.place_of.result c.rows.count c.rows.used
           f offset depth none)
       | else-is_empty w ↦
@@ -121,7 +128,7 @@ returns-clause-told g c =
             | else-rows-test v ↦ omega (arith, v.rows-test.false, c.rows.auto.rows)
           ] in
           rw (c.told_entries-2.ensures, c.wrote-2.ensures, w.status-is)
-          (entries_full limit c.args.base (g.T.ReadEntries.place c.args.entries.now) p c.args.rows.now
+          (entries_full limit c.args.base start p c.args.rows.now
           c.rows.rows c.args.attrs.now c.rows.attrs c.place_of.result c.rows.count c.rows.used
           f offset depth some full)
     ]

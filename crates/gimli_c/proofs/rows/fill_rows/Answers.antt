@@ -21,21 +21,24 @@ rows-init g c =
 
 pub returns-in-Err-clause-told : goal.returns-in-Err-clause-told
 returns-in-Err-clause-told g c =
+    let p = g.T.ReadEntries.place c.rows.entries in
+    let start = g.T.ReadEntries.place c.args.entries.now in
     let back : to_z w64 (of_z w64 c.args.base) ≡ c.args.base = to_z-of_z w64 _ c.ranges.base in
     let f = rw back at c.rows.invariant in
-    let some : length (g.T.ReadEntries.place c.rows.entries).rest.bytes ≡ 0 → ⊥ = λ none. let t : c.is_empty.result ≡ true =
+    let some : length p.rest.bytes ≡ 0 → ⊥ = λ none. let t : c.is_empty.result ≡ true =
     c.is_empty.ensures.1 none in let no = c.if-not-is_empty.true in cc in
     let room : c.rows.count < length c.args.rows.now =
     omega (arith, c.rows-test.true, c.rows.auto.rows) in
     let depth = rw back at c.place_of-place.ensures.depth in
     rw c.row_refused.ensures (filled_refused g.R.Offset.ReaderOffset.limit c.args.base
-    (g.T.ReadEntries.place c.args.entries.now) (g.T.ReadEntries.place c.rows.entries) c.args.rows.now c.rows.rows c.place_of-place.result
+    start p c.args.rows.now c.rows.rows c.place_of-place.result
     c.rows.count c.in-Err.error
     f some room c.in-Err.ensures.refused c.place_of-place.ensures.offset depth)
 
 pub rows-preserved : goal.rows-preserved
 rows-preserved g c =
     let p = g.T.ReadEntries.place c.rows.entries in
+    let start = g.T.ReadEntries.place c.args.entries.now in
     let back : to_z w64 (of_z w64 c.args.base) ≡ c.args.base = to_z-of_z w64 _ c.ranges.base in
     let f = rw back at c.rows.invariant in
     let some : length p.rest.bytes ≡ 0 → ⊥ = λ none. let t : c.is_empty.result ≡ true =
@@ -50,12 +53,14 @@ rows-preserved g c =
     let flag : c.in-Ok.head.has_children ≡ cond past.entry.has_children 1 0 =
     ap (λ (h : Head). h.has_children) past.head_is in
     rw (back, depth, back_sum, c.place_of-place.ensures.offset, tag, flag, past.moved)
-    (front_more g.R.Offset.ReaderOffset.limit c.args.base (g.T.ReadEntries.place c.args.entries.now) p c.args.rows.now
-    c.rows.rows c.rows.count past.entry (g.T.ReadEntries.place c.pass.new.self).rest _ f room some past.is refl)
+    (front_more g.R.Offset.ReaderOffset.limit c.args.base start p c.args.rows.now
+    c.rows.rows c.rows.count past.entry (g.T.ReadEntries.place c.pass.new.self).rest _ f room
+    some past.is refl)
 
 pub returns-clause-told : goal.returns-clause-told
 returns-clause-told g c =
     let p = g.T.ReadEntries.place c.rows.entries in
+    let start = g.T.ReadEntries.place c.args.entries.now in
     let back : to_z w64 (of_z w64 c.args.base) ≡ c.args.base = to_z-of_z w64 _ c.ranges.base in
     let f = rw back at c.rows.invariant in
     let offset = c.place_of.ensures.offset in
@@ -64,7 +69,7 @@ returns-clause-told g c =
     elim c.if-is_empty.branch [
       | then-is_empty w ↦
           let none : length p.rest.bytes ≡ 0 = c.is_empty-2.ensures.0 w.if-is_empty.true in
-          rw w.status-is (filled_ended limit c.args.base (g.T.ReadEntries.place c.args.entries.now) p c.args.rows.now
+          rw w.status-is (filled_ended limit c.args.base start p c.args.rows.now
           c.rows.rows c.place_of.result c.rows.count f none offset depth)
       | else-is_empty w ↦
           let some : length p.rest.bytes ≡ 0 → ⊥ = λ none. let t : c.is_empty-2.result ≡ true =
@@ -74,6 +79,6 @@ returns-clause-told g c =
                 absurd (some (v.is_empty.ensures.0 (cc)))
             | else-rows-test v ↦ omega (arith, v.rows-test.false, c.rows.auto.rows)
           ] in
-          rw w.status-is (filled_full limit c.args.base (g.T.ReadEntries.place c.args.entries.now) p c.args.rows.now
+          rw w.status-is (filled_full limit c.args.base start p c.args.rows.now
           c.rows.rows c.place_of.result c.rows.count f some full offset depth)
     ]

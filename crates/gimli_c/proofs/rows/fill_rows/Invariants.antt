@@ -3,8 +3,10 @@ use Rattle.gimli_c.proofs.Front.{Front}
 use Rattle.gimli_c.proofs.rows.fill_rows.Given as goal
 
 abbrev pub invariant-rows : goal.invariant-rows
-invariant-rows g l = Front g.R.Offset.ReaderOffset.limit l.fn.base (g.T.ReadEntries.place l.initial.entries) (g.T.ReadEntries.place l.entries)
-    l.initial.rows l.rows l.count
+invariant-rows g l =
+    let start = g.T.ReadEntries.place l.initial.entries in
+    let now = g.T.ReadEntries.place l.entries in
+    Front g.R.Offset.ReaderOffset.limit l.fn.base start now l.initial.rows l.rows l.count
 
 abbrev pub decreases-rows : goal.decreases-rows
 decreases-rows g l = length l.initial.rows - l.count
