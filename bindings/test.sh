@@ -19,6 +19,12 @@ c++ -std=c++11 -pedantic -Wall -Wextra -Werror -fsyntax-only -x c++ "$moved/incl
 c++ -std=c++11 -pedantic -Wall -Wextra -Werror -o "$moved/lists" -x c++ "$here/c/lists.c" -x none \
     $(pkg-config --cflags --libs "$moved/target/gimli.pc")
 "$moved/lists"
+# what it says of statuses is what the Rust crate says
+cc -std=c99 -pedantic -Wall -Wextra -Werror -I"$moved/include" -o "$moved/texts" "$here/c/texts.c"
+c++ -std=c++11 -pedantic -Wall -Wextra -Werror -I"$moved/include" -o "$moved/texts_cc" -x c++ "$here/c/texts.c"
+sed -n -e 's/^ *Error::\([A-Za-z]*\) => "\(.*\)",$/\1 \2/p' -e 's/^ *\([0-9]* \)[A-Za-z0-9]* "\(.*\)"$/\1\2/p' \
+    "$here/rust/src/error.rs" > "$moved/texts.txt"
+for program in texts texts_cc; do "$moved/$program" | diff - "$moved/texts.txt"; done
 # ends STATUS WORDS..: a program ends with this status
 ends() {
     local wanted=$1 status=0

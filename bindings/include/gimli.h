@@ -65,6 +65,47 @@ enum gimli_error {
     GIMLI_OUT_OF_MEMORY /* the call may be made again, from where it stands */
 };
 
+/* A status in words, as a text that lasts as long as the program. */
+static inline const char *gimli_text(uint32_t status) {
+    static const char *const refusals[] = {
+        "The input ends before what should stand there.",
+        "An unsigned LEB128 number needs too many bits.",
+        "A signed LEB128 number needs too many bits.",
+        "A length field has a reserved value.",
+        "The version is unknown.",
+        "The type of a unit is unknown.",
+        "No address has this number of bytes.",
+        "Segment selectors are not supported.",
+        "A number does not fit an offset.",
+        "No offset has this number of bytes.",
+        "An offset is out of bounds.",
+        "No entry stands at the offset.",
+        "The code of an abbreviation is not declared.",
+        "The form of an attribute is unknown.",
+        "The number of an implicit constant is not declared.",
+        "The kind of an entry of a range list is unknown.",
+        "The kind of an entry of a location list is unknown.",
+        "A sum of addresses does not fit.",
+        "A declared tag is zero.",
+        "A declared flag of children is neither 0 nor 1.",
+        "A declared name is zero, but not the form.",
+        "A declared form is zero, but not the name.",
+        "A code is declared twice.",
+        "Memory was refused; the call may be made again."
+    };
+    uint32_t number = GIMLI_ERROR(status);
+    switch (status) {
+    case GIMLI_MORE: return "Something was found, and there may be more.";
+    case GIMLI_END: return "Nothing is left.";
+    case GIMLI_TOO_DEEP: return "The depth of the place is too great.";
+    case GIMLI_NO_LIST: return "The value names no list.";
+    case GIMLI_UNORDERED: return "The codes of the abbreviations are not 1, 2, .. in this order.";
+    }
+    if (status >= GIMLI_REFUSED && status <= GIMLI_ROW_REFUSED + 255 && number >= 1 && number <= GIMLI_OUT_OF_MEMORY)
+        return refusals[number - 1];
+    return "The status is unknown.";
+}
+
 /* Bytes of a section. */
 typedef struct {
     const uint8_t *bytes; /* null: none */
