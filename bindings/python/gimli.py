@@ -8,7 +8,8 @@
 
 Rows are tuples (offset, depth, tag, has_children); with numpy, `array` gives those of a unit as a structured array. Where
 room is asked for, one of 0 is one of 1, since with none no call gives a row. What each call of the library gives is proved;
-this module is not. Sections are copied, so no byte of them changes. No call is made in the forked child of a process with threads.
+this module is not. Sections are copied, so no byte of them changes. No call is made in the forked child of a process with
+threads.
 """
 import ctypes
 import sys
@@ -16,6 +17,9 @@ from ctypes import POINTER, Structure, byref, c_char_p, c_int64, c_size_t, c_uin
 from pathlib import Path
 
 MORE, END, TOO_DEEP, NO_LIST, UNORDERED, REFUSED, ROW_REFUSED = 0, 1, 2, 3, 4, 256, 512
+
+# Where a call gives so many rows, it costs little to read the table of abbreviations in each.
+MANY = 4096
 
 NAMES = """UnexpectedEof BadUnsignedLeb128 BadSignedLeb128 UnknownReservedLength UnknownVersion UnknownUnitType
     UnsupportedAddressSize UnsupportedSegmentSize UnsupportedOffset UnsupportedOffsetSize OffsetOutOfBounds NoEntryAtGivenOffset
@@ -221,20 +225,34 @@ class Dwarf:
             return self.call(name, unit.offset, *arguments)
         return self.call(name + "_by", unit.offset, byref(table), *arguments)
 
+    def table_after(self, unit, rows):
+        """The table for the calls after a first one that gave so many rows of a unit; None where each call reads it itself."""
+        if rows >= MANY:
+            return None
+        try:
+            # (`unit` may be one that the caller made: the library's own says where the table is)
+            unit = self.unit(unit.offset)
+            return unit and self.table(unit)
+        except (Refused, MemoryError):
+            return None
+
     def blocks(self, unit, room, table=None):
         """Buffers of rows, and how many of each were written."""
         room = max(room, 1)
-        place, count, status = Place(unit.header_size, 0), c_size_t(), MORE
+        place, count, status, calls = Place(unit.header_size, 0), c_size_t(), MORE, 0
         while status == MORE:
+            if calls == 1 and table is None:
+                table = self.table_after(unit, count.value)
             rows = (Row * room)()
             status = self.read("rows", unit, table, byref(place), rows, room, byref(count))
+            calls += 1
             yield rows, count.value
         if status != END:
             raise Refused(status, place.offset)
 
     def rows(self, unit, room=4096, table=None):
-        """Tuples (offset, depth, tag, has_children); a null has the tag 0. With a table the abbreviations are not read again for
-        each buffer."""
+        """Tuples (offset, depth, tag, has_children); a null has the tag 0. Each call of the library reads the unit's table of
+        abbreviations, unless one is handed over; where calls give few rows, all but the first go by one that is read once."""
         for rows, count in self.blocks(unit, room, table):
             for i in range(count):
                 yield row_of(rows[i])
@@ -262,9 +280,12 @@ class Dwarf:
         """Pairs of a row and its attributes as the library writes them, from a place on, which stays as it is."""
         room, space = max(room, 1), max(space, 0)
         place = Place(unit.header_size, 0) if place is None else Place(place.offset, place.depth)
-        rows, attrs, filled, status = (Entry * room)(), (Attr * space)(), Filled(), MORE
+        rows, attrs, filled, status, calls = (Entry * room)(), (Attr * space)(), Filled(), MORE, 0
         while status == MORE:
+            if calls == 1 and table is None:
+                table = self.table_after(unit, filled.rows)
             status = self.read("entries", unit, table, byref(place), rows, room, attrs, space, byref(filled))
+            calls += 1
             written = (Attr * filled.attributes).from_buffer_copy(attrs)
             for i in range(filled.rows):
                 row = rows[i]

@@ -4,10 +4,12 @@ some bytes in both byte orders. ATTRS is the program of c/attrs.c, whose attribu
 """
 import subprocess
 import sys
+from collections import Counter
 from pathlib import Path
+from unittest.mock import Mock
 
 import gimli
-from gimli import Attr, Bases, Declaration, Dwarf, Place, Refused, Specification, Table
+from gimli import Attr, Bases, Declaration, Dwarf, Place, Refused, Specification, Table, Unit
 
 ROOMS = [(0, 0), (1, 1), (3, 5), (64, 8192)]
 SIBLING = bytes.fromhex("01 2e 01 01 11 00 00  02 34 00 00 00  00")
@@ -27,6 +29,25 @@ def refusal(call, *arguments):
     except Refused as refused:
         return refused
     sys.exit(f"{call} is not refused")
+
+
+class Counting(Dwarf):
+    """Counts the calls of the library by their names."""
+
+    def __init__(self, *arguments, **sections):
+        super().__init__(*arguments, **sections)
+        self.calls = Counter()
+
+    def call(self, name, *arguments):
+        self.calls[name] += 1
+        return super().call(name, *arguments)
+
+    def made_by(self, items):
+        """The calls that are made while so many items are read."""
+        self.calls.clear()
+        for _ in items:
+            pass
+        return Counter(self.calls)
 
 
 # The real files
@@ -64,6 +85,16 @@ def same_arrays(name, dwarf, unit, rows):
     return True
 
 
+def few_calls(name, dwarf, unit, table):
+    """A unit of more than three rows that is read three at a time: the first call reads the table of abbreviations, the others go
+    by one that is read in two calls at most, or all by one that is handed over."""
+    for call, read in ("rows", dwarf.rows), ("entries", dwarf.raw_entries):
+        calls = dwarf.made_by(read(unit, 3))
+        same(f"{name}: calls of {call}", (calls[call], calls["table"] in (1, 2), calls[call + "_by"] > 0), (1, True, True))
+        calls = dwarf.made_by(read(unit, 3, table=table))
+        same(f"{name}: calls of {call} by a table", (calls[call], calls["table"], calls[call + "_by"] > 1), (0, 0, True))
+
+
 def lines_of(dwarf, pairs):
     """Rows and their attributes as attrs.c prints them."""
     for row, attrs in pairs:
@@ -93,12 +124,14 @@ def real_files(library, attrs, data):
     files, arrays = 0, False
     for info in sorted(data.glob("*.info")):
         abbrev, lines = info.with_suffix(".abbrev"), []
-        dwarf = Dwarf(library, info.read_bytes(), abbrev.read_bytes())
+        dwarf = Counting(library, info.read_bytes(), abbrev.read_bytes())
         for unit in dwarf.units():
             rows = same_rows(info.name, dwarf, unit)
             arrays = same_arrays(info.name, dwarf, unit, rows)
             lines += same_entries(info.name, dwarf, unit, rows)
             same_siblings(info.name, dwarf, unit, rows)
+            if len(rows) > 3:
+                few_calls(info.name, dwarf, unit, dwarf.table(unit))
         for rooms in ([], ["0", "0"]):
             printed = subprocess.run([attrs, info, abbrev, *rooms], capture_output=True, check=True, timeout=60).stdout
             same(f"{info.name}: the lines of attrs", lines, printed.split(b"\n")[:-1])
@@ -206,15 +239,43 @@ def tables(library):
     same("a table that is not in order", unordered.table(unit), None)
     same("rows without it", list(unordered.rows(unit, 2, unordered.table(unit))), rows)
     same("a table that is cut", refusal(Dwarf(library, info, SIBLING[:-1]).table, unit).name, "UnexpectedEof")
-    same("a declaration without a tag", refusal(Dwarf(library, info, bytes.fromhex("01 00")).table, unit).name, "AbbreviationTagZero")
+    tagless = Dwarf(library, info, bytes.fromhex("01 00"))
+    same("a declaration without a tag", refusal(tagless.table, unit).name, "AbbreviationTagZero")
     # an entry of the tag 0 is a null, what is not there has no attributes, and a code without a declaration is refused
     made = Table((Declaration * 1)((7, 5, 3, 0, 1)))
     same("rows by a table that was made", refused_rows(dwarf, unit, made), ([(0x0b, 0, 0, 0)], "InvalidAbbreviationCode"))
     greatest = 2 ** 64 - 1
-    made = Table((Declaration * 2)((0, greatest, greatest, 0x2e, 255), (0, 0, greatest, 0x34, 0)), (Specification * 1)((0, 1, 0x11)))
+    made = Table((Declaration * 2)((0, greatest, greatest, 0x2e, 255), (0, 0, greatest, 0x34, 0)),
+                 (Specification * 1)((0, 1, 0x11)))
     rows = [(0x0b, 0, 0x2e, 1)]
     same("rows by odd numbers", refused_rows(dwarf, unit, made), (rows, "InvalidAbbreviationCode"))
     same("rows by no table at all", refused_rows(dwarf, unit, Table()), ([], "InvalidAbbreviationCode"))
+
+
+def tables_read_once(library):
+    """Without a table rows and entries go by one from their second call on, if the first gave few; they stay the same."""
+    other = bytes.fromhex("01 05 00 0000  00")
+    dwarf = Counting(library, unit_of(False, bytes([1, 0x0f, 2, 0, 2, 2, 0]), len(other)), other + SIBLING)
+    unit, made = dwarf.unit(0), Unit(header_size=0x0b)
+    rows = list(dwarf.rows(unit))
+    same("the first row", rows[0], (0x0b, 0, 0x2e, 1))
+    for room in (1, 3):
+        # a unit that a caller made, which says of another table
+        same("rows of it", list(dwarf.rows(made, room)), rows)
+        same("entries of it", [row for row, _ in dwarf.raw_entries(made, room)], rows)
+    same("the table of it", dwarf.made_by(dwarf.rows(made, 1))["table"], 2)
+    unordered = Counting(library, unit_of(False, bytes([1, 0x0f, 2, 0])), SIBLING[7:12] + SIBLING[:7] + b"\0")
+    calls = unordered.made_by(unordered.rows(unordered.unit(0), 1))
+    same("calls where codes are not in order", (calls["rows"], calls["table"], calls["rows_by"]), (3, 1, 0))
+    many = Counting(library, unit_of(False, bytes([2]) * 5000), SIBLING)
+    for room, tables in (4096, 0), (4095, 2):
+        same("tables for many rows", many.made_by(many.rows(many.unit(0), room))["table"], tables)
+        same("tables for many entries", many.made_by(many.raw_entries(many.unit(0), room))["table"], tables)
+    for error in MemoryError(), Refused(gimli.REFUSED + 24):
+        dwarf.table = Mock(side_effect=error)
+        same("rows where there is no table", list(dwarf.rows(unit, 1)), rows)
+        same("entries there", [row for row, _ in dwarf.raw_entries(unit, 1)], rows)
+        same("how often it is asked for", dwarf.table.call_count, 2)
 
 
 def refused_rows(dwarf, unit, table):
@@ -250,6 +311,7 @@ def main(path, attrs, data):
     lists_of_five(library)
     places(library)
     tables(library)
+    tables_read_once(library)
     refusals(library)
     print(f"Python: {files} files, each call as wanted" + ("" if arrays else "; array was not tried, as numpy is not there"))
 
