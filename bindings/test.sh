@@ -38,6 +38,11 @@ for program in rows attrs memory; do ends 3 "$target/$program" <(echo) /dev/null
 ends 4 "$target/rows" "$data/c-gcc-d4.info" "$data/c-gcc-d4.abbrev" first $((1 << 61))
 ends 4 "$target/attrs" "$data/c-gcc-d4.info" "$data/c-gcc-d4.abbrev" $((1 << 61))
 ends 4 "$target/attrs" "$data/c-gcc-d4.info" "$data/c-gcc-d4.abbrev" 1 $((1 << 61))
+# a unit of 70,000 rows is more than the program that refuses memory has room for
+printf '\167\21\1\0\4\0\0\0\0\0\10' > "$moved/many.info"
+head -c 70000 /dev/zero | tr '\0' '\1' >> "$moved/many.info"
+printf '\1\64\0\0\0\0' > "$moved/many.abbrev"
+ends 5 "$target/memory" "$moved/many.info" "$moved/many.abbrev"
 files=0
 for info in "$data"/*.info; do
     file=${info%.info}

@@ -1,14 +1,20 @@
 /* memory INFO ABBREV: makes the calls that ask for memory over the first unit with each request
    refused in turn, and again after it: the answers must be those of undisturbed calls, and what a
-   refused call was to write stays. The other calls must ask for none. Linked with --wrap=malloc
-   --wrap=realloc. */
+   refused call was to write stays. The other calls must ask for none. The exit status is 5 where
+   the unit has too many rows. Linked with --wrap=malloc --wrap=realloc. */
 #include "gimli.h"
 #include "read_file.h"
+#include "read_table.h"
 #include <stdio.h>
 #include <stdlib.h>
 #include <string.h>
 
-enum { ROOM = 64, SPACE = 1024, MOST = 400, MARK = 0xaa };
+enum { ROOM = 64, SPACE = 1024, MOST = 400, MOST_ROWS = 1 << 16, MARK = 0xaa };
+enum { TABLE_REFUSED = GIMLI_REFUSED + GIMLI_OUT_OF_MEMORY, ROW_REFUSED = GIMLI_ROW_REFUSED + GIMLI_OUT_OF_MEMORY };
+
+/* How the rows of the unit are read. */
+enum way { ROWS, ENTRIES, ENTRIES_BY };
+static const char *const names[] = {"rows", "entries", "entries by a table"};
 
 static long left = -1, refusals, requests;
 void *__real_malloc(size_t n);
@@ -30,7 +36,8 @@ void *__wrap_realloc(void *p, size_t n) { return refuse() ? NULL : __real_reallo
 
 static gimli_sections_t sections;
 static gimli_unit_t unit;
-static gimli_entry_t rows[ROOM], first[1 << 16], again[1 << 16];
+static const gimli_table_t *table;
+static gimli_entry_t rows[ROOM], first[MOST_ROWS], again[MOST_ROWS];
 static gimli_row_t plain[ROOM];
 static gimli_attr_t attrs[SPACE];
 
@@ -39,22 +46,20 @@ static int fails(const char *what, long at) {
     exit(1);
 }
 
-static int is_refused_memory(uint32_t status) {
-    return status == GIMLI_REFUSED + GIMLI_OUT_OF_MEMORY || status == GIMLI_ROW_REFUSED + GIMLI_OUT_OF_MEMORY;
-}
+static int is_refused_memory(uint32_t status) { return status == TABLE_REFUSED || status == ROW_REFUSED; }
 
 static void is_kept(const char *what, const void *buffer, size_t filled, size_t size, long at) {
     for (size_t i = filled; i < size; i++) if (((const unsigned char *)buffer)[i] != MARK) fails(what, at);
 }
 
-/* One call with a buffer of rows, with their attributes or without; what is behind its rows is as
-   it was. */
-static uint32_t some_rows(int attributes, gimli_place_t *place, size_t *count, long at) {
+/* One call with a buffer of rows; what is behind its rows is as it was. */
+static uint32_t some_rows(enum way way, gimli_place_t *place, size_t *count, long at) {
     uint32_t status;
-    if (attributes) {
+    if (way != ROWS) {
         gimli_filled_t filled;
         memset(rows, MARK, sizeof rows);
-        status = gimli_entries(&sections, unit.offset, place, rows, ROOM, attrs, SPACE, &filled);
+        status = way == ENTRIES ? gimli_entries(&sections, unit.offset, place, rows, ROOM, attrs, SPACE, &filled)
+                                : gimli_entries_by(&sections, unit.offset, table, place, rows, ROOM, attrs, SPACE, &filled);
         *count = filled.rows;
         is_kept("written behind entries", rows, filled.rows * sizeof *rows, sizeof rows, at);
         return status;
@@ -70,15 +75,21 @@ static uint32_t some_rows(int attributes, gimli_place_t *place, size_t *count, l
 }
 
 /* All rows of the unit where a request is refused, going on after it; their number. */
-static size_t all_rows(int attributes, long at, gimli_entry_t *to, uint32_t *status) {
+static size_t all_rows(enum way way, long at, gimli_entry_t *to, uint32_t *status) {
     gimli_place_t place = {unit.header_size, 0};
     size_t all = 0;
     left = at;
     for (;;) {
         gimli_place_t before = place;
         size_t count;
-        *status = some_rows(attributes, &place, &count, at);
+        *status = some_rows(way, &place, &count, at);
+        /* rows without attributes ask for none, and a table that was read is not read again */
+        if (way != ENTRIES && *status == (way == ROWS ? ROW_REFUSED : TABLE_REFUSED)) fails("another refusal", at);
         if (count == 0 && *status != GIMLI_MORE && memcmp(&before, &place, sizeof place)) fails("the place moved", at);
+        if (count > MOST_ROWS - all) {
+            printf("the unit has more rows than %d\n", MOST_ROWS);
+            exit(5);
+        }
         memcpy(to + all, rows, count * sizeof *rows);
         all += count;
         if (!is_refused_memory(*status) && *status != GIMLI_MORE) break;
@@ -87,12 +98,13 @@ static size_t all_rows(int attributes, long at, gimli_entry_t *to, uint32_t *sta
     return all;
 }
 
-static void same_rows(int attributes) {
+/* The rows are those of undisturbed calls, which by a table are those without. */
+static void same_rows(enum way way) {
     uint32_t status, ended;
-    size_t total = all_rows(attributes, -1, first, &status);
+    size_t total = all_rows(way == ROWS ? ROWS : ENTRIES, -1, first, &status);
     long at = 0;
     for (long had = refusals; at < MOST; at++, had = refusals) {
-        size_t all = all_rows(attributes, at, again, &ended);
+        size_t all = all_rows(way, at, again, &ended);
         if (all != total || ended != status) fails("another number of rows", at);
         for (size_t i = 0; i < all; i++)
             if (first[i].offset != again[i].offset || first[i].depth != again[i].depth || first[i].tag != again[i].tag
@@ -100,7 +112,8 @@ static void same_rows(int attributes) {
                 fails("another row", at);
         if (refusals == had) break;
     }
-    printf("%s: %zu, same after each of %ld refusals\n", attributes ? "entries" : "rows", total, at);
+    if (at == 0) fails("no request", at);
+    printf("%s: %zu, same after each of %ld refusals\n", names[way], total, at);
 }
 
 /* A call that writes one thing. */
@@ -153,8 +166,8 @@ static void ask_for_none(void) {
     gimli_row_t row;
     gimli_place_t place = {unit.header_size, 0};
     gimli_table(&sections, unit.abbreviations, declarations, 8, specifications, 64, &counted);
-    gimli_table_t table = {declarations, 0, specifications, 0};
-    gimli_rows_by(&sections, 0, &table, &place, &row, 1, &count);
+    gimli_table_t none = {declarations, 0, specifications, 0};
+    gimli_rows_by(&sections, 0, &none, &place, &row, 1, &count);
     if (requests != had) fails("memory that is not asked for", 0);
 }
 
@@ -167,8 +180,8 @@ int main(int argc, char **argv) {
     sections.units = gimli_bytes(info, info_length);
     sections.abbrev = gimli_bytes(abbrev, abbrev_length);
     if (gimli_unit(&sections, 0, &unit) != GIMLI_MORE) return 3;
-    same_rows(1);
-    same_rows(0);
+    if (!(table = read_table(&sections, &unit))) fails("no table", 0);
+    for (int way = ENTRIES_BY; way >= ROWS; way--) same_rows(way);
     gimli_place_t root = {unit.header_size, 0}, child = {first[1].offset, first[1].depth};
     same_answer("a sibling", plain_sibling, child, sizeof(gimli_row_t));
     same_answer("a sibling by references", followed_sibling, child, sizeof(gimli_row_t));
