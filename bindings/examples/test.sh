@@ -131,4 +131,22 @@ skeleton() {
 skeleton 4 gcc -gdwarf-4 -O2
 skeleton 5 gcc -gdwarf-5 -O2
 if command -v clang > "$made/told"; then skeleton -clang clang -gdwarf-5 -O2; fi
+# held WORDS..: the example in C gives back all that it holds, also where it stops early
+held() {
+    local status=0
+    valgrind -q --leak-check=full --show-leak-kinds=all --errors-for-leak-kinds=all --error-exitcode=99 \
+        "$made/function_at_c" "$@" > "$made/out" 2> "$made/err" || status=$?
+    if [ $status -gt 2 ]; then echo "C: '$*' gives not all back:"; head "$made/err"; exit 1; fi
+}
+if command -v valgrind > "$made/told"; then
+    for program in c-compressed cc-gdwarf-5-O2 two-flto skeleton4; do
+        if ! [ -e "$made/$program" ]; then continue; fi
+        for address in $(addresses "$made/$program" | head -8) 10; do held "$made/$program" "$address"; done
+    done
+    held "$made/lists" "$(address "$made/lists" many 69999)"
+    held "$made/lists" 10
+    held "$here/test.sh" 10
+else
+    echo "examples: what is given back was not tried, as valgrind is not there"
+fi
 echo "examples: $asked addresses in $programs programs, the same in C, Rust and Python, by pyelftools and by addr2line"

@@ -18,6 +18,8 @@ enum { TAG_SUBPROGRAM = 0x2e, NAME = 0x03, LOW_PC = 0x11, HIGH_PC = 0x12, ORIGIN
        MIPS_LINKAGE_NAME = 0x2007, GNU_DWO_NAME = 0x2130 };
 enum { SKELETON = 4, ROOM = 4096, MOST_STEPS = 16 };
 
+static int descriptor = -1;
+static Elf *elf; /* over the descriptor; the sections are bytes of it */
 static gimli_sections_t sections;
 static gimli_bytes_t texts, line_texts, text_offsets; /* .debug_str, .debug_line_str, .debug_str_offsets */
 
@@ -28,16 +30,18 @@ struct unit {
     uint64_t text_offsets;
 };
 
-/* An entry's attributes; `attrs` are of this list or of a buffer. */
+/* An entry's attributes, in one of the buffers below: right until that is filled again. */
 struct entry {
     const gimli_attr_t *attrs;
     size_t count;
 };
 
 static struct unit unit;
+/* The buffers, which `release` frees: the entries of a unit with their attributes, the attributes of
+   a single entry, and ranges. */
 static gimli_entry_t rows[ROOM];
-static gimli_attr_t *attrs;
-static size_t space = 4 * ROOM;
+static gimli_attr_t *attrs, *single;
+static size_t space = 4 * ROOM, single_space = 16;
 static gimli_range_t *ranges;
 static size_t ranges_room = 16;
 
@@ -57,8 +61,25 @@ static void refused(const char *what, uint64_t offset, uint32_t status) {
     exit(2);
 }
 
-/* The section of a name in an ELF file, decompressed; none where there is no such section. */
-static gimli_bytes_t section(Elf *elf, const char *wanted) {
+/* Frees what is held, at the end of the program. */
+static void release(void) {
+    free(attrs);
+    free(single);
+    free(ranges);
+    elf_end(elf);
+    if (descriptor >= 0) close(descriptor);
+}
+
+/* A buffer with room for so many bytes, in place of another; ends the program where there is no
+   memory. */
+static void *grown(void *buffer, size_t bytes) {
+    void *more = realloc(buffer, bytes);
+    if (!more) exit(3);
+    return more;
+}
+
+/* The section of a name in the file, decompressed; none where there is no such section. */
+static gimli_bytes_t section(const char *wanted) {
     size_t names;
     Elf_Scn *at = NULL;
     GElf_Shdr header;
@@ -77,23 +98,23 @@ static gimli_bytes_t section(Elf *elf, const char *wanted) {
 /* Reads the sections of a file, which stays open; false where it is no linked ELF file. */
 static bool read_sections(const char *file) {
     GElf_Ehdr header;
-    int in = open(file, O_RDONLY);
-    if (in < 0 || elf_version(EV_CURRENT) == EV_NONE) return false;
-    Elf *elf = elf_begin(in, ELF_C_READ, NULL);
+    descriptor = open(file, O_RDONLY);
+    if (descriptor < 0 || elf_version(EV_CURRENT) == EV_NONE) return false;
+    elf = elf_begin(descriptor, ELF_C_READ, NULL);
     if (!elf || elf_kind(elf) != ELF_K_ELF || !gelf_getehdr(elf, &header)) return false;
     if (header.e_type != ET_EXEC && header.e_type != ET_DYN) return false;
     if (header.e_shoff && !elf_getscn(elf, 1)) return false;
     sections = gimli_no_sections();
-    sections.units = section(elf, ".debug_info");
-    sections.abbrev = section(elf, ".debug_abbrev");
-    sections.addresses = section(elf, ".debug_addr");
-    sections.aranges = section(elf, ".debug_aranges");
-    sections.ranges = section(elf, ".debug_ranges");
-    sections.rnglists = section(elf, ".debug_rnglists");
+    sections.units = section(".debug_info");
+    sections.abbrev = section(".debug_abbrev");
+    sections.addresses = section(".debug_addr");
+    sections.aranges = section(".debug_aranges");
+    sections.ranges = section(".debug_ranges");
+    sections.rnglists = section(".debug_rnglists");
     sections.big = header.e_ident[EI_DATA] == ELFDATA2MSB;
-    texts = section(elf, ".debug_str");
-    line_texts = section(elf, ".debug_line_str");
-    text_offsets = section(elf, ".debug_str_offsets");
+    texts = section(".debug_str");
+    line_texts = section(".debug_line_str");
+    text_offsets = section(".debug_str_offsets");
     return true;
 }
 
@@ -153,7 +174,7 @@ static size_t listed(const gimli_attr_t *list) {
     uint32_t status = GIMLI_MORE;
     while (status == GIMLI_MORE) {
         status = gimli_ranges(&sections, &unit.header, list, &unit.bases, ranges, ranges_room, &count);
-        if (status == GIMLI_MORE && !(ranges = realloc(ranges, (ranges_room = count) * sizeof *ranges))) exit(3);
+        if (status == GIMLI_MORE) ranges = grown(ranges, (ranges_room = count) * sizeof *ranges);
     }
     if (status < GIMLI_REFUSED) return count;
     if (!met.status) met.status = status, met.refused = unit.header.offset;
@@ -181,22 +202,18 @@ static bool is_in_ranges(size_t count, uint64_t address) {
     return false;
 }
 
-/* The attributes of the entry at an offset of the unit, in a list of their own. */
+/* The attributes of the entry at an offset of the unit, in `single`. */
 static struct entry entry_at(uint64_t offset) {
-    struct entry entry = {NULL, 0};
     gimli_entry_t row;
-    gimli_filled_t filled = {0, 0, 1};
-    gimli_attr_t *list = NULL;
-    uint32_t status = GIMLI_MORE;
-    while (filled.wanted > 0) {
+    gimli_filled_t filled = {0, 0, 0};
+    uint32_t status;
+    do {
         gimli_place_t place = {offset, 0};
-        size_t room = filled.wanted;
-        if (!(list = realloc(list, room * sizeof *list))) exit(3);
-        status = gimli_entries(&sections, unit.header.offset, &place, &row, 1, list, room, &filled);
-    }
+        if (filled.wanted > single_space) single = grown(single, (single_space = filled.wanted) * sizeof *single);
+        status = gimli_entries(&sections, unit.header.offset, &place, &row, 1, single, single_space, &filled);
+    } while (filled.wanted > 0);
     if (filled.rows == 0 && status != GIMLI_END) refused("the entry at", unit.header.offset + offset, status);
-    entry.attrs = list;
-    entry.count = filled.attributes;
+    struct entry entry = {single, filled.attributes};
     return entry;
 }
 
@@ -212,18 +229,17 @@ static bool begin_unit(uint64_t offset) {
     unit.bases.rnglists = number_of(root, RNGLISTS_BASE);
     const gimli_attr_t *low = find(root, LOW_PC);
     if (!low || !address_of(low, &unit.bases.address)) unit.bases.address = 0;
-    free((void *)root.attrs);
     return true;
 }
 
 /* The entry that an attribute names, and its unit. */
-static struct entry followed(const gimli_attr_t *attr) {
-    if (attr->kind == GIMLI_UNIT_REF) return entry_at(attr->number);
+static struct entry followed(gimli_attr_t attr) {
+    if (attr.kind == GIMLI_UNIT_REF) return entry_at(attr.number);
     uint64_t offset = 0;
     struct entry none = {NULL, 0};
-    if (attr->kind != GIMLI_INFO_REF) return none;
+    if (attr.kind != GIMLI_INFO_REF) return none;
     while (begin_unit(offset)) {
-        if (attr->number < offset + unit.header.length) return entry_at(attr->number - offset);
+        if (attr.number < offset + unit.header.length) return entry_at(attr.number - offset);
         offset += unit.header.length;
     }
     return none;
@@ -243,7 +259,7 @@ static void print_text(const char *word, struct entry entry, unsigned name, unsi
             break;
         }
         if (!next && !(next = find(entry, SPECIFICATION))) break;
-        entry = followed(next);
+        entry = followed(*next);
     }
     unit = of;
 }
@@ -284,7 +300,7 @@ static bool function_in_unit(uint64_t address) {
             if (rows[i].offset == unit.header.header_size) meet_root(entry, address);
             if (rows[i].tag == TAG_SUBPROGRAM && is_function(entry, address)) return true;
         }
-        if (filled.wanted > space && !(attrs = realloc(attrs, (space = filled.wanted) * sizeof *attrs))) exit(3);
+        if (filled.wanted > space) attrs = grown(attrs, (space = filled.wanted) * sizeof *attrs);
     }
     if (status != GIMLI_END) refused("the entry at", unit.header.offset + place.offset, status);
     return false;
@@ -314,8 +330,11 @@ int main(int argc, char **argv) {
     uint64_t offset = 0, address;
     if (argc != 3 || !read_address(argv[2], &address))
         return fprintf(stderr, "usage: function_at ELF ADDRESS (functions that are inlined there are passed over)\n"), 2;
+    if (atexit(release)) return 3;
     if (!read_sections(argv[1])) return fprintf(stderr, "function_at: %s is no linked ELF file\n", argv[1]), 2;
-    if (!(attrs = malloc(space * sizeof *attrs)) || !(ranges = malloc(ranges_room * sizeof *ranges))) return 3;
+    attrs = grown(NULL, space * sizeof *attrs);
+    single = grown(NULL, single_space * sizeof *single);
+    ranges = grown(NULL, ranges_room * sizeof *ranges);
     if (gimli_unit_of_address(&sections, address, &offset) == GIMLI_MORE) {
         if (begin_unit(offset) && function_in_unit(address)) return 0;
     } else {
