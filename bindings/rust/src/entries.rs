@@ -1,7 +1,7 @@
 //! Rows, and entries with their attributes.
 
-use crate::{Attribute, END, Error, MORE, Place, ROW_REFUSED, Result, Row, Sections, UnitHeader};
-use crate::{reserve, sys};
+use crate::{Abbreviations, Attribute, Place, Row, Sections, UnitHeader};
+use crate::{END, Error, MORE, ROW_REFUSED, Result, reserve, sys};
 use alloc::vec::Vec;
 use core::fmt;
 
@@ -16,7 +16,7 @@ fn room_for(unit: &UnitHeader, place: Place, room: usize) -> usize {
 const MANY: usize = 4096;
 
 // Where an iterator over a unit stands.
-struct Reading<'a> {
+struct Reading<'a, 'abbrev> {
     sections: Sections<'a>,
     unit: UnitHeader,
     // after the rows of the buffer
@@ -28,13 +28,15 @@ struct Reading<'a> {
     // of the last call
     status: u32,
     row_refused: bool,
-    // from the second call on, which would read that of the unit again
-    table: Option<sys::Abbreviations>,
+    // handed over
+    by: Option<&'abbrev Abbreviations>,
+    // else from the second call on, which would read that of the unit again
+    table: Option<Abbreviations>,
     // how many calls there were: 0, 1 or more
     calls: u8,
 }
 
-impl<'a> Reading<'a> {
+impl<'a> Reading<'a, '_> {
     fn new(sections: &Sections<'a>, unit: &UnitHeader, place: Place, room: usize) -> Self {
         Reading {
             sections: *sections,
@@ -44,6 +46,7 @@ impl<'a> Reading<'a> {
             at: 0,
             status: MORE,
             row_refused: false,
+            by: None,
             table: None,
             calls: 0,
         }
@@ -70,11 +73,11 @@ impl<'a> Reading<'a> {
         let given = rows.len();
         rows.clear();
         reserve(rows, self.room)?;
-        if self.calls == 1 && given < MANY {
+        if self.calls == 1 && given < MANY && self.by.is_none() {
+            // (the unit may be one of other sections; what is refused here the next call tells)
             let unit = self.sections.unit_at(self.unit.types, self.unit.offset());
             if let Ok(Some(unit)) = unit {
-                let sections = self.sections.raw(unit.types);
-                self.table = sys::Abbreviations::read(&sections, unit.debug_abbrev_offset());
+                self.table = self.sections.abbreviations(&unit).unwrap_or(None);
             }
         }
         self.calls = 2.min(self.calls + 1);
@@ -95,7 +98,7 @@ impl<'a> Reading<'a> {
 /// A refusal is the last item. After one of memory ([`Error::OutOfMemory`]) `rows_from` goes on at
 /// the place, where there is memory then.
 pub struct Rows<'a> {
-    reading: Reading<'a>,
+    reading: Reading<'a, 'a>,
     rows: Vec<Row>,
 }
 
@@ -110,6 +113,17 @@ impl<'a> Rows<'a> {
             reading: Reading::new(sections, unit, place, room),
             rows: Vec::new(),
         }
+    }
+
+    /// The same by abbreviations that are read already ([`Sections::abbreviations`]), so that no
+    /// call reads them again; where there are none, calls read those of the unit.
+    ///
+    /// They may be those of another unit: the rows are those that their declarations give, and an
+    /// entry whose code they do not declare is refused ([`Error::InvalidAbbreviationCode`]).
+    #[must_use]
+    pub fn by(mut self, abbreviations: impl Into<Option<&'a Abbreviations>>) -> Self {
+        self.reading.by = abbreviations.into();
+        self
     }
 
     /// The place of the next item: `rows_from` goes on with it there. At the end it is the place
@@ -136,12 +150,12 @@ impl<'a> Rows<'a> {
                 return Ok(false);
             }
             self.reading.start(&mut self.rows)?;
-            let Reading { sections, unit, .. } = self.reading;
-            self.reading.status = sys::rows(
-                &sections.raw(unit.types),
-                unit.offset(),
-                self.reading.table.as_ref(),
-                &mut self.reading.place,
+            let reading = &mut self.reading;
+            reading.status = sys::rows(
+                &reading.sections.raw(reading.unit.types),
+                reading.unit.offset(),
+                reading.by.or(reading.table.as_ref()),
+                &mut reading.place,
                 &mut self.rows,
             );
         }
@@ -179,8 +193,11 @@ impl core::iter::FusedIterator for Rows<'_> {}
 ///
 /// After a refusal comes the end. After one of memory ([`Error::OutOfMemory`]) `entries_from` goes
 /// on at the place, where there is memory then.
-pub struct Entries<'a> {
-    reading: Reading<'a>,
+///
+/// `'abbrev` is that of abbreviations that are handed over ([`Entries::by`]); attributes are those
+/// of the sections alone, and outlive them.
+pub struct Entries<'a, 'abbrev> {
+    reading: Reading<'a, 'abbrev>,
     units: &'a [u8],
     rows: Vec<sys::Entry>,
     attrs: Vec<sys::Attr>,
@@ -188,7 +205,7 @@ pub struct Entries<'a> {
     filled: sys::Filled,
 }
 
-impl<'a> Entries<'a> {
+impl<'a, 'abbrev> Entries<'a, 'abbrev> {
     pub(crate) fn new(
         sections: &Sections<'a>,
         unit: &UnitHeader,
@@ -210,6 +227,13 @@ impl<'a> Entries<'a> {
     pub(crate) fn of_unit(sections: &Sections<'a>, unit: &UnitHeader) -> Self {
         let room = room_for(unit, unit.root(), 8192);
         Entries::new(sections, unit, unit.root(), room, 4 * room)
+    }
+
+    /// The same by abbreviations that are read already, as [`Rows::by`] has rows.
+    #[must_use]
+    pub fn by(mut self, abbreviations: impl Into<Option<&'abbrev Abbreviations>>) -> Self {
+        self.reading.by = abbreviations.into();
+        self
     }
 
     /// The place of the next entry: `entries_from` goes on with it there. At the end it is the
@@ -252,14 +276,14 @@ impl<'a> Entries<'a> {
                 return Ok(false);
             }
             self.reading.start(&mut self.rows)?;
-            let Reading { sections, unit, .. } = self.reading;
             self.attrs.clear();
             reserve(&mut self.attrs, self.space.max(self.filled.wanted))?;
-            self.reading.status = sys::entries(
-                &sections.raw(unit.types),
-                unit.offset(),
-                self.reading.table.as_ref(),
-                &mut self.reading.place,
+            let reading = &mut self.reading;
+            reading.status = sys::entries(
+                &reading.sections.raw(reading.unit.types),
+                reading.unit.offset(),
+                reading.by.or(reading.table.as_ref()),
+                &mut reading.place,
                 &mut self.rows,
                 &mut self.attrs,
                 &mut self.filled,
@@ -269,7 +293,7 @@ impl<'a> Entries<'a> {
     }
 }
 
-impl fmt::Debug for Entries<'_> {
+impl fmt::Debug for Entries<'_, '_> {
     fn fmt(&self, f: &mut fmt::Formatter<'_>) -> fmt::Result {
         self.reading.debug("Entries", self.place(), f)
     }

@@ -44,6 +44,7 @@ mod value;
 
 pub use entries::{Entries, Entry, Rows};
 pub use error::Error;
+pub use sys::Abbreviations;
 pub use value::{Attribute, AttributeValue};
 
 use alloc::vec::Vec;
@@ -53,6 +54,7 @@ pub type Result<T> = core::result::Result<T, Error>;
 
 pub(crate) const MORE: u32 = 0;
 pub(crate) const END: u32 = 1;
+pub(crate) const UNORDERED: u32 = 4;
 pub(crate) const ROW_REFUSED: u32 = 512;
 
 /// A byte order.
@@ -302,6 +304,33 @@ impl<'a> Sections<'a> {
         }
     }
 
+    /// The abbreviations of a unit, read once: for who reads a unit's entries one by one, or a unit
+    /// more than once, by [`Rows::by`] and [`Entries::by`]. None where the codes of the declarations,
+    /// up to the first that is refused, are not 1, 2, .. in this order, as where one stands twice:
+    /// then the iterators read them themselves.
+    ///
+    /// Refusals are those that the iterators answer too: of the offset of the abbreviations, of one
+    /// of the declarations, and of memory ([`Error::OutOfMemory`]).
+    ///
+    /// ```
+    /// use gimli_proved::{Place, Result, Sections, UnitHeader};
+    ///
+    /// // The tags of the entries at some offsets of a unit.
+    /// fn tags(sections: &Sections, unit: &UnitHeader, offsets: &[u64]) -> Result<Vec<u16>> {
+    ///     let abbreviations = sections.abbreviations(unit)?;
+    ///     let mut tags = Vec::new();
+    ///     for &offset in offsets {
+    ///         let place = Place { offset, depth: 0 };
+    ///         let mut entries = sections.entries_from(unit, place, 1, 16).by(&abbreviations);
+    ///         tags.extend(entries.next_entry()?.map(|entry| entry.tag()));
+    ///     }
+    ///     Ok(tags)
+    /// }
+    /// ```
+    pub fn abbreviations(&self, unit: &UnitHeader) -> Result<Option<Abbreviations>> {
+        Abbreviations::read(&self.raw(unit.types), unit.debug_abbrev_offset())
+    }
+
     /// The rows of a unit.
     pub fn rows(&self, unit: &UnitHeader) -> Rows<'a> {
         self.rows_from(unit, unit.root(), 16384)
@@ -314,7 +343,7 @@ impl<'a> Sections<'a> {
     }
 
     /// The entries of a unit with their attributes.
-    pub fn entries(&self, unit: &UnitHeader) -> Entries<'a> {
+    pub fn entries(&self, unit: &UnitHeader) -> Entries<'a, 'static> {
         Entries::of_unit(self, unit)
     }
 
@@ -327,7 +356,7 @@ impl<'a> Sections<'a> {
         place: Place,
         room: usize,
         space: usize,
-    ) -> Entries<'a> {
+    ) -> Entries<'a, 'static> {
         Entries::new(self, unit, place, room, space)
     }
 

@@ -7,8 +7,9 @@
 //! of C, no call from a signal handler or in the forked child of a process with threads) is left to
 //! who builds the program, as the crate's text says.
 
-use crate::{Bases, Location, Place, Range, Row};
+use crate::{Bases, END, Error, Location, MORE, Place, Range, Result, Row, UNORDERED, reserve};
 use alloc::vec::Vec;
+use core::fmt;
 
 /// Bytes of a section, as a pointer and a length.
 #[repr(C)]
@@ -155,30 +156,31 @@ struct Counted {
     specifications: usize,
 }
 
-/// The table of a unit's abbreviations, read once.
-pub(crate) struct Abbreviations {
+/// The abbreviations of a unit, as [`Sections::abbreviations`](crate::Sections::abbreviations) reads
+/// them once for [`Rows::by`](crate::Rows::by) and [`Entries::by`](crate::Entries::by).
+pub struct Abbreviations {
     declarations: Vec<Declaration>,
     specifications: Vec<Specification>,
 }
 
 impl Abbreviations {
-    /// The table at an offset. None where it has to be read by the call that reads rows: its codes
-    /// are not in order, it is refused, or there is no memory for it.
-    pub(crate) fn read(sections: &Sections<'_>, offset: u64) -> Option<Abbreviations> {
+    /// The table at an offset; none where its codes are not in order.
+    pub(crate) fn read(sections: &Sections<'_>, offset: u64) -> Result<Option<Abbreviations>> {
         let mut table = Abbreviations {
             declarations: Vec::new(),
             specifications: Vec::new(),
         };
-        let (status, counted) = table.fill(sections, offset);
-        if status == crate::END {
-            return Some(table);
+        let (mut status, counted) = table.fill(sections, offset);
+        if status == MORE {
+            reserve(&mut table.declarations, counted.declarations)?;
+            reserve(&mut table.specifications, counted.specifications)?;
+            status = table.fill(sections, offset).0;
         }
-        if status != crate::MORE {
-            return None;
+        match status {
+            END => Ok(Some(table)),
+            UNORDERED => Ok(None),
+            status => Err(Error::of_status(status)),
         }
-        crate::reserve(&mut table.declarations, counted.declarations).ok()?;
-        crate::reserve(&mut table.specifications, counted.specifications).ok()?;
-        (table.fill(sections, offset).0 == crate::END).then_some(table)
     }
 
     fn fill(&mut self, sections: &Sections<'_>, offset: u64) -> (u32, Counted) {
@@ -192,7 +194,7 @@ impl Abbreviations {
                 self.specifications.as_mut_ptr(),
             );
             let status = raw::gimli_table(sections, offset, to, room, and, space, &mut counted);
-            if status == crate::END {
+            if status == END {
                 self.declarations.set_len(counted.declarations);
                 self.specifications.set_len(counted.specifications);
             }
@@ -207,6 +209,14 @@ impl Abbreviations {
             specifications: self.specifications.as_ptr(),
             specified: self.specifications.len(),
         }
+    }
+}
+
+impl fmt::Debug for Abbreviations {
+    fn fmt(&self, f: &mut fmt::Formatter<'_>) -> fmt::Result {
+        f.debug_struct("Abbreviations")
+            .field("declarations", &self.declarations.len())
+            .finish_non_exhaustive()
     }
 }
 

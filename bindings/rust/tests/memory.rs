@@ -49,6 +49,13 @@ fn with_refused<T>(at: i64, call: impl FnOnce() -> T) -> (T, bool) {
     (answer, at >= 0 && left < 0)
 }
 
+// How many requests a call makes.
+fn requests<T>(call: impl FnOnce() -> T) -> i64 {
+    LEFT.set(i64::MAX);
+    call();
+    i64::MAX - LEFT.replace(-1)
+}
+
 const ABBREV: [u8; 23] = [
     1, 0x11, 1, 0x55, 0x17, 0, 0, // the root, with ranges at an offset
     2, 0x34, 0, 0x0b, 0x0b, 0x1c, 0x05, 0, 0, // one byte and two bytes
@@ -190,6 +197,33 @@ fn refusals_are_told() {
     assert_eq!(entries.next_entry().err(), Some(Error::OutOfMemory));
     assert!(matches!(entries.next_entry(), Ok(None)));
     assert!(entries.place() == unit.root() && !entries.is_row_refused());
+}
+
+#[test]
+fn abbreviations_are_whole_or_refused() {
+    let info = unit_of(40);
+    let (sections, unit) = sections(&info);
+    for at in 0..2 {
+        let (abbreviations, is_refused) = with_refused(at, || sections.abbreviations(&unit));
+        assert!(is_refused && abbreviations.err() == Some(Error::OutOfMemory));
+    }
+    assert_eq!(requests(|| sections.abbreviations(&unit)), 2);
+}
+
+// The first call reads them, and they are read once more for all others; by those that are handed
+// over no call reads any.
+#[test]
+fn abbreviations_are_read_once() {
+    let info = unit_of(40);
+    let (sections, unit) = sections(&info);
+    let rows = |room| sections.rows_from(&unit, unit.root(), room);
+    let one_call = requests(|| rows(4096).count());
+    assert!(one_call > 1);
+    for room in [1, 7] {
+        assert_eq!(requests(|| rows(room).count()), one_call + 2, "{room}");
+    }
+    let abbreviations = sections.abbreviations(&unit).unwrap();
+    assert_eq!(requests(|| rows(7).by(&abbreviations).count()), 1);
 }
 
 #[test]
