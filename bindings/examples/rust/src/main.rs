@@ -3,9 +3,9 @@
 //! The exit status is 1 where there is none, and 2 where something is refused. The sections are
 //! read by the crate `object`.
 
-use gimli_proved::{Attribute, AttributeValue, Bases, Entry, Error, Place, Range, Sections, UnitHeader};
+use gimli_proved::{Abbreviations, Attribute, AttributeValue, Bases, Entry, Error, Place, Range, Sections, UnitHeader};
 use object::{Object, ObjectKind, ObjectSection};
-use std::{borrow::Cow, cell::Cell, io::Write, process::ExitCode};
+use std::{borrow::Cow, cell::Cell, io::Write, process::ExitCode, rc::Rc};
 
 const SUBPROGRAM: u16 = 0x2e;
 const NAME: u16 = 0x03;
@@ -57,10 +57,11 @@ struct File<'a> {
     refused: Cell<Option<Refused>>,
 }
 
-/// A unit, and the attributes of its root that others are read by.
-#[derive(Clone, Copy)]
+/// A unit, its abbreviations, which are read once for all of its entries, and the attributes of its
+/// root that others are read by.
 struct Unit {
     header: UnitHeader,
+    abbreviations: Option<Abbreviations>,
     bases: Bases,
     text_offsets: u64,
 }
@@ -165,38 +166,42 @@ impl<'a> File<'a> {
     }
 
     /// The attributes of the entry at an offset of a unit.
-    fn entry_at(&self, header: &UnitHeader, offset: u64) -> Result<Attrs<'a>> {
+    fn entry_at(&self, unit: &Unit, offset: u64) -> Result<Attrs<'a>> {
         let place = Place { offset, depth: 0 };
-        let mut entries = self.dwarf.entries_from(header, place, 1, 16);
-        let refused = |error| Refused(error, "the entry at", header.offset() + offset);
+        let mut entries = self.dwarf.entries_from(&unit.header, place, 1, 16).by(&unit.abbreviations);
+        let refused = |error| Refused(error, "the entry at", unit.header.offset() + offset);
         let entry = entries.next_entry().map_err(refused)?;
         Ok(entry.map_or(vec![], |entry| attrs_of(&entry)))
     }
 
     /// The unit at an offset; none at the end.
-    fn unit_at(&self, offset: u64) -> Result<Option<Unit>> {
+    fn unit_at(&self, offset: u64) -> Result<Option<Rc<Unit>>> {
         let refused = |error| Refused(error, "the unit at", offset);
         let Some(header) = self.dwarf.unit_at(false, offset).map_err(refused)? else { return Ok(None) };
-        let root = self.entry_at(&header, header.header_size())?;
-        let mut unit = Unit { header, bases: Bases::default(), text_offsets: number_of(&root, STR_OFFSETS_BASE) };
+        let refused = |error| Refused(error, "the entry at", offset + header.header_size());
+        let abbreviations = self.dwarf.abbreviations(&header).map_err(refused)?;
+        let mut unit = Unit { header, abbreviations, bases: Bases::default(), text_offsets: 0 };
+        let root = self.entry_at(&unit, header.header_size())?;
+        unit.text_offsets = number_of(&root, STR_OFFSETS_BASE);
         unit.bases.addresses = number_of(&root, ADDR_BASE);
         unit.bases.rnglists = number_of(&root, RNGLISTS_BASE);
         let low = find(&root, LOW_PC).and_then(|low| self.address_of(&unit, &low));
         unit.bases.address = low.unwrap_or(0);
-        Ok(Some(unit))
+        Ok(Some(Rc::new(unit)))
     }
 
     /// The entry that an attribute names, and its unit.
-    fn followed(&self, unit: Unit, attr: &Attribute<'_>) -> Result<Option<(Unit, Attrs<'a>)>> {
+    fn followed(&self, unit: &Rc<Unit>, attr: &Attribute<'_>) -> Result<Option<(Rc<Unit>, Attrs<'a>)>> {
         match attr.raw_value() {
-            AttributeValue::UnitRef(offset) => Ok(Some((unit, self.entry_at(&unit.header, offset)?))),
+            AttributeValue::UnitRef(offset) => Ok(Some((Rc::clone(unit), self.entry_at(unit, offset)?))),
             AttributeValue::DebugInfoRef(offset) => {
                 let mut at = 0;
                 while let Some(unit) = self.unit_at(at)? {
                     let start = at;
                     at += unit.header.length_including_self();
                     if offset < at {
-                        return Ok(Some((unit, self.entry_at(&unit.header, offset - start)?)));
+                        let attrs = self.entry_at(&unit, offset - start)?;
+                        return Ok(Some((unit, attrs)));
                     }
                 }
                 Ok(None)
@@ -207,8 +212,15 @@ impl<'a> File<'a> {
 
     /// The text of the first attribute of a name, or else of another, of an entry or of the entries
     /// that it stands for.
-    fn print_text(&self, out: &mut Vec<u8>, word: &str, of: &Unit, attrs: &Attrs<'a>, names: [u16; 2]) -> Result<()> {
-        let (mut unit, mut attrs) = (*of, attrs.clone());
+    fn print_text(
+        &self,
+        out: &mut Vec<u8>,
+        word: &str,
+        of: &Rc<Unit>,
+        attrs: &Attrs<'a>,
+        names: [u16; 2],
+    ) -> Result<()> {
+        let (mut unit, mut attrs) = (Rc::clone(of), attrs.clone());
         for _ in 0..MOST_STEPS {
             if let Some(attr) = find(&attrs, names[0]).or(find(&attrs, names[1])) {
                 let text = self.text_of(&unit, &attr);
@@ -216,7 +228,7 @@ impl<'a> File<'a> {
                 return Ok(());
             }
             let Some(next) = find(&attrs, ORIGIN).or(find(&attrs, SPECIFICATION)) else { break };
-            match self.followed(unit, &next)? {
+            match self.followed(&unit, &next)? {
                 Some(entry) => (unit, attrs) = entry,
                 None => break,
             }
@@ -225,13 +237,13 @@ impl<'a> File<'a> {
     }
 
     /// Whether an entry is the function of an address; then it is printed.
-    fn is_function(&self, out: &mut Vec<u8>, unit: &Unit, attrs: &Attrs<'a>, address: u64) -> Result<bool> {
+    fn is_function(&self, out: &mut Vec<u8>, unit: &Rc<Unit>, attrs: &Attrs<'a>, address: u64) -> Result<bool> {
         let ranges = self.ranges_of(unit, attrs);
         if !has_address(&ranges, address) {
             return Ok(false);
         }
         out.extend(format!("unit {:#x}\n", unit.header.offset()).bytes());
-        let root = self.entry_at(&unit.header, unit.header.header_size())?;
+        let root = self.entry_at(unit, unit.header.header_size())?;
         self.print_text(out, "unit name", unit, &root, [NAME, NAME])?;
         self.print_text(out, "function", unit, attrs, [NAME, NAME])?;
         self.print_text(out, "linkage name", unit, attrs, [LINKAGE_NAME, MIPS_LINKAGE_NAME])?;
@@ -255,8 +267,8 @@ impl<'a> File<'a> {
     }
 
     /// Looks for the function of an address in a unit.
-    fn function_in_unit(&self, out: &mut Vec<u8>, unit: &Unit, address: u64) -> Result<bool> {
-        let mut entries = self.dwarf.entries(&unit.header);
+    fn function_in_unit(&self, out: &mut Vec<u8>, unit: &Rc<Unit>, address: u64) -> Result<bool> {
+        let mut entries = self.dwarf.entries(&unit.header).by(&unit.abbreviations);
         loop {
             match entries.next_entry() {
                 Ok(None) => return Ok(false),
