@@ -315,8 +315,9 @@ uint32_t gimli_rows(const gimli_sections_t *sections, uint64_t unit, gimli_place
    written as long as there is room for them and space for all their attributes. MORE with
    filled->wanted not 0: the next row wants so much space. Where that is more than `space`, the
    next call writes no row and answers the same: a loop that hands over no more never ends, nor
-   does one with no room, as of gimli_rows. Memory is asked for the attributes of a row too: where
-   it was refused, the rows that were written are right, and the next call goes on. */
+   does one with no room, as of gimli_rows. Memory is asked for the attributes of a row too, and for
+   no row without them: where it was refused, the rows that were written are right, and the next
+   call goes on. */
 uint32_t gimli_entries(const gimli_sections_t *sections, uint64_t unit, gimli_place_t *place, gimli_entry_t *rows, size_t room,
                        gimli_attr_t *attrs, size_t space, gimli_filled_t *filled);
 

@@ -5,7 +5,7 @@ use Rattle.std.proofs.Common.{get_or, Option, Some, None, Result, Ok, Err, refl,
 use Rattle.std.proofs.Common.{length-drop}
 use Rattle.std.specs.Prelude.{slice_get}
 use Rattle.std.specs.Option.{option_map}
-use Rattle.std.proofs.lemmas.Bool.{ne_eqb, eq-eqb, ltb-true}
+use Rattle.std.proofs.lemmas.Bool.{ne_eqb, ltb-true}
 use Rattle.std.proofs.lemmas.List.{length-map, get_or-map}
 use Rattle.std.proofs.lemmas.Option.{slice_get-map, slice_get_past}
 use Rattle.gimli_base.specs.declared.common.Encoding.{Encoding}
@@ -182,23 +182,6 @@ module _ (limit : ℕ) (e : Encoding) (m : Map) (v a w : View) (d : Declaration)
       cases true = refl
       cases false = refl
 
--- whether an entry of a declaration is a null, by what a row tells
-pub told_null : (d : Declaration) → (told_head d).tag ≡ 0 → (d.tag.0 == 0) ≡ true
-told_null d h = cases (d.tag.0 == 0) refl h
-  where
-    cases : (b : Bool) → (d.tag.0 == 0) ≡ b
-        → (if b then null_head else declared_head d).tag ≡ 0 → (d.tag.0 == 0) ≡ true
-    cases true known is = known
-    cases false known is = eq-eqb d.tag.0 0 is
-
-pub told_some : (d : Declaration) → ((told_head d).tag ≡ 0 → ⊥) → (d.tag.0 == 0) ≡ false
-told_some d h = cases (d.tag.0 == 0) refl h
-  where
-    cases : (b : Bool) → (d.tag.0 == 0) ≡ b
-        → ((if b then null_head else declared_head d).tag ≡ 0 → ⊥) → (d.tag.0 == 0) ≡ false
-    cases true known apart = absurd (apart refl)
-    cases false known apart = known
-
 -- a reader that was moved behind what was read
 module _ (limit : ℕ) (p : RawPlace) (head : Head) (w : View)
     (r : IsHeadRead limit p.encoding (codes_of p.abbreviations) p.rest head w) where
@@ -267,3 +250,8 @@ module _ (u : UnitView) where
           let left = length-drop (offset - header_size u) u.entries.bytes in
           omega (arith, bytes, left)
       cases false is = absurd (cc)
+
+-- what has no attributes was told none
+pub none_in : (ss : List GimliSpecification) → map specification_in ss ≡ [] → ss ≡ []
+none_in [] none = refl
+none_in (s ∷ ss) none = absurd (cc)

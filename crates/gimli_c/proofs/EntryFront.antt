@@ -10,6 +10,7 @@ use Rattle.std.proofs.lemmas.List.{length-map, map-append, append-nil}
 use Rattle.std.proofs.lemmas.Bool.{le-ltb, lt-ltb, le-leb, lt-leb}
 use Rattle.gimli_base.specs.declared.error.Error.{Error}
 use Rattle.gimli_base.specs.View.{View}
+use Rattle.gimli_base.specs.Reading.{Reads}
 use Rattle.gimli_base.specs.Table.{codes_of}
 use Rattle.gimli_units.specs.Entry.{Entry, entry_at}
 use Rattle.gimli_units.proofs.EntryReads.{entry_at-shorter}
@@ -25,7 +26,8 @@ use Rattle.gimli_c.specs.Attrs.{attr_of}
 use Rattle.gimli_c.specs.Fronts.{ahead_of, first_place}
 use Rattle.gimli_c.specs.Entries.{attributes_of, all_attributes, numbered_row, number_rows, fit}
 use Rattle.gimli_c.specs.Entries.{status_fit}
-use Rattle.gimli_c.specs.Entries.{first_wants, wrote, FilledEntries}
+use Rattle.gimli_c.specs.Entries.{first_wants, wrote, AskMemory, FilledEntries}
+use Rattle.gimli_c.specs.Heads.{AsksMemory}
 use Rattle.gimli_c.proofs.Slots.{slot, written_more}
 use Rattle.gimli_c.proofs.Front.{before_rows, depth_from, depth_near, first_ahead, some_left}
 
@@ -137,6 +139,21 @@ module _ (limit : ℕ) (base : ℤ) where
       (codes_of now.abbreviations) v u y) (base +ℤ now.depth) now.rest e w some read
       ∙ ap (λ (d : ℤ). then_row r (ahead_at next now.end d w)) (depth_from base now.depth e)
 
+  -- reading on asks for memory where reading the next entry does
+  pub ask_ahead : (now : RawPlace) → (length now.rest.bytes ≡ 0 → ⊥)
+      → AsksMemory (entry_at limit now.encoding (codes_of now.abbreviations) now.rest)
+      → AskMemory (ahead_of limit base now).rows (ahead_of limit base now).refusal
+  ask_ahead now some asks =
+      cases (entry_at limit now.encoding (codes_of now.abbreviations) now.rest) refl asks
+    where
+      cases : (r : Reads Entry)
+          → r ≡ entry_at limit now.encoding (codes_of now.abbreviations) now.rest → AsksMemory r
+          → AskMemory (ahead_of limit base now).rows (ahead_of limit base now).refusal
+      cases (Ok p) is asked = rw (step now p.0 p.1 some is) asked
+      cases (Err e) is asked =
+          rw (ahead_refused (entry_at limit now.encoding (codes_of now.abbreviations)) now.end
+          (base +ℤ now.depth) now.rest e some is) refl
+
   -- one more row is written, with its attributes
   pub entry_more : (start now : RawPlace) (old new : List GimliEntry)
       (old_attrs attrs new_attrs : List GimliAttr) (n used : ℕ) (e : Entry) (w : View)
@@ -222,7 +239,8 @@ entries_if : (taken : List Row) (left : Ahead) (old new : List GimliEntry)
     ++ drop used old_attrs
     → place ≡ first_place left.rows left.stop left.stop_depth
     → (status ≡ memory_refused → ⊥)
-    → (status ≡ row_memory_refused → (n < length old) × (wanted ≡ 0))
+    → (status ≡ row_memory_refused → (n < length old) × (wanted ≡ 0)
+    × AskMemory left.rows left.refusal)
     → ((status ≡ memory_refused → ⊥) → (status ≡ row_memory_refused → ⊥)
     → Said old old_attrs left n used wanted status)
     → FilledEntries (before_rows taken left) old old_attrs place new attrs (wrote n used wanted)
@@ -247,7 +265,11 @@ entries_if taken left old new old_attrs attrs place n used wanted status count r
       behind = behind ∙ ap (λ (t : List Row). first_place t left.stop left.stop_depth) (sym others);
       fits = omega (arith, room, all);
       none = λ h. absurd (never h);
-      short = short;
+      short = λ h. let s = short h in (
+        s.0,
+        s.1,
+        rw others s.2,
+      );
       whole = λ h k. let w = whole h k in (omega (arith, fits, w.0), rw others w.1, rw all w.2);
     }
 
@@ -256,7 +278,8 @@ module _ (limit : ℕ) (base : ℤ) (start now : RawPlace) (old new : List Gimli
     (f : EntryFront limit base start now old new old_attrs attrs n used) (offset : place.offset
     ≡ next_offset_of now) (depth : place.depth ≡ base +ℤ now.depth) where
   told : (wanted status : ℕ) → (status ≡ memory_refused → ⊥)
-      → (status ≡ row_memory_refused → (n < length old) × (wanted ≡ 0))
+      → (status ≡ row_memory_refused → (n < length old) × (wanted ≡ 0)
+      × AskMemory (ahead_of limit base now).rows (ahead_of limit base now).refusal)
       → ((status ≡ memory_refused → ⊥) → (status ≡ row_memory_refused → ⊥)
       → Said old old_attrs (ahead_of limit base now) n used wanted status)
       → FilledEntries (ahead_of limit base start) old old_attrs place new attrs
@@ -297,10 +320,12 @@ module _ (limit : ℕ) (base : ℤ) (start now : RawPlace) (old new : List Gimli
   pub entries_refused : (e : Error) → (length now.rest.bytes ≡ 0 → ⊥) → n < length old
       → ((row_refused e ≡ row_memory_refused → ⊥) → Err e
       ≡ entry_at limit now.encoding (codes_of now.abbreviations) now.rest)
+      → AsksMemory (entry_at limit now.encoding (codes_of now.abbreviations) now.rest)
       → FilledEntries (ahead_of limit base start) old old_attrs place new attrs (wrote n used 0)
       (row_refused e)
-  entries_refused e some room read =
-      told 0 (row_refused e) (λ h. omega (arith, h)) (λ _. (room, refl)) (λ _ other. whole
+  entries_refused e some room read asks =
+      told 0 (row_refused e) (λ h. omega (arith, h))
+      (λ _. (room, refl, ask_ahead limit base now some asks)) (λ _ other. whole
       (ahead_refused (entry_at limit now.encoding (codes_of now.abbreviations)) now.end
       (base +ℤ now.depth) now.rest e some (read other)))
     where

@@ -1,5 +1,5 @@
 -- Entries that are read past: the code's parts, then the whole.
-use Rattle.std.proofs.Common.{◌≡◌, ℕ, ◌+◌, ◌<◌, ◌≤◌, ◌==◌, false, List, [], ◌∷◌}
+use Rattle.std.proofs.Common.{◌≡◌, ◌≢◌, ℕ, ◌+◌, ◌<◌, ◌≤◌, ◌==◌, false, List, [], ◌∷◌}
 use Rattle.std.proofs.Common.{◌++◌, map, drop, length, get_or, Option, Some, None, Result, Ok, Err, refl}
 use Rattle.std.proofs.Common.{sym, ap, ◌∙◌}
 use Rattle.std.proofs.Common.{append_assoc, ℤ}
@@ -10,11 +10,11 @@ use Rattle.gimli_base.specs.declared.common.Encoding.{Encoding}
 use Rattle.gimli_base.specs.declared.error.Error.{Error}
 use Rattle.gimli_base.specs.Offset.{answer_of}
 use Rattle.gimli_base.specs.View.{View}
-use Rattle.gimli_base.specs.Reading.{Reads, map_read}
+use Rattle.gimli_base.specs.Reading.{Reads, ◌>>=◌, map_read}
 use Rattle.gimli_base.specs.Abbreviations.{Specification, Declaration, Map}
 use Rattle.gimli_base.specs.Table.{codes_of}
 use Rattle.gimli_units.specs.Entry.{Attr, Entry, attribute_at, attributes_at, abbreviation_at}
-use Rattle.gimli_units.specs.Entry.{entry_at, null_entry}
+use Rattle.gimli_units.specs.Entry.{entry_at, null_entry, entry_of_declared}
 use Rattle.gimli_units.specs.RawPlace.{RawPlace, depth_read, depth_after, below_flag}
 use Rattle.gimli_units.specs.Head.{Head as RowHead, head_of}
 use Rattle.gimli_units.proofs.AttributeTurns.{after}
@@ -23,6 +23,7 @@ use Rattle.gimli_c.specs.declared.attrs.GimliAttr.{GimliAttr}
 use Rattle.gimli_c.specs.declared.reading.Head.{Head}
 use Rattle.gimli_c.specs.Attrs.{attr_of}
 use Rattle.gimli_c.specs.Heads.{null_head, declared_head, IsReadPast, IsReadWith, AreRead}
+use Rattle.gimli_c.specs.Heads.{AsksMemory}
 
 -- the attributes of these specifications, as numbers
 abbrev pub numbers_at : ℕ → Encoding → List Specification → View → Reads (List GimliAttr)
@@ -178,6 +179,40 @@ pub past_attribute : (limit : ℕ) (e : Encoding) (m : Map) (v w : View) (d : De
     → ◌≡◌ {A = Reads Entry} (Err x) (entry_at limit e m v)
 unfolding entry_at
 past_attribute limit e m v w d x h k = rw (← h, ← k) refl
+
+-- what is refused asks for no more than that
+pub asks_refused : (r : Reads Entry) (x : Error) → Err x ≡ r → AsksMemory r
+asks_refused r x h = rw (← h) tt
+
+-- no attributes are read of some
+some_read : (limit : ℕ) (e : Encoding) (ss : List Specification) (v : View) (p : List Attr × View)
+    → attributes_at limit e ss v ≡ Ok p → p.0 ≡ [] → ss ≡ []
+unfolding attributes_at
+some_read limit e [] v p is none = refl
+some_read limit e (s ∷ ss) v p is none =
+    absurd (first (attribute_at limit e s v) (λ w. attributes_at limit e ss w) is)
+  where
+    others : (a : Attr) (r : Reads (List Attr)) → map_read (λ xs. a ∷ xs) r ≡ Ok p → ⊥
+    others a (Ok q) k = let both : ◌≡◌ {A = List Attr × View} (a ∷ q.0, q.1) p = cc in cc
+    others a (Err x) k = cc
+
+    first : (r : Reads Attr) (next : View → Reads (List Attr))
+        → (r >>= λ q. map_read (λ xs. q.0 ∷ xs) (next q.1)) ≡ Ok p → ⊥
+    first (Ok q) next k = others q.0 (next q.1) k
+    first (Err x) next k = cc
+
+-- an entry with declared attributes
+pub asks_declared : (limit : ℕ) (e : Encoding) (m : Map) (v a : View) (d : Declaration)
+    → ◌≡◌ {A = Reads (Option Declaration)} (Ok (Some d, a)) (abbreviation_at m v)
+    → (d.tag.0 ≡ 0 → ⊥) → d.attributes ≢ [] → AsksMemory (entry_at limit e m v)
+unfolding entry_at
+asks_declared limit e m v a d h set some = rw (← h) (cases (attributes_at limit e d.attributes a) refl)
+  where
+    cases : (r : Reads (List Attr)) → attributes_at limit e d.attributes a ≡ r
+        → AsksMemory (map_read (entry_of_declared d) r)
+    cases (Ok p) is =
+        rw (ne_eqb d.tag.0 0 set) (λ none. some (some_read limit e d.attributes a p is none))
+    cases (Err x) is = tt
 
 -- a reader that stands for itself
 pub same_answer : {A : Type 0} {r s : Result A Error} → r ≡ s → answer_of (λ x. x) r ≡ s

@@ -1,5 +1,5 @@
 -- The rows and attributes that a call writes, of the rows ahead of a place (DWARF 5, 2.3).
-use Rattle.std.specs.Prelude.{◌≡◌, ℕ, zero, suc, ◌+◌, ◌-◌, ◌<◌, ◌≤◌, min, nat_lt, nat_le, cond, if◌then◌else◌}
+use Rattle.std.specs.Prelude.{◌≡◌, ◌≢◌, IsSome, ℕ, zero, suc, ◌+◌, ◌-◌, ◌<◌, ◌≤◌, min, nat_lt, nat_le, cond, if◌then◌else◌}
 use Rattle.std.specs.Prelude.{List, [], ◌∷◌, ◌++◌, map, take, drop, length, Option, Some, None}
 use Rattle.std.specs.Prelude.{Result, Ok, Err}
 use Rattle.gimli_base.specs.declared.error.Error.{Error}
@@ -66,9 +66,15 @@ abbrev pub wrote : ℕ → ℕ → ℕ → GimliFilled
 wrote rows attributes wanted =
     record { rows = rows; attributes = attributes; wanted = wanted }
 
+-- reading the row that comes next asks for memory: it has attributes, or it is refused
+abbrev pub AskMemory : List Row → Option Error → Type 0
+AskMemory [] refusal = IsSome refusal
+AskMemory (r ∷ rs) refusal = attributes_of r ≢ []
+
 -- Rows from the front of those ahead are written with their attributes, the rest stays as it was,
 -- and the place is after them. They are as many as fit; where memory was refused for the table there
--- is none, and where it was for the attributes of a row that row and those after it are not written.
+-- is none, and where it was for the attributes of a row that row and those after it are not written;
+-- then the row has some, or is refused.
 pub record FilledEntries (ahead : Ahead) (old : List GimliEntry) (old_attrs : List GimliAttr)
     (place : GimliPlace) (new : List GimliEntry) (attrs : List GimliAttr) (n : GimliFilled)
     (status : ℕ) : Type 0 where
@@ -80,6 +86,7 @@ pub record FilledEntries (ahead : Ahead) (old : List GimliEntry) (old_attrs : Li
   pub fits : n.rows ≤ min (length old) (length ahead.rows)
   pub none : status ≡ memory_refused → n ≡ wrote 0 0 0
   pub short : status ≡ row_memory_refused → (n.rows < length old) × (n.wanted ≡ 0)
+      × AskMemory (drop n.rows ahead.rows) ahead.refusal
   pub whole : (status ≡ memory_refused → ⊥) → (status ≡ row_memory_refused → ⊥)
       → (n.rows ≡ fit (length old) (length old_attrs) ahead.rows)
       × (n.wanted ≡ wanted_of (length old) n.rows ahead.rows)

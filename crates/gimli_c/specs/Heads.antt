@@ -1,5 +1,5 @@
 -- What a row tells of its entry, and an entry that was read past (DWARF 5, 7.5.2).
-use Rattle.std.specs.Prelude.{◌≡◌, ℕ, List, map, cond, Some, Result, Ok}
+use Rattle.std.specs.Prelude.{◌≡◌, ◌≢◌, ℕ, List, [], map, cond, Some, Result, Ok, Err}
 use Rattle.gimli_base.specs.declared.common.Encoding.{Encoding}
 use Rattle.gimli_base.specs.declared.error.Error.{Error}
 use Rattle.gimli_base.specs.Offset.{answer_of}
@@ -43,6 +43,11 @@ pub record IsReadWith (limit : ℕ) (before : RawPlace) (head : Head) (numbers :
     (after : RawPlace) : Type 0 where
   pub past : IsReadPast limit before head after
   pub numbers_are : numbers ≡ map attr_of past.entry.attributes
+
+-- reading an entry asks for memory only for its attributes; where it is refused, so is the entry
+abbrev pub AsksMemory : Reads Entry → Type 0
+AsksMemory (Ok p) = p.0.attributes ≢ []
+AsksMemory (Err e) = Unit {0}
 
 -- a reader of the entries of a unit by a table is opened at an offset, or the offset is refused
 abbrev pub IsOpened : {T : Type 0} → (T → RawPlace) → UnitView → Table → ℕ → Result T Error → Type 0

@@ -1,7 +1,7 @@
 //! Entries that are read one after the other by a table in a caller's buffers.
 
 ghost use Rattle.std.specs.Prelude.{◌≡◌, ◌+◌, ◌-◌, ◌<◌, ◌≤◌, ◌^◌, ℕ, map, length, pos, ◌-ℤ◌, unsigned_abs};
-ghost use Rattle.std.specs.Prelude.{Some, List, [], All, IfOk, IfErr, OnErr};
+ghost use Rattle.std.specs.Prelude.{Some, List, [], All, IsOk, IfOk, IfErr, OnErr};
 ghost use Rattle.std.specs.Option.{option_map};
 ghost use Rattle.gimli_base.specs.Offset.{answer_of};
 ghost use Rattle.gimli_base.specs.Reading.{read_of, answer_leaving, map_read, UnlessMemory};
@@ -14,6 +14,7 @@ ghost use Rattle.gimli_units.specs.Sized.{left_by};
 ghost use Rattle.gimli_units.specs.Unit.{whole_length, entries_from};
 ghost use Rattle.gimli_units.specs.UnitHeld.{unit_view};
 ghost use Rattle.gimli_c.specs.Attrs.{attr_of};
+ghost use Rattle.gimli_c.specs.Heads.{AsksMemory};
 ghost use Rattle.gimli_c.specs.Tables.{specification_in, declaration_in, declared_in, table_in};
 ghost use Rattle.gimli_c.specs.TableReads.{told_head, depth_behind_head, IsHeadRead, IsHeadReadWith, IsKnown};
 
@@ -257,18 +258,21 @@ fn read_numbers<R: Reader, A: Allocator>(
     ensures refused { let declared = codes_of (table_in table.entry) in
         IfErr result (λ e. (e ≡ OutOfMemory → ⊥) → Err e
         ≡ entry_at R.Offset.limit encoding declared (R.view input.old)) }
+    ensures memory { let declared = codes_of (table_in table.entry) in
+        IfErr result (λ _. AsksMemory
+        (entry_at R.Offset.limit encoding declared (R.view input.old))) }
 {
     numbers.0.clear();
     let Some(declared) = next_declared(input, table)? else {
         return Ok(Head::null());
     };
     let specifications = declared.attributes_in(table.specifications);
-    push_values(input, encoding, specifications, numbers)?;
-    let head = head_by(declared);
-    if head.tag == 0 {
-        numbers.0.clear();
+    if declared.tag == 0 {
+        pass_values(input, encoding, specifications)?;
+        return Ok(Head::null());
     }
-    Ok(head)
+    push_values(input, encoding, specifications, numbers)?;
+    Ok(head_by(declared))
 }
 
 // What a row tells of an entry of this declaration; one of the tag 0 is a null.
@@ -357,11 +361,12 @@ fn push_values<R: Reader, A: Allocator>(
     numbers: &mut Numbers<A>,
 ) -> Result<()>
     requires { numbers.old.0.items ≡ [] }
-    ensures { let declared = map specification_in specifications.now in
+    ensures value { let declared = map specification_in specifications.now in
         UnlessMemory result
         (read_of (answer_leaving numbers.new.0.items result) (R.view input.new)
         ≡ map_read (map attr_of)
         (attributes_at R.Offset.limit encoding declared (R.view input.old))) }
+    ensures none { specifications.now ≡ [] → IsOk result }
 {
     numbers.0.reserve(specifications.len())?;
     let mut rest = input.copy();

@@ -1,13 +1,13 @@
 //! Entries that are read one after the other, each into what a row tells of it.
 
-ghost use Rattle.std.specs.Prelude.{◌≡◌, ◌≢◌, ◌↔◌, [], map, length, IsTrue, IfOk, IfErr, OnErr};
+ghost use Rattle.std.specs.Prelude.{◌≡◌, ◌≢◌, ◌↔◌, [], map, length, IsTrue, IsOk, IfOk, IfErr, OnErr};
 ghost use Rattle.gimli_base.specs.Table.{codes_of};
 ghost use Rattle.gimli_base.specs.Reading.{read_of, answer_leaving, map_read, UnlessMemory};
 ghost use Rattle.gimli_units.specs.Entry.{attributes_at, entry_at};
 ghost use Rattle.gimli_units.specs.RawPlace.{RawPlace, next_offset_of};
 ghost use Rattle.gimli_base.specs.declared.error.Error.TheVariants.{OutOfMemory};
 ghost use Rattle.gimli_c.specs.Attrs.{attr_of};
-ghost use Rattle.gimli_c.specs.Heads.{null_head, declared_head, IsReadPast, IsReadWith};
+ghost use Rattle.gimli_c.specs.Heads.{null_head, declared_head, IsReadPast, IsReadWith, AsksMemory};
 
 use crate::attrs::Numbers;
 use gimli_base::{Abbreviation, AttributeSpecification, Reader, ReaderOffset, Result};
@@ -70,6 +70,9 @@ pub(crate) trait ReadEntries<R: Reader> {
         ensures refused { let p = place self.old in
             IfErr result (λ e. (e ≡ OutOfMemory → ⊥) → Err e
             ≡ entry_at R.Offset.limit p.encoding (codes_of p.abbreviations) p.rest) }
+        ensures memory { let p = place self.old in
+            IfErr result (λ _. AsksMemory
+            (entry_at R.Offset.limit p.encoding (codes_of p.abbreviations) p.rest)) }
         ensures kept { OnErr result (place self.new ≡ place self.old) };
 }
 
@@ -142,6 +145,8 @@ fn read_numbers<R: Reader, A: Allocator, B: Allocator>(
     ensures refused { IfErr result (λ e. (e ≡ OutOfMemory → ⊥) → Err e
         ≡ entry_at R.Offset.limit entries.old.encoding (codes_of entries.old.abbreviations)
         entries.old.rest) }
+    ensures memory { IfErr result (λ _. AsksMemory (entry_at R.Offset.limit entries.old.encoding
+        (codes_of entries.old.abbreviations) entries.old.rest)) }
     ensures kept { OnErr result (entries.new ≡ entries.old) }
 {
     numbers.0.clear();
@@ -150,9 +155,10 @@ fn read_numbers<R: Reader, A: Allocator, B: Allocator>(
         *entries = rest;
         return Ok(Head::null());
     };
+    let head = declared_head(declared);
     push_numbers(&mut rest, declared.attributes(), numbers)?;
     *entries = rest;
-    Ok(declared_head(declared))
+    Ok(head)
 }
 
 // Reads the attributes of these specifications into an empty list; where one is refused, `entries`
@@ -168,6 +174,7 @@ fn push_numbers<R: Reader, A: Allocator, B: Allocator>(
         (read_of (answer_leaving numbers.new.0.items result) entries.new.rest
         ≡ map_read (map attr_of)
         (attributes_at R.Offset.limit entries.old.encoding specifications.now entries.old.rest)) }
+    ensures none { specifications.now ≡ [] → IsOk result }
     ensures same { entries.new ≡ record entries.old { rest = entries.new.rest } }
 {
     numbers.0.reserve(specifications.len())?;

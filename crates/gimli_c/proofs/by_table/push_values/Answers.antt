@@ -5,8 +5,8 @@ use Rattle.gimli_c.proofs.Heads.{numbers_not, numbers_onto, numbers_end}
 use Rattle.gimli_c.proofs.ByTable.{item_in}
 use Rattle.gimli_c.proofs.by_table.push_values.Goals as goal
 
-pub returns-in_err-read_to : goal.returns-in_err-read_to
-returns-in_err-read_to g c =
+pub returns-in_err-read_to-clause-value : goal.returns-in_err-read_to-clause-value
+returns-in_err-read_to-clause-value g c =
     let item = item_in _ _ _ _ c.each-test.true c.specification.ensures in
     let r : c.from_residual-in_err-read_to.result ≡ Err c.in_err-read_to.field-0.0 = search rules in
     rw r
@@ -23,7 +23,7 @@ each-preserved g c =
     let room = ap (λ (p : ℕ × ℕ). p.1) onto.1 in
     record { read = onto.0; room = omega (arith, count, room, inv.room, c.each-test.true) }
 
-pub returns : goal.returns
-returns g c =
+pub returns-clause-value : goal.returns-clause-value
+returns-clause-value g c =
     let long = length-map c.args.specifications.now specification_in in
     numbers_end _ _ _ _ _ _ _ c.each.invariant.read (omega (arith, long, c.each-test.false))

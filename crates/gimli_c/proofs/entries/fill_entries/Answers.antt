@@ -43,7 +43,7 @@ returns-in-Err-clause-told g c =
     c.args.rows.now c.rows.rows c.args.attrs.now c.rows.attrs c.place_of-place.result c.rows.count
     c.rows.used
     f c.place_of-place.ensures.offset depth c.in-Err.error some room
-    (λ other. c.in-Err.ensures.refused (λ is. other (ap row_refused is))))
+    (λ other. c.in-Err.ensures.refused (λ is. other (ap row_refused is))) c.in-Err.ensures.memory)
 
 pub returns-then-attributes-attrs-clause-told : goal.returns-then-attributes-attrs-clause-told
 returns-then-attributes-attrs-clause-told g c =
