@@ -28,8 +28,8 @@ pub struct WholeSlice<'a, E, K = <E as Endianity>::Kept> {
     kept: K,
     // of the first byte of the whole
     place: u64,
-    begin: u32,
-    end: u32,
+    begin: usize,
+    end: usize,
     order: PhantomData<E>,
     ghost short: { length whole.now < 2 ^ 32 },
     ghost ordered: { begin ≤ end },
@@ -138,7 +138,7 @@ impl<'a, E: Endianity> WholeSlice<'a, E> {
             kept: endian.to_kept(),
             place,
             begin: 0,
-            end: bytes.len() as u32,
+            end: bytes.len(),
             order: PhantomData,
         }
     }
@@ -148,7 +148,7 @@ impl<'a, E: Endianity> WholeSlice<'a, E> {
     pub fn slice(&self) -> &'a [u8]
         ensures { result.now ≡ (⟦<WholeSlice<'a, E> as Reader>⟧.view self.now).bytes }
     {
-        &self.whole[self.begin as usize..self.end as usize]
+        &self.whole[self.begin..self.end]
     }
 
     // The reader of the first `n` bytes
@@ -164,7 +164,7 @@ impl<'a, E: Endianity> WholeSlice<'a, E> {
             kept: self.kept,
             place: self.place,
             begin: self.begin,
-            end: self.begin + n,
+            end: self.begin + n as usize,
             order: PhantomData,
         }
     }
@@ -181,7 +181,7 @@ impl<'a, E: Endianity> WholeSlice<'a, E> {
             whole: self.whole,
             kept: self.kept,
             place: self.place,
-            begin: self.begin + n,
+            begin: self.begin + n as usize,
             end: self.end,
             order: PhantomData,
         }
@@ -207,12 +207,12 @@ impl<'a, E: Endianity> Reader for WholeSlice<'a, E> {
 
     #[inline]
     fn len(&self) -> u32 {
-        self.end - self.begin
+        (self.end - self.begin) as u32
     }
 
     #[inline]
     fn offset_id(&self) -> ReaderOffsetId {
-        ReaderOffsetId(self.place + u64::from(self.begin))
+        ReaderOffsetId(self.place + self.begin as u64)
     }
 
     #[inline]
@@ -230,7 +230,7 @@ impl<'a, E: Endianity> Reader for WholeSlice<'a, E> {
     #[tactic(auto, unfolding(crate::specs::Reading::skip_at))]
     #[inline]
     fn skip(&mut self, n: u32) -> Result<()> {
-        if n <= self.end - self.begin {
+        if n as usize <= self.end - self.begin {
             *self = self.behind(n);
             Ok(())
         } else {
@@ -241,7 +241,7 @@ impl<'a, E: Endianity> Reader for WholeSlice<'a, E> {
     #[tactic(auto, unfolding(crate::specs::Reading::split_at))]
     #[inline]
     fn split(&mut self, n: u32) -> Result<Self> {
-        if n <= self.end - self.begin {
+        if n as usize <= self.end - self.begin {
             let front = self.before(n);
             *self = self.behind(n);
             Ok(front)
@@ -256,7 +256,7 @@ impl<'a, E: Endianity> Reader for WholeSlice<'a, E> {
         if self.begin == self.end {
             return Err(Error::UnexpectedEof(self.offset_id()));
         }
-        let byte = self.whole[self.begin as usize];
+        let byte = self.whole[self.begin];
         *self = self.behind(1);
         Ok(byte)
     }
