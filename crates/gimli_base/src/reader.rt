@@ -347,13 +347,15 @@ pub trait Reader: Debug + Drop {
         ensures value { read_of result (view self.new) ≡ address_at address_size (view self.old) }
         ensures kept { OnErr result (view self.new ≡ view self.old) }
     {
-        match address_size {
-            1 => Ok(u64::from(self.read_u8()?)),
-            2 => Ok(u64::from(self.read_u16()?)),
-            4 => Ok(u64::from(self.read_u32()?)),
-            8 => self.read_u64(),
-            _ => Err(Error::UnsupportedAddressSize(address_size)),
-        }
+        // (a result that comes of several widths is taken out in pieces)
+        let address = match address_size {
+            1 => u64::from(self.read_u8()?),
+            2 => u64::from(self.read_u16()?),
+            4 => u64::from(self.read_u32()?),
+            8 => self.read_u64()?,
+            _ => return Err(Error::UnsupportedAddressSize(address_size)),
+        };
+        Ok(address)
     }
 
     /// The next 4 or 8 bytes, by the format, as an offset. Refusals: `UnexpectedEof`,
