@@ -77,9 +77,17 @@ fn address<R: Reader>(input: &mut R, size: u8) -> Result<u64>
         return input.read_u64();
     }
     let mut rest = input.copy();
-    let address = rest.read_address(size)?;
+    let address = narrow_address(&mut rest, size)?;
     *input = rest;
     Ok(address)
+}
+
+// The next address, by a call.
+#[inline(never)]
+fn narrow_address<R: Reader>(input: &mut R, size: u8) -> Result<u64>
+    ensures { read_of result (R.view input.new) ≡ address_at size (R.view input.old) }
+{
+    input.read_address(size)
 }
 
 // The next three bytes as an offset; where they are refused, the input is left anywhere.
@@ -378,6 +386,30 @@ fn read_any<R: Reader, T: TakeAttribute<R>>(
     read_direct(input, encoding, specification, form, taker)
 }
 
+// The same, where `APART` is set on a reader of its own. It is a function of its own, since the
+// place of that reader is cleared where its body begins.
+#[inline(always)]
+fn read_apart<R: Reader, T: TakeAttribute<R>, const APART: bool>(
+    input: &mut R,
+    encoding: Encoding,
+    specification: &AttributeSpecification,
+    taker: &mut T,
+) -> Result<T::Answer>
+    requires { T.has_room taker.old }
+    ensures value { read_of (answer_of (T.stand taker.new) result) (R.view input.new)
+        ≡ map_read (T.taken taker.old)
+        (attribute_at R.Offset.limit encoding specification.now (R.view input.old)) }
+    ensures refused { OnErr result (taker.new ≡ taker.old) }
+{
+    if !APART {
+        return read_any(input, encoding, specification, taker);
+    }
+    let mut rest = input.copy();
+    let taken = read_any(&mut rest, encoding, specification, taker)?;
+    *input = rest;
+    Ok(taken)
+}
+
 /// Hands over the attribute of a specification; where it is refused, the taker stays, and the input
 /// is left anywhere. Each form is put in place with what the taker makes of its value; a chain of
 /// indirect forms is followed by a call, where `APART` is set on a reader of its own, so that the
@@ -431,11 +463,5 @@ pub(crate) fn read_of_variable_size<R: Reader, T: TakeAttribute<R>, const APART:
     {
         return Ok(taken);
     }
-    if !APART {
-        return read_any(input, encoding, specification, taker);
-    }
-    let mut rest = input.copy();
-    let taken = read_any(&mut rest, encoding, specification, taker)?;
-    *input = rest;
-    Ok(taken)
+    read_apart::<R, T, APART>(input, encoding, specification, taker)
 }
