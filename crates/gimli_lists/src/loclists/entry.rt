@@ -4,7 +4,7 @@ ghost use Rattle.std.specs.Prelude.{◌≡◌, ◌<◌, length, MatchResult, OnS
 ghost use Rattle.std.specs.Option.{option_map};
 ghost use Rattle.std.specs.Iterator.{at_most};
 ghost use Rattle.gimli_base.specs.Offset.{answer_of};
-ghost use Rattle.gimli_base.specs.Reading.{read_of};
+ghost use Rattle.gimli_base.specs.Reading.{read_of, address_at};
 ghost use Rattle.gimli_lists.specs.LocationEntry.{location_entry_of, short_expression_at};
 ghost use Rattle.gimli_lists.specs.LocationEntry.{expression_at, indexed_length_at};
 ghost use Rattle.gimli_lists.specs.LocationEntry.{new_location_at, location_grammar};
@@ -191,6 +191,27 @@ fn read_indexed_length<R: Reader>(input: &mut R, version: u16) -> Result<u64>
     }
 }
 
+// The next address where a range begins or ends, by a call, on a reader of its own: four places that
+// read it would be more than the loop over entries has registers for. Where it is refused, the input
+// is left anywhere.
+#[inline(always)]
+fn read_address_apart<R: Reader>(input: &mut R, address_size: u8) -> Result<u64>
+    ensures { read_of result (R.view input.new) ≡ address_at address_size (R.view input.old) }
+{
+    let mut rest = input.copy();
+    let address = read_address_by_call(&mut rest, address_size)?;
+    *input = rest;
+    Ok(address)
+}
+
+// The same by a call.
+#[inline(never)]
+fn read_address_by_call<R: Reader>(input: &mut R, address_size: u8) -> Result<u64>
+    ensures { read_of result (R.view input.new) ≡ address_at address_size (R.view input.old) }
+{
+    input.read_address(address_size)
+}
+
 // The next entry of versions up to 4; where it is refused, the input is left anywhere.
 #[tactic(auto, unfolding(crate::specs::RawList::old_entry_at))]
 fn parse_bare<R: Reader>(input: &mut R, address_size: u8) -> Result<Option<RawLocListEntry<R>>>
@@ -261,13 +282,13 @@ fn parse_coded<R: Reader>(
             Ok(Some(RawLocListEntry::BaseAddress { addr }))
         }
         DW_LLE_start_end => {
-            let begin = input.read_address(address_size)?;
-            let end = input.read_address(address_size)?;
+            let begin = read_address_apart(input, address_size)?;
+            let end = read_address_apart(input, address_size)?;
             let expr = read_expression(input, version)?;
             Ok(Some(RawLocListEntry::StartEnd { begin, end, expr }))
         }
         DW_LLE_start_length => {
-            let begin = input.read_address(address_size)?;
+            let begin = read_address_apart(input, address_size)?;
             let length = input.read_uleb128()?;
             let expr = read_expression(input, version)?;
             Ok(Some(RawLocListEntry::StartLength {
