@@ -206,7 +206,8 @@ pub asks_declared : (limit : ℕ) (e : Encoding) (m : Map) (v a : View) (d : Dec
     → ◌≡◌ {A = Reads (Option Declaration)} (Ok (Some d, a)) (abbreviation_at m v)
     → (d.tag.0 ≡ 0 → ⊥) → d.attributes ≢ [] → AsksMemory (entry_at limit e m v)
 unfolding entry_at
-asks_declared limit e m v a d h set some = rw (← h) (cases (attributes_at limit e d.attributes a) refl)
+asks_declared limit e m v a d h set some =
+    rw (← h) (cases (attributes_at limit e d.attributes a) refl)
   where
     cases : (r : Reads (List Attr)) → attributes_at limit e d.attributes a ≡ r
         → AsksMemory (map_read (entry_of_declared d) r)

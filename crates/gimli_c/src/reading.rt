@@ -1,6 +1,7 @@
 //! Entries that are read one after the other, each into what a row tells of it.
 
-ghost use Rattle.std.specs.Prelude.{◌≡◌, ◌≢◌, ◌↔◌, [], map, length, IsTrue, IsOk, IfOk, IfErr, OnErr};
+ghost use Rattle.std.specs.Prelude.{◌≡◌, ◌≢◌, ◌↔◌, [], map, length};
+ghost use Rattle.std.specs.Prelude.{IsTrue, IsOk, IfOk, IfErr, OnErr};
 ghost use Rattle.gimli_base.specs.Table.{codes_of};
 ghost use Rattle.gimli_base.specs.Reading.{read_of, answer_leaving, map_read, UnlessMemory};
 ghost use Rattle.gimli_units.specs.Entry.{attributes_at, entry_at};

@@ -51,7 +51,7 @@ returns-clause-past g c =
     let moved = e.same ∙ ap (λ (d : ℤ). record p { rest = middle; depth = d }) e.depth in
     let n = numbers_of _ _ _ _ q.rest c.push_numbers.new.numbers.0.items
     (rw (encoding, c.attributes.ensures) at c.in_ok-push_numbers.ensures.value) in
-    rw c.declared_head-head.ensures.value (entry_with _ p q c.in-Some.declared.now middle e.value n.0
-    c.declared_head-head.ensures.set
+    rw c.declared_head-head.ensures.value
+    (entry_with _ p q c.in-Some.declared.now middle e.value n.0 c.declared_head-head.ensures.set
     (c.in_ok-push_numbers.ensures.same ∙ ap (λ (t : RawPlace). record t { rest = q.rest }) moved)
     _ n.1)
