@@ -1,5 +1,5 @@
 -- Steps of reading a table of abbreviations into a caller's buffers (DWARF 5, 7.5.3).
-use Rattle.std.specs.Prelude.{◌≡◌, ℕ, ◌+◌, ◌<◌, ◌≤◌, ◌==◌, not, ℤ, pos, ◌-ℤ◌, if◌then◌else◌, List}
+use Rattle.std.specs.Prelude.{◌≡◌, ℕ, ◌+◌, ◌<◌, ◌≤◌, ◌==◌, nat_lt, not, ℤ, pos, ◌-ℤ◌, if◌then◌else◌, List}
 use Rattle.std.specs.Prelude.{◌++◌, map, take, drop, length, Option, Some, None, Ok}
 use Rattle.gimli_base.specs.declared.common.Encoding.{Encoding}
 use Rattle.gimli_base.specs.View.{View}
@@ -9,9 +9,10 @@ use Rattle.gimli_base.specs.Width.{attributes_size}
 use Rattle.gimli_base.specs.Abbreviations.{Specification, Declaration, Map, specifications_at}
 use Rattle.gimli_base.specs.Abbreviations.{declaration_at}
 use Rattle.gimli_units.specs.Entry.{Entry, entry_at}
-use Rattle.gimli_units.specs.RawPlace.{below_flag, depth_after}
+use Rattle.gimli_units.specs.RawPlace.{RawPlace, below_flag, depth_after}
 use Rattle.gimli_c.specs.declared.attrs.GimliAttr.{GimliAttr}
 use Rattle.gimli_c.specs.declared.by_table.Known.{Known}
+use Rattle.gimli_c.specs.declared.by_table.Run.{Run}
 use Rattle.gimli_c.specs.declared.reading.Head.{Head}
 use Rattle.gimli_c.specs.declared.table.GimliCounted.{GimliCounted}
 use Rattle.gimli_c.specs.declared.table.GimliDeclaration.{GimliDeclaration}
@@ -20,6 +21,11 @@ use Rattle.gimli_c.specs.Status.{end}
 use Rattle.gimli_c.specs.Attrs.{attr_of}
 use Rattle.gimli_c.specs.Heads.{null_head, declared_head, head_in_c}
 use Rattle.gimli_c.specs.Tables.{specification_in, numbered, table_told, AreWritten}
+
+-- where a reader of entries by a caller's table stands, and the attributes of its table
+pub record PlaceBy : Type 0 where
+  pub place : RawPlace
+  pub specifications : List GimliSpecification
 
 -- what a row tells of an entry of this declaration; one of the tag 0 is a null
 abbrev pub told_head : Declaration → Head
@@ -44,11 +50,15 @@ pub record IsHeadReadWith (limit : ℕ) (e : Encoding) (declared : Map) (v : Vie
   pub read : IsHeadRead limit e declared v head w
   pub numbers_are : numbers ≡ map attr_of read.entry.attributes
 
--- a size of at most 64 is that of the values of these attributes of a table
+-- the first of these attributes have so many bytes together, which no value tells
+pub record IsRun (e : Encoding) (ss : List GimliSpecification) (r : Run) : Type 0 where
+  pub within : r.count ≤ length ss
+  pub size : attributes_size e (map specification_in (take r.count ss)) ≡ Some r.size
+  pub more : r.more ≡ nat_lt r.count (length ss)
+
+-- the same of so many attributes of a table from an index on
 abbrev pub IsKnown : Encoding → List GimliSpecification → Known → Type 0
-IsKnown e ss k =
-    k.size ≤ 64 → attributes_size e (map specification_in (take k.attributes (drop k.first ss)))
-    ≡ Some k.size
+IsKnown e ss k = IsRun e (take k.left (drop k.first ss)) k.run
 
 -- these attributes are written behind the first `from`, where there is room for them
 pub record AreBehind (from : ℕ) (ss : List Specification) (old new : List GimliSpecification)

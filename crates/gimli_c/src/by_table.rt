@@ -1,6 +1,7 @@
 //! Entries that are read one after the other by a table in a caller's buffers.
 
-ghost use Rattle.std.specs.Prelude.{◌≡◌, ◌+◌, ◌-◌, ◌<◌, ◌≤◌, ◌^◌, ℕ, map, length, pos, ◌-ℤ◌, unsigned_abs};
+ghost use Rattle.std.specs.Prelude.{◌≡◌, ◌+◌, ◌-◌, ◌<◌, ◌≤◌, ◌^◌, map, take, drop, length, pos};
+ghost use Rattle.std.specs.Prelude.{◌-ℤ◌, unsigned_abs};
 ghost use Rattle.std.specs.Prelude.{Some, List, [], All, IsOk, IfOk, IfErr, OnErr};
 ghost use Rattle.std.specs.Option.{option_map};
 ghost use Rattle.gimli_base.specs.Offset.{answer_of};
@@ -8,34 +9,45 @@ ghost use Rattle.gimli_base.specs.Reading.{read_of, answer_leaving, map_read, Un
 ghost use Rattle.gimli_base.specs.Table.{codes_of};
 ghost use Rattle.gimli_base.specs.Width.{attributes_size};
 ghost use Rattle.gimli_base.specs.declared.error.Error.TheVariants.{OutOfMemory};
-ghost use Rattle.gimli_units.specs.Entry.{Attr, attributes_at, abbreviation_at, entry_at};
+ghost use Rattle.gimli_units.specs.Entry.{Attr, attribute_at, attributes_at};
+ghost use Rattle.gimli_units.specs.Entry.{abbreviation_at, entry_at};
 ghost use Rattle.gimli_units.specs.RawPlace.{RawPlace, next_offset_of};
 ghost use Rattle.gimli_units.specs.Sized.{left_by};
-ghost use Rattle.gimli_units.specs.Unit.{whole_length, entries_from};
+ghost use Rattle.gimli_units.specs.Unit.{whole_length};
 ghost use Rattle.gimli_units.specs.UnitHeld.{unit_view};
 ghost use Rattle.gimli_c.specs.Attrs.{attr_of};
-ghost use Rattle.gimli_c.specs.Heads.{AsksMemory};
+ghost use Rattle.gimli_c.specs.Heads.{IsOpened, AsksMemory};
 ghost use Rattle.gimli_c.specs.Tables.{specification_in, declaration_in, declared_in, table_in};
-ghost use Rattle.gimli_c.specs.TableReads.{told_head, depth_behind_head, IsHeadRead, IsHeadReadWith, IsKnown};
+ghost use Rattle.gimli_c.specs.TableReads.{told_head, depth_behind_head, PlaceBy};
+ghost use Rattle.gimli_c.specs.TableReads.{IsHeadRead, IsHeadReadWith, IsRun, IsKnown};
 
 use crate::attrs::Numbers;
 use crate::reading::{Head, ReadEntries};
-use crate::table::{GimliDeclaration, GimliSpecification, GimliTable};
+use crate::table::{GimliDeclaration, GimliSpecification, GimliTable, part_of};
 use gimli_base::{AttributeSpecification, Encoding, Error, Reader, ReaderOffset, Result};
 use gimli_units::{Attribute, AttributeValue, TakeAttribute, UnitHeader, UnitOffset};
 use std::alloc::Allocator;
 use std::marker::Model;
 
-// How many sizes are kept.
-const SLOTS: usize = 64;
+// How many runs are kept.
+const SLOTS: usize = 128;
 
-// How many bytes the values of an entry have together; above 64 where they are more, or the bytes
-// of a value tell. Its declaration has these attributes of the table.
+// The first of some attributes, whose sizes no value tells: how many they are, how many bytes their
+// values have together, and whether there are more.
 #[derive(Clone, Copy)]
-struct Known {
+struct Run {
+    count: u16,
+    size: u8,
+    more: bool,
+}
+
+// The run of `left` attributes of the table from an index on. (It has no padding, so that a list of
+// zeros is written at once.)
+#[derive(Clone, Copy)]
+pub(crate) struct Known {
     first: usize,
-    attributes: usize,
-    size: u64,
+    left: u32,
+    run: Run,
 }
 
 /// A reader of entries by a caller's table.
@@ -49,25 +61,25 @@ pub(crate) struct EntriesBy<'t, R: Reader> {
     // the offset of the end of the input
     end: R::Offset,
     depth: isize,
-    // sizes that were looked up, each at the index of the first attribute
-    known: [Known; SLOTS],
 }
 
 impl<'t, R: Reader> Model for EntriesBy<'t, R> {
-    ghost Value = { RawPlace };
+    ghost Value = { PlaceBy };
 
     ghost view = { λ e.
         record {
-          rest = R.view e.input;
-          encoding = e.encoding;
-          abbreviations = table_in e.table;
-          end = R.Offset.number e.end;
-          depth = e.depth;
+          place = record {
+            rest = R.view e.input;
+            encoding = e.encoding;
+            abbreviations = table_in e.table;
+            end = R.Offset.number e.end;
+            depth = e.depth;
+          };
+          specifications = e.table.specifications.now;
         } };
 
     ghost invariant = { λ e. (length (R.view e.input).bytes ≤ R.Offset.number e.end)
-        × (unsigned_abs e.depth + length (R.view e.input).bytes < 2 ^ 63)
-        × All (IsKnown e.encoding e.table.specifications.now) e.known };
+        × (unsigned_abs e.depth + length (R.view e.input).bytes < 2 ^ 63) };
 }
 
 /// A reader of the entries of a unit from an offset on.
@@ -76,22 +88,16 @@ pub(crate) fn entries_by<'t, R: Reader>(
     table: GimliTable<'t>,
     offset: R::Offset,
 ) -> Result<EntriesBy<'t, R>>
-    ensures { result ≡ entries_from (unit_view unit.now) (table_in table.entry)
-        (Some (R.Offset.number offset)) }
+    ensures { IsOpened (λ e. e.place) (unit_view unit.now) (table_in table.entry)
+        (R.Offset.number offset) result }
 {
     let input = unit.range_from(UnitOffset(offset)..)?;
-    let none = Known {
-        first: 0,
-        attributes: 0,
-        size: 0,
-    };
     Ok(EntriesBy {
         input,
         encoding: unit.encoding(),
         table,
         end: unit.length_including_self(),
         depth: 0,
-        known: [none; SLOTS],
     })
 }
 
@@ -99,11 +105,11 @@ impl<'t, R: Reader> EntriesBy<'t, R> {
     // Goes behind an entry of which a row tells this.
     #[inline(always)]
     fn go_behind(&mut self, rest: R, head: Head)
-        requires { length (R.view rest).bytes < length self.old.rest.bytes }
-        ensures { self.new
+        requires { length (R.view rest).bytes < length self.old.place.rest.bytes }
+        ensures { let p = self.old.place in
+            self.new
             ≡ record self.old {
-              rest = R.view rest;
-              depth = depth_behind_head head self.old.depth;
+              place = record p { rest = R.view rest; depth = depth_behind_head head p.depth };
             } }
     {
         self.input = rest;
@@ -116,7 +122,28 @@ impl<'t, R: Reader> EntriesBy<'t, R> {
 }
 
 impl<'t, R: Reader> ReadEntries<R> for EntriesBy<'t, R> {
-    ghost place = { λ e. e };
+    // runs that were looked up, each at the index of its first attribute
+    type Memo = [Known; SLOTS];
+
+    ghost place = { λ e. e.place };
+
+    ghost remembers = { λ e known. All (IsKnown e.place.encoding e.specifications) known };
+
+    #[inline(always)]
+    fn no_memo() -> [Known; SLOTS]
+        ensures { (e : PlaceBy) → All (IsKnown e.place.encoding e.specifications) result }
+    {
+        let none = Known {
+            first: 0,
+            left: 0,
+            run: Run {
+                count: 0,
+                size: 0,
+                more: false,
+            },
+        };
+        [none; SLOTS]
+    }
 
     #[inline(always)]
     fn is_empty(&self) -> bool {
@@ -134,9 +161,9 @@ impl<'t, R: Reader> ReadEntries<R> for EntriesBy<'t, R> {
     }
 
     #[inline(always)]
-    fn pass(&mut self) -> Result<Head> {
+    fn pass(&mut self, known: &mut [Known; SLOTS]) -> Result<Head> {
         let mut rest = self.input.copy();
-        let head = pass_entry(&mut rest, self.encoding, self.table, &mut self.known)?;
+        let head = pass_entry(&mut rest, self.encoding, self.table, known)?;
         self.go_behind(rest, head);
         Ok(head)
     }
@@ -170,77 +197,124 @@ fn pass_entry<R: Reader>(
     let Some(declared) = next_declared(input, table)? else {
         return Ok(Head::null());
     };
-    let size = look_up(known, encoding, table.specifications, declared);
-    let specifications = declared.attributes_in(table.specifications);
-    pass_known(input, encoding, specifications, size)?;
+    pass_runs(input, encoding, table.specifications, declared, known)?;
     Ok(head_by(declared))
 }
 
-// Passes what reading the attributes of these specifications reads, with the same refusals; where
-// one is refused, the input is left anywhere. A size of at most 64 is that of their values.
+// Passes what reading the attributes of a declaration's entry reads, with the same refusals; where
+// one is refused, the input is left anywhere. Runs are passed as one each.
 #[inline(always)]
-fn pass_known<R: Reader>(
+fn pass_runs<R: Reader>(
     input: &mut R,
     encoding: Encoding,
     specifications: &[GimliSpecification],
-    size: u64,
+    declared: &GimliDeclaration,
+    known: &mut [Known; SLOTS],
 ) -> Result<()>
-    requires { let declared = map specification_in specifications.now in
-        size ≤ 64 → attributes_size encoding declared ≡ Some size }
-    ensures { let declared = map specification_in specifications.now in
+    requires { All (IsKnown encoding specifications.now) known.old }
+    ensures passed { let told = declared_in specifications.now declared.now in
         read_of result (R.view input.new)
-        ≡ left_by (attributes_at R.Offset.limit encoding declared (R.view input.old)) }
+        ≡ left_by (attributes_at R.Offset.limit encoding (map specification_in told)
+        (R.view input.old)) }
+    ensures known { All (IsKnown encoding specifications.now) known.new }
 {
-    if Attribute::pass_sized(input, encoding, size) {
-        return Ok(());
+    let mut from = 0;
+    'runs: loop {
+        let run = look_up(known, encoding, specifications, declared, from);
+        if !Attribute::pass_sized(input, encoding, u64::from(run.size)) {
+            let left = &declared.attributes_in(specifications)[from..];
+            return pass_values(input, encoding, left);
+        }
+        if !run.more {
+            return Ok(());
+        }
+        from += usize::from(run.count);
+        pass_value(
+            input,
+            encoding,
+            &declared.attributes_in(specifications)[from],
+        )?;
+        from += 1;
     }
-    pass_values(input, encoding, specifications)
 }
 
-// The size of the values of a declaration's entries, as `Known` has it.
+// Passes the value of an attribute as it is read; where it is refused, the input stays. (As a
+// function of its own, so that its places are cleared where there is such a value.)
+#[inline(always)]
+fn pass_value<R: Reader>(input: &mut R, encoding: Encoding, told: &GimliSpecification) -> Result<()>
+    ensures { read_of result (R.view input.new)
+        ≡ left_by
+        (attribute_at R.Offset.limit encoding (specification_in told.now) (R.view input.old)) }
+{
+    Attribute::pass(input, encoding, &told.specification())
+}
+
+// The first attributes from an index on of a declaration, as a run.
 #[inline(always)]
 fn look_up(
     known: &mut [Known; SLOTS],
     encoding: Encoding,
     specifications: &[GimliSpecification],
     declared: &GimliDeclaration,
-) -> u64
-    requires { All (IsKnown encoding specifications.now) known.old }
-    ensures size { let told = declared_in specifications.now declared.now in
-        result ≤ 64 → attributes_size encoding (map specification_in told) ≡ Some result }
+    from: usize,
+) -> Run
+    requires known { All (IsKnown encoding specifications.now) known.old }
+    requires within { from ≤ length (declared_in specifications.now declared.now) }
+    ensures run { IsRun encoding (drop from (declared_in specifications.now declared.now)) result }
     ensures known { All (IsKnown encoding specifications.now) known.new }
 {
-    let slot = declared.first % SLOTS;
+    let first = declared.first + from;
+    let left = declared.attributes - from;
+    let slot = first % SLOTS;
     let found = known[slot];
-    if found.first == declared.first && found.attributes == declared.attributes {
-        return found.size;
+    if found.first == first && found.left as usize == left {
+        return found.run;
     }
-    let size = size_of(declared.attributes_in(specifications), encoding);
-    known[slot] = Known {
-        first: declared.first,
-        attributes: declared.attributes,
-        size,
-    };
-    size
+    keep_run(known, encoding, specifications, first, left)
 }
 
-// How many bytes the values of these attributes have together; above 64 where they are more, or the
-// bytes of a value tell.
-fn size_of(specifications: &[GimliSpecification], encoding: Encoding) -> u64
-    ensures { let declared = map specification_in specifications.now in
-        result ≤ 64 → attributes_size encoding declared ≡ Some result }
+// The run of `left` attributes from an index on, which is kept, if they are fewer than 2^32.
+#[inline(always)]
+fn keep_run(
+    known: &mut [Known; SLOTS],
+    encoding: Encoding,
+    specifications: &[GimliSpecification],
+    first: usize,
+    left: usize,
+) -> Run
+    requires { All (IsKnown encoding specifications.now) known.old }
+    ensures run { IsRun encoding (take left (drop first specifications.now)) result }
+    ensures known { All (IsKnown encoding specifications.now) known.new }
 {
-    let mut sum = 0;
+    let run = run_of(part_of(specifications, first, left), encoding);
+    if let Ok(left) = u32::try_from(left) {
+        known[first % SLOTS] = Known { first, left, run };
+    }
+    run
+}
+
+// The first of these attributes as a run, of at most 64 bytes and 65,535 attributes.
+#[inline(never)]
+fn run_of(specifications: &[GimliSpecification], encoding: Encoding) -> Run
+    ensures { IsRun encoding specifications.now result }
+{
+    let mut run = Run {
+        count: 0,
+        size: 0,
+        more: false,
+    };
     'each: for told in specifications {
         let Some(size) = told.specification().size(encoding) else {
-            return 65;
+            break;
         };
-        sum += u64::from(size);
-        if sum > 64 {
-            return sum;
+        if size > 64 - run.size || run.count == u16::MAX {
+            break;
         }
+        run.count += 1;
+        run.size += size;
     }
-    sum
+    run.more = usize::from(run.count) < specifications.len();
+    run
 }
 
 // Reads the next entry, and keeps its head, and its attributes in place of those in `numbers`;
@@ -333,8 +407,28 @@ impl<R: Reader> TakeAttribute<R> for Forget {
     {}
 }
 
-// The same value by value.
+// Passes what reading the attributes of these specifications reads, value by value, with the same
+// refusals; where one is refused, the input stays. It is a call that gets a reader of its own, so
+// that the caller's stays in registers.
+#[inline(always)]
 fn pass_values<R: Reader>(
+    input: &mut R,
+    encoding: Encoding,
+    specifications: &[GimliSpecification],
+) -> Result<()>
+    ensures { let declared = map specification_in specifications.now in
+        read_of result (R.view input.new)
+        ≡ left_by (attributes_at R.Offset.limit encoding declared (R.view input.old)) }
+{
+    let mut rest = input.copy();
+    pass_each(&mut rest, encoding, specifications)?;
+    *input = rest;
+    Ok(())
+}
+
+// The same; where one is refused, the input is left anywhere.
+#[inline(never)]
+fn pass_each<R: Reader>(
     input: &mut R,
     encoding: Encoding,
     specifications: &[GimliSpecification],

@@ -39,8 +39,19 @@ impl Head {
 ///
 /// A refused call leaves it as it was.
 pub(crate) trait ReadEntries<R: Reader> {
+    /// What it remembers of declarations that it has met. It stands beside the reader, and not in
+    /// it: what is indexed is kept in memory, and all that lies in one struct with it.
+    type Memo: Copy;
+
     // where it stands
     ghost place: { Self → RawPlace };
+
+    // what is remembered is right
+    ghost remembers: { Self → Self.Memo → Type 0 };
+
+    /// Nothing is remembered.
+    fn no_memo() -> Self::Memo
+        ensures { (e : Self) → remembers e result };
 
     /// Whether no byte is left.
     fn is_empty(&self) -> bool
@@ -55,13 +66,15 @@ pub(crate) trait ReadEntries<R: Reader> {
         ensures { result ≡ (place self.now).depth };
 
     /// Reads on past the next entry, and keeps its head alone. Refused as reading the entry is.
-    fn pass(&mut self) -> Result<Head>
+    fn pass(&mut self, memo: &mut Self::Memo) -> Result<Head>
+        requires { remembers self.old memo.old }
         ensures past { IfOk result
             (λ head. IsReadPast R.Offset.limit (place self.old) head (place self.new)) }
         ensures refused { let p = place self.old in
             IfErr result (λ e. Err e
             ≡ entry_at R.Offset.limit p.encoding (codes_of p.abbreviations) p.rest) }
-        ensures kept { OnErr result (place self.new ≡ place self.old) };
+        ensures kept { OnErr result (place self.new ≡ place self.old) }
+        ensures remembered { remembers self.new memo.new };
 
     /// Reads the next entry, and keeps its head, and its attributes in place of those in `numbers`.
     /// Refused as reading the entry is, or for memory.
@@ -78,7 +91,14 @@ pub(crate) trait ReadEntries<R: Reader> {
 }
 
 impl<'abbrev, R: Reader, B: Allocator> ReadEntries<R> for EntriesRaw<'abbrev, R, B> {
+    type Memo = ();
+
     ghost place = { λ e. e };
+
+    ghost remembers = { λ _ _. Unit {0} };
+
+    #[inline(always)]
+    fn no_memo() {}
 
     #[inline(always)]
     fn is_empty(&self) -> bool {
@@ -96,7 +116,7 @@ impl<'abbrev, R: Reader, B: Allocator> ReadEntries<R> for EntriesRaw<'abbrev, R,
     }
 
     #[inline(always)]
-    fn pass(&mut self) -> Result<Head> {
+    fn pass(&mut self, _memo: &mut ()) -> Result<Head> {
         pass_entry(self)
     }
 

@@ -179,10 +179,11 @@ fn fill_rows<R: Reader, T: ReadEntries<R>>(
         Filled ahead rows.old result.place rows.new result.count result.status }
     ensures memory { result.status ≡ memory_refused → ⊥ }
 {
+    let mut memo = T::no_memo();
     let mut count = 0;
     'rows: while count < rows.len() && !entries.is_empty() {
         let place = place_of(entries, base);
-        match entries.pass() {
+        match entries.pass(&mut memo) {
             Ok(head) => {
                 rows[count] = GimliRow {
                     offset: place.offset,

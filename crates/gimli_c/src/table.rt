@@ -90,11 +90,23 @@ impl GimliDeclaration {
     ) -> &'t [GimliSpecification]
         ensures { result.now ≡ declared_in specifications.now self.now }
     {
-        let first = self.first.min(specifications.len());
-        let behind = &specifications[first..];
-        let count = self.attributes.min(behind.len());
-        &behind[..count]
+        part_of(specifications, self.first, self.attributes)
     }
+}
+
+/// So many attributes from an index on, as far as they are there.
+#[inline(always)]
+pub(crate) fn part_of(
+    specifications: &[GimliSpecification],
+    first: usize,
+    count: usize,
+) -> &[GimliSpecification]
+    ensures { result.now ≡ take count (drop first specifications.now) }
+{
+    let first = first.min(specifications.len());
+    let behind = &specifications[first..];
+    let count = count.min(behind.len());
+    &behind[..count]
 }
 
 /// What a reading of a table tells.

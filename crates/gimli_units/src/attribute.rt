@@ -13,13 +13,13 @@ ghost use Rattle.gimli_units.specs.Kind.{unit_reference};
 ghost use Rattle.gimli_units.specs.NormalValue.{udata_of, sdata_of, sec_offset_of, exprloc_of};
 ghost use Rattle.gimli_units.specs.NormalValue.{string_of, string_sup_of, below};
 
-use crate::form::read_form;
+use crate::form::{read_form, read_of_variable_size};
 use crate::pass::pass_sized;
 use crate::{AttributeValue, UnitOffset};
 use gimli_base::{
     AttributeSpecification, DebugStr, DwAt, DwForm, Encoding, Expression, Reader, Result, Section,
 };
-use taker::TakeAttribute;
+use taker::{Pass, TakeAttribute};
 
 pub(crate) mod list;
 mod normal;
@@ -70,12 +70,34 @@ impl<R: Reader> Attribute<R> {
             (attribute_at R.Offset.limit encoding specification.now (R.view input.old)) }
         ensures kept { OnErr result ((input.new ≡ input.old) × (taker.new ≡ taker.old)) }
     {
-        // (`false`, so that this is another copy of the function than that of a unit's entries, and
-        // the compiler puts each in place)
+        // (2, so that this is another copy of the function than that of a unit's entries)
         let mut rest = input.copy();
-        let taken = read_form::<R, T, false>(&mut rest, encoding, specification, taker)?;
+        let taken = read_form::<R, T, 2>(&mut rest, encoding, specification, taker)?;
         *input = rest;
         Ok(taken)
+    }
+
+    /// Passes the value of an attribute as it is read. It is for those who keep declarations of
+    /// their own, as `read_to`.
+    ///
+    /// Refusals: those of `EntriesRaw::read_attribute`; the input then stays.
+    #[inline(always)]
+    #[tactic(auto, using(crate::proofs::AttributeTurns::passed_as))]
+    pub fn pass(
+        input: &mut R,
+        encoding: Encoding,
+        specification: &AttributeSpecification,
+    ) -> Result<()>
+        ensures value { read_of result (R.view input.new)
+            ≡ left_by
+            (attribute_at R.Offset.limit encoding specification.now (R.view input.old)) }
+        ensures kept { OnErr result (input.new ≡ input.old) }
+    {
+        // (2, as in `read_to`)
+        let mut rest = input.copy();
+        read_of_variable_size::<R, Pass, 2>(&mut rest, encoding, specification, &mut Pass)?;
+        *input = rest;
+        Ok(())
     }
 
     /// Passes the values of attributes that have `size` bytes together (DWARF 5, 7.5.6), if all of

@@ -386,10 +386,10 @@ fn read_any<R: Reader, T: TakeAttribute<R>>(
     read_direct(input, encoding, specification, form, taker)
 }
 
-// The same, where `APART` is set on a reader of its own. It is a function of its own, since the
+// The same, where `APART` is not 0 on a reader of its own. It is a function of its own, since the
 // place of that reader is cleared where its body begins.
 #[inline(always)]
-fn read_apart<R: Reader, T: TakeAttribute<R>, const APART: bool>(
+fn read_apart<R: Reader, T: TakeAttribute<R>, const APART: usize>(
     input: &mut R,
     encoding: Encoding,
     specification: &AttributeSpecification,
@@ -401,7 +401,7 @@ fn read_apart<R: Reader, T: TakeAttribute<R>, const APART: bool>(
         (attribute_at R.Offset.limit encoding specification.now (R.view input.old)) }
     ensures refused { OnErr result (taker.new ≡ taker.old) }
 {
-    if !APART {
+    if APART == 0 {
         return read_any(input, encoding, specification, taker);
     }
     let mut rest = input.copy();
@@ -412,11 +412,12 @@ fn read_apart<R: Reader, T: TakeAttribute<R>, const APART: bool>(
 
 /// Hands over the attribute of a specification; where it is refused, the taker stays, and the input
 /// is left anywhere. Each form is put in place with what the taker makes of its value; a chain of
-/// indirect forms is followed by a call, where `APART` is set on a reader of its own, so that the
-/// caller's stays in registers.
+/// indirect forms is followed by a call, where `APART` is not 0 on a reader of its own, so that the
+/// caller's stays in registers. Each number is another copy of the function: the compiler puts one
+/// in place for one caller.
 #[inline(always)]
 #[tactic(auto, using(crate::proofs::AttributeTurns::made_direct))]
-pub(crate) fn read_form<R: Reader, T: TakeAttribute<R>, const APART: bool>(
+pub(crate) fn read_form<R: Reader, T: TakeAttribute<R>, const APART: usize>(
     input: &mut R,
     encoding: Encoding,
     specification: &AttributeSpecification,
@@ -443,7 +444,7 @@ pub(crate) fn read_form<R: Reader, T: TakeAttribute<R>, const APART: bool>(
 /// call.
 #[inline(always)]
 #[tactic(auto, using(crate::proofs::AttributeTurns::made_direct))]
-pub(crate) fn read_of_variable_size<R: Reader, T: TakeAttribute<R>, const APART: bool>(
+pub(crate) fn read_of_variable_size<R: Reader, T: TakeAttribute<R>, const APART: usize>(
     input: &mut R,
     encoding: Encoding,
     specification: &AttributeSpecification,

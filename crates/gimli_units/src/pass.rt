@@ -136,7 +136,7 @@ fn pass_value<R: Reader>(
     ensures { read_of result (R.view input.new)
         ≡ left_by (attribute_at R.Offset.limit encoding specification.now (R.view input.old)) }
 {
-    read_of_variable_size::<R, Pass, true>(input, encoding, specification, &mut Pass)
+    read_of_variable_size::<R, Pass, 1>(input, encoding, specification, &mut Pass)
 }
 
 // Whether a specification is a reference to a sibling, where one is sought.
@@ -334,7 +334,7 @@ fn read_reference<R: Reader>(
         ≡ map_read (λ a. unit_reference a.value)
         (attribute_at R.Offset.limit encoding specification.now (R.view input.old)) }
 {
-    let attribute = read_form::<R, Keep, false>(input, encoding, specification, &mut Keep)?;
+    let attribute = read_form::<R, Keep, 1>(input, encoding, specification, &mut Keep)?;
     Ok(attribute.reference())
 }
 

@@ -472,7 +472,7 @@ impl<'abbrev, R: Reader, A: Allocator> EntriesRaw<'abbrev, R, A> {
     {
         let mut rest = self.input.copy();
         let specification = &specification;
-        let read = read_form::<R, Keep, false>(&mut rest, self.encoding, specification, &mut Keep)?;
+        let read = read_form::<R, Keep, 0>(&mut rest, self.encoding, specification, &mut Keep)?;
         self.input = rest;
         Ok(read)
     }
@@ -495,7 +495,7 @@ impl<'abbrev, R: Reader, A: Allocator> EntriesRaw<'abbrev, R, A> {
         ensures kept { OnErr result ((self.new ≡ self.old) × (taker.new ≡ taker.old)) }
     {
         let mut rest = self.input.copy();
-        let taken = read_form::<R, T, true>(&mut rest, self.encoding, specification, taker)?;
+        let taken = read_form::<R, T, 1>(&mut rest, self.encoding, specification, taker)?;
         self.input = rest;
         Ok(taken)
     }
@@ -591,7 +591,7 @@ fn parse_attributes<R: Reader, A: Allocator>(
 {
     attrs.reserve(specifications.len())?;
     for specification in specifications {
-        read_form::<R, Vec<Attribute<R>, A>, true>(input, encoding, specification, attrs)?;
+        read_form::<R, Vec<Attribute<R>, A>, 1>(input, encoding, specification, attrs)?;
     }
     Ok(())
 }

@@ -1,9 +1,6 @@
 use Rattle.std.proofs.Common.{◌≡◌, rules, Err, arith}
 use Rattle.gimli_units.specs.UnitHeld.{unit_view}
 use Rattle.gimli_c.proofs.ByTable.{ranged, unranged, opened_by}
-use Rattle.std.proofs.Common.{refl}
-use Rattle.std.proofs.lemmas.List.Elements.{All-replicate}
-use Rattle.gimli_c.specs.TableReads.{IsKnown}
 use Rattle.gimli_c.proofs.by_table.entries_by.Goals as goal
 
 pub returns-in_err-input : goal.returns-in_err-input
@@ -18,7 +15,6 @@ invariant_of-result g c =
     let end = c.length_including_self.ensures in (
       omega (arith, within, fit, end),
       omega (arith, g.met.R.Reader.length_fits c.in_ok-input.input),
-      All-replicate (IsKnown c.encoding.result c.args.table.specifications.now) 64 _ (λ _. refl),
     )
 
 pub returns : goal.returns

@@ -4,7 +4,6 @@ use Rattle.gimli_base.specs.Table.{codes_of}
 use Rattle.gimli_units.specs.UnitHeld.{unit_view}
 use Rattle.gimli_c.specs.Fronts.{at, unit_ahead}
 use Rattle.gimli_c.specs.Tables.{table_in}
-use Rattle.gimli_c.proofs.Heads.{same_answer}
 use Rattle.gimli_c.proofs.Resume.{unit_resumes, moved_entries}
 use Rattle.gimli_c.proofs.entries.read_entries_by.Goals as goal
 
@@ -16,7 +15,7 @@ returns-in-Ok-clause-resumes g c =
     let u = unit_view c.in-Ok.header in
     let codes = codes_of (table_in c.args.table) in
     let told = rw back at c.unit_entries.ensures.told (table_in c.args.table)
-    (same_answer c.entries_by-opened.ensures) in
+    c.entries_by-opened.ensures in
     rw (← c.in-Ok.ensures)
     (unit_resumes limit u codes c.in-Ok.header.entries_fit (at number c.args.depth)
     c.unit_entries.result.place c.unit_entries.result.filled.rows

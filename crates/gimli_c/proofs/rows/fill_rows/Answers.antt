@@ -11,12 +11,15 @@ pub rows-init : goal.rows-init
 rows-init g c =
     let back : to_z w64 (of_z w64 c.args.base) ≡ c.args.base = to_z-of_z w64 _ c.ranges.base in
     rw back (record {
-      taken = [];
-      count = refl;
-      room = omega arith;
-      ahead = refl;
-      rows = refl;
-      fits = c.requires;
+      front = record {
+        taken = [];
+        count = refl;
+        room = omega arith;
+        ahead = refl;
+        rows = refl;
+        fits = c.requires;
+      };
+      remembered = c.no_memo-memo.ensures c.args.entries.now;
     })
 
 pub returns-in-Err-clause-told : goal.returns-in-Err-clause-told
@@ -24,7 +27,7 @@ returns-in-Err-clause-told g c =
     let p = g.T.ReadEntries.place c.rows.entries in
     let start = g.T.ReadEntries.place c.args.entries.now in
     let back : to_z w64 (of_z w64 c.args.base) ≡ c.args.base = to_z-of_z w64 _ c.ranges.base in
-    let f = rw back at c.rows.invariant in
+    let f = rw back at c.rows.invariant.front in
     let some : length p.rest.bytes ≡ 0 → ⊥ = λ none. let t : c.is_empty.result ≡ true =
     c.is_empty.ensures.1 none in let no = c.if-not-is_empty.true in cc in
     let room : c.rows.count < length c.args.rows.now =
@@ -40,7 +43,7 @@ rows-preserved g c =
     let p = g.T.ReadEntries.place c.rows.entries in
     let start = g.T.ReadEntries.place c.args.entries.now in
     let back : to_z w64 (of_z w64 c.args.base) ≡ c.args.base = to_z-of_z w64 _ c.ranges.base in
-    let f = rw back at c.rows.invariant in
+    let f = rw back at c.rows.invariant.front in
     let some : length p.rest.bytes ≡ 0 → ⊥ = λ none. let t : c.is_empty.result ≡ true =
     c.is_empty.ensures.1 none in let no = c.if-not-is_empty.true in cc in
     let room : c.rows.count < length c.args.rows.now =
@@ -52,17 +55,21 @@ rows-preserved g c =
     let tag : c.in-Ok.head.tag ≡ past.entry.tag.0 = ap (λ (h : Head). h.tag) past.head_is in
     let flag : c.in-Ok.head.has_children ≡ cond past.entry.has_children 1 0 =
     ap (λ (h : Head). h.has_children) past.head_is in
-    rw (back, depth, back_sum, c.place_of-place.ensures.offset, tag, flag, past.moved)
-    (front_more g.R.Offset.ReaderOffset.limit c.args.base start p c.args.rows.now
-    c.rows.rows c.rows.count past.entry (g.T.ReadEntries.place c.pass.new.self).rest _ f room
-    some past.is refl)
+    record {
+      front =
+          rw (back, depth, back_sum, c.place_of-place.ensures.offset, tag, flag, past.moved)
+          (front_more g.R.Offset.ReaderOffset.limit c.args.base start p c.args.rows.now
+          c.rows.rows c.rows.count past.entry (g.T.ReadEntries.place c.pass.new.self).rest _ f room
+          some past.is refl);
+      remembered = c.pass.ensures.remembered;
+    }
 
 pub returns-clause-told : goal.returns-clause-told
 returns-clause-told g c =
     let p = g.T.ReadEntries.place c.rows.entries in
     let start = g.T.ReadEntries.place c.args.entries.now in
     let back : to_z w64 (of_z w64 c.args.base) ≡ c.args.base = to_z-of_z w64 _ c.ranges.base in
-    let f = rw back at c.rows.invariant in
+    let f = rw back at c.rows.invariant.front in
     let offset = c.place_of.ensures.offset in
     let depth = rw back at c.place_of.ensures.depth in
     let limit = g.R.Offset.ReaderOffset.limit in

@@ -3,7 +3,7 @@ use Rattle.std.proofs.lemmas.List.{length-map}
 use Rattle.gimli_units.proofs.ReadTurns.{turn_refused, turn_passed, turn_end}
 use Rattle.gimli_c.specs.Tables.{specification_in}
 use Rattle.gimli_c.proofs.ByTable.{item_in}
-use Rattle.gimli_c.proofs.by_table.pass_values.Goals as goal
+use Rattle.gimli_c.proofs.by_table.pass_each.Goals as goal
 
 pub returns-in_err-read_to : goal.returns-in_err-read_to
 returns-in_err-read_to g c =

@@ -2,7 +2,7 @@ use Rattle.std.proofs.Common.{◌≡◌, map, drop}
 use Rattle.gimli_units.specs.Entry.{attributes_at}
 use Rattle.gimli_units.specs.Sized.{left_by}
 use Rattle.gimli_c.specs.Tables.{specification_in}
-use Rattle.gimli_c.proofs.by_table.pass_values.Given as goal
+use Rattle.gimli_c.proofs.by_table.pass_each.Given as goal
 
 abbrev pub invariant-each : goal.invariant-each
 invariant-each g l =
