@@ -1,4 +1,18 @@
-"""What crates.txt says of the crates."""
+"""What crates.txt says of the crates, and how a library is built."""
+import subprocess, sys
+
+
+def quiet(words, **how):
+    """Runs a command, and prints what it says only where it fails, and ends with its status."""
+    ran = subprocess.run(words, stdout=subprocess.PIPE, stderr=subprocess.STDOUT, text=True, errors="replace", **how)
+    if ran.returncode:
+        print(ran.stdout[-3000:])
+        sys.exit(ran.returncode)
+
+
+def build(crate):
+    """Builds a library, and those below it, over what earlier runs proved of them; by one processor, as the gate has the others busy."""
+    quiet(["rt", "lib", "--jobs", "1"], cwd=f"crates/{crate}")
 
 
 def crates():
