@@ -11,7 +11,7 @@ def quiet(words, **how):
 
 
 def build(crate):
-    """Builds a library, and those below it, over what earlier runs proved of them; by one processor, as the gate has the others busy."""
+    """Builds a library, and those below it, over what `rt check` or `rt lib` proved of them before; by one processor, as the gate has others busy."""
     quiet(["rt", "lib", "--jobs", "1"], cwd=f"crates/{crate}")
 
 
