@@ -27,7 +27,7 @@ mod SumReads
 mod RunReads
 mod RunTurns
 mod SiblingReads
-mod MovingReads
+pub mod MovingReads
 pub mod WalkerSteps
 pub mod RowSteps
 pub mod RowChain

@@ -20,3 +20,11 @@ pub mod TreeTruth
 pub mod TreeTurned
 pub mod WordLines
 pub mod WrittenLines
+mod ListEndSteps
+mod DeclarationParts
+mod NodeSteps
+mod VersionReads
+mod TableSteps
+mod TableOpening
+mod PassedValues
+mod PassedEntries
