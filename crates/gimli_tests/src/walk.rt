@@ -4,5 +4,6 @@ mod deep;
 mod faults;
 mod gathered;
 mod large;
+mod shared;
 mod walks;
 mod writers;
