@@ -13,7 +13,7 @@ use Rattle.gimli_base.proofs.Later.{uleb_at-later, uleb16_at-later, sleb_at-late
 use Rattle.gimli_base.proofs.ItemTurns.{whole-later}
 use Rattle.gimli_base.specs.Abbreviations.{Specification, Declaration, specification_at}
 use Rattle.gimli_base.specs.Abbreviations.{specifications_at, children_at, tag_at, declared_at}
-use Rattle.gimli_base.specs.Abbreviations.{declaration_at}
+use Rattle.gimli_base.specs.Abbreviations.{declaration_at, is_headed, table_takes_memory}
 
 specification_at-later : (v : View) → LeavesLater 2 v (specification_at v)
 unfolding specification_at
@@ -88,3 +88,10 @@ pub declaration_at-refused : (v w : View) (code : ℕ) (e : Error)
 unfolding declaration_at
 declaration_at-refused v w code e read some declared =
     let other : (code == 0) ≡ false = grind (arith, some) in rw (← read, other, ← declared) refl
+
+-- after a code that is not 0 a table takes memory exactly where the declaration is headed
+pub table_takes_memory-code : (v w : View) (code : ℕ) → Ok (code, w) ≡ uleb_at v → code ≢ 0
+    → table_takes_memory v ≡ is_headed w
+unfolding table_takes_memory
+table_takes_memory-code v w code read some =
+    let other : (code == 0) ≡ false = grind (arith, some) in rw (← read, other) refl

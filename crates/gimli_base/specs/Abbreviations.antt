@@ -2,6 +2,7 @@
 -- (DWARF 5, 7.5.3).
 use Rattle.std.specs.Prelude.{◌≡◌, ℕ, ℤ, Bool, true, false, ◌||◌, ◌==◌, if◌then◌else◌, is_some}
 use Rattle.std.specs.Prelude.{List, [], ◌∷◌, Option, Some, None, Result, Ok, Err}
+use Rattle.std.specs.Result.{is_ok}
 use Rattle.gimli_base.specs.declared.constants.DwTag.{DwTag}
 use Rattle.gimli_base.specs.declared.constants.DwAt.{DwAt}
 use Rattle.gimli_base.specs.declared.constants.DwForm.{DwForm}
@@ -109,3 +110,22 @@ map_of ds = if repeats ds.items then Err DuplicateAbbreviationCode else elim ds.
 -- the map of the declarations at an offset
 unfoldable pub map_at : ℕ → View → Result Map Error
 map_at offset v = elim (skip_at offset v) [ Ok p ↦ map_of (declarations_at p.1) | Err e ↦ Err e ]
+
+-- whether a declaration goes on in these bytes with a tag and a children flag that are allowed
+unfoldable pub is_headed : View → Bool
+is_headed v = is_ok (tag_at v >>= λ tag. children_at tag.1)
+
+-- whether a declaration follows a code that was read
+abbrev pub is_declared_after : Reads ℕ → Bool
+is_declared_after (Ok code) = if code.0 == 0 then false else is_headed code.1
+is_declared_after (Err e) = false
+
+-- whether reading the table in these bytes takes memory: only where its first declaration is read
+-- as far as its attributes
+unfoldable pub table_takes_memory : View → Bool
+table_takes_memory v = is_declared_after (uleb_at v)
+
+-- the same of the table at an offset
+unfoldable pub table_takes_memory_at : ℕ → View → Bool
+table_takes_memory_at offset v = elim (skip_at offset v)
+    [ Ok p ↦ table_takes_memory p.1 | Err e ↦ false ]

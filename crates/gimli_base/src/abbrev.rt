@@ -23,6 +23,9 @@ ghost use Rattle.gimli_base.specs.Abbreviations.{
   map_of,
   map_at,
   declarations_at,
+  is_headed,
+  table_takes_memory,
+  table_takes_memory_at,
 };
 ghost use Rattle.gimli_base.specs.Width.{width_of, form_size, attributes_size};
 ghost use Rattle.std.specs.List.{All};
@@ -553,7 +556,7 @@ impl<A: Allocator> Abbreviation<A> {
 // The tag and the children flag of a declaration, whose code is read already, and its attributes
 // after none; where they are refused, the input and the attributes are left anywhere.
 #[inline(always)]
-#[tactic(auto, unfolding(crate::specs::Abbreviations::declared_at, crate::specs::Abbreviations::tag_at, crate::specs::Abbreviations::children_at))]
+#[tactic(auto, unfolding(crate::specs::Abbreviations::declared_at, crate::specs::Abbreviations::is_headed, crate::specs::Abbreviations::tag_at, crate::specs::Abbreviations::children_at))]
 fn parse_declared<R: Reader, A: Allocator>(
     input: &mut R,
     attributes: &mut Attributes<A>,
@@ -566,6 +569,9 @@ fn parse_declared<R: Reader, A: Allocator>(
         (read_of result (R.view input.new))
         ≡ declared_at code (R.view input.old)) }
     ensures tag { IfOk result (λ r. r.0.0 ≢ 0) }
+    ensures headed { OnOk result (is_headed (R.view input.old) ≡ true) }
+    ensures without_memory { is_headed (R.view input.old) ≡ false →
+        IfErr result (λ e. (code : ℕ) → Err e ≡ declared_at code (R.view input.old)) }
 {
     let tag = DwTag(input.read_uleb128_u16()?);
     if tag == DW_TAG_null {
@@ -669,8 +675,10 @@ impl<A: Allocator + Copy> Abbreviations<A> {
     // The table of the declarations up to the code 0; where it is refused, the input is left
     // anywhere.
     fn parse<R: Reader>(alloc: A, input: &mut R) -> Result<Abbreviations<A>>
-        ensures { UnlessMemory result
+        ensures value { UnlessMemory result
             (answer_of codes_of result ≡ map_of (declarations_at (R.view input.old))) }
+        ensures without_memory { table_takes_memory (R.view input.old) ≡ false →
+            answer_of codes_of result ≡ map_of (declarations_at (R.view input.old)) }
     {
         let mut table = Abbreviations::new(alloc);
         loop {
@@ -734,22 +742,24 @@ impl<R: Reader> Section<R> for DebugAbbrev<R> {
 
 impl<R: Reader> DebugAbbrev<R> {
     /// The table of the declarations at an offset of the section, up to the code 0 (DWARF 5,
-    /// 7.5.3).
+    /// 7.5.3). Memory is taken only where a first declaration is read as far as its attributes.
     ///
     /// Refusals: `UnexpectedEof`, also where the offset lies after the section's end,
     /// `BadUnsignedLeb128`, `BadSignedLeb128`, `AbbreviationTagZero`,
     /// `InvalidAbbreviationChildren`, `AttributeNameZero`, `AttributeFormZero`,
     /// `DuplicateAbbreviationCode`, `OutOfMemory`.
-    #[tactic(auto, unfolding(crate::specs::Abbreviations::map_at))]
+    #[tactic(auto, unfolding(crate::specs::Abbreviations::map_at, crate::specs::Abbreviations::table_takes_memory_at))]
     pub fn abbreviations<A: Allocator + Copy>(
         &self,
         alloc: A,
         offset: DebugAbbrevOffset<R::Offset>,
     ) -> Result<Abbreviations<A>>
-        ensures { UnlessMemory result
-            (answer_of codes_of result
-            ≡ map_at (R.Offset.number offset.0)
-            (⟦<DebugAbbrev<R> as Section<R>>⟧.content self.now)) }
+        ensures value { let section = ⟦<DebugAbbrev<R> as Section<R>>⟧.content self.now in
+            UnlessMemory result
+            (answer_of codes_of result ≡ map_at (R.Offset.number offset.0) section) }
+        ensures without_memory { let section = ⟦<DebugAbbrev<R> as Section<R>>⟧.content self.now in
+            table_takes_memory_at (R.Offset.number offset.0) section ≡ false →
+            answer_of codes_of result ≡ map_at (R.Offset.number offset.0) section }
     {
         let mut input = self.section.copy();
         input.skip(offset.0)?;

@@ -4,6 +4,5 @@ mod deep;
 mod faults;
 mod gathered;
 mod large;
-mod shared;
 mod walks;
 mod writers;

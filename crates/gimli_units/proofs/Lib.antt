@@ -27,7 +27,7 @@ mod SumReads
 mod RunReads
 mod RunTurns
 mod SiblingReads
-pub mod MovingReads
+mod MovingReads
 pub mod WalkerSteps
 pub mod RowSteps
 pub mod RowChain

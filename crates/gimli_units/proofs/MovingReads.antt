@@ -52,7 +52,7 @@ module _ (limit : ℕ) (e : Encoding) (s : Specification) (formed : IsWellFormed
   direct : s.form.0 ≡ 0x16 → ⊥
   direct h = let no : false ≡ true = rw h at idle_form in absurd (cc)
 
-  pub idle_left : (v : View) → left_by (attribute_at limit e s v) ≡ Ok (tt, v)
+  idle_left : (v : View) → left_by (attribute_at limit e s v) ≡ Ok (tt, v)
   idle_left v =
       sym (made_direct (λ _. tt {0}) limit e s v direct formed)
       ∙ nothing_left limit e s.name.0 s.form.0 s.constant v formed idle_form

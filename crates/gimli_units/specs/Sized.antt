@@ -1,6 +1,6 @@
 -- Passing values by their known size, where reading refuses none whose bytes are there.
 use Rattle.std.specs.Prelude.{◌≡◌, ℕ, ◌<◌, ◌≤◌, ◌^◌, Bool, true, All, length, take, drop, List, Ok}
-use Rattle.std.specs.Prelude.{Option}
+use Rattle.std.specs.Prelude.{Option, ◌&&◌, nat_le, nat_lt, if◌then◌else◌}
 use Rattle.gimli_base.specs.declared.common.Encoding.{Encoding}
 use Rattle.gimli_base.specs.View.{View, cut}
 use Rattle.gimli_base.specs.Reading.{Reads, is_size, map_read}
@@ -29,6 +29,17 @@ pub data IsRoom (n : ℕ) : Type 0 where
   room_of_16 : n ≡ 16 → IsRoom n
   room_of_32 : n ≡ 32 → IsRoom n
   room_of_64 : n ≡ 64 → IsRoom n
+
+-- how many bytes are passed together at most, where n are left
+abbrev pub room_of : ℕ → ℕ
+room_of n =
+    if nat_le 64 n then 64 else if nat_le 32 n then 32 else if nat_le 16 n then 16 else
+    if nat_le 8 n then 8 else 0
+
+-- reading refuses no value whose bytes are there: the addresses have a size that can be read, and
+-- each number of 64 bits is an offset
+abbrev pub reads_all : ℕ → Encoding → Bool
+reads_all limit e = is_size e.address_size && nat_lt 0xffff_ffff_ffff_ffff limit
 
 -- what reading the attributes ss leaves after v is what reading `behind`, the last of them, leaves after
 -- w; and where `leads` is true, so is where the first reference to a sibling leads

@@ -4,7 +4,7 @@ ghost use Rattle.std.specs.Prelude.{◌≡◌, ◌+◌, ◌-◌, ◌<◌, ◌≤
 ghost use Rattle.std.specs.Prelude.{◌↔◌, IfOk};
 ghost use Rattle.std.specs.Option.{option_map};
 ghost use Rattle.gimli_base.specs.Offset.{answer_of};
-ghost use Rattle.gimli_base.specs.Abbreviations.{map_at};
+ghost use Rattle.gimli_base.specs.Abbreviations.{map_at, table_takes_memory_at};
 ghost use Rattle.gimli_base.specs.Address.{min_tombstone};
 ghost use Rattle.gimli_base.specs.Table.{codes_of};
 ghost use Rattle.gimli_base.specs.Reading.{initial_length_size_of, is_size, UnlessMemory};
@@ -266,7 +266,8 @@ impl<R: Reader> UnitHeader<R> {
         UnitOffset(self.header_size())
     }
 
-    /// The table of the unit's abbreviations (DWARF 5, 7.5.3).
+    /// The table of the unit's abbreviations (DWARF 5, 7.5.3). Memory is taken only where its first
+    /// declaration is read as far as its attributes.
     ///
     /// Refusals: those of `DebugAbbrev::abbreviations`.
     pub fn abbreviations<A: Allocator + Copy>(
@@ -274,10 +275,13 @@ impl<R: Reader> UnitHeader<R> {
         alloc: A,
         debug_abbrev: &DebugAbbrev<R>,
     ) -> Result<Abbreviations<A>>
-        ensures { UnlessMemory result
-            (answer_of codes_of result
-            ≡ map_at (unit_view self.now).abbreviations
-            (⟦<DebugAbbrev<R> as Section<R>>⟧.content debug_abbrev.now)) }
+        ensures value { let section = ⟦<DebugAbbrev<R> as Section<R>>⟧.content debug_abbrev.now in
+            UnlessMemory result
+            (answer_of codes_of result ≡ map_at (unit_view self.now).abbreviations section) }
+        ensures without_memory { let u = unit_view self.now in
+            let section = ⟦<DebugAbbrev<R> as Section<R>>⟧.content debug_abbrev.now in
+            table_takes_memory_at u.abbreviations section ≡ false →
+            answer_of codes_of result ≡ map_at u.abbreviations section }
     {
         debug_abbrev.abbreviations(alloc, self.debug_abbrev_offset)
     }

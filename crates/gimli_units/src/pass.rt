@@ -12,8 +12,8 @@ ghost use Rattle.gimli_base.specs.Abbreviations.{Specification, IsWellFormed};
 ghost use Rattle.gimli_units.specs.Kind.{unit_reference};
 ghost use Rattle.gimli_units.specs.Entry.{attribute_at, attributes_at};
 ghost use Rattle.gimli_units.specs.Sized.{ReadsAny, IsRoom, PassesAsOne, GoesOn, IsThere};
-ghost use Rattle.gimli_units.specs.Sized.{left_by, sibling_at};
-ghost use Rattle.std.specs.Prelude.{Ok, Some, List, true, false, ◌&&◌};
+ghost use Rattle.gimli_units.specs.Sized.{left_by, sibling_at, room_of, reads_all};
+ghost use Rattle.std.specs.Prelude.{Ok, Some, List, true, false, ◌&&◌, nat_le, nat_lt, not};
 
 use crate::UnitOffset;
 use crate::attribute::taker::{Keep, Pass};
@@ -51,6 +51,7 @@ fn next_are_bytes<R: Reader, const N: usize>(input: &R)
 fn room(left: u64) -> u64
     ensures within { result ≤ left }
     ensures step { IsRoom result }
+    ensures exact { result ≡ room_of left }
 {
     if left >= 64 {
         64
@@ -111,7 +112,8 @@ fn is_read(address_size: u8) -> bool
 // A number above the sizes of which reading refuses no value that is there; 0 where there are none.
 #[inline(always)]
 fn above_any<R: Reader>(encoding: Encoding) -> u16
-    ensures { (n : ℕ) → n < result → ReadsAny R.Offset.limit encoding n }
+    ensures any { (n : ℕ) → n < result → ReadsAny R.Offset.limit encoding n }
+    ensures all { nat_lt result 256 ≡ not (reads_all R.Offset.limit encoding) }
 {
     if !is_read(encoding.address_size) {
         return 0;
@@ -251,10 +253,12 @@ pub(crate) fn pass_as_read<R: Reader>(
     }
 }
 
-/// Passes values that have `size` bytes together, if all of them are there and reading refuses
-/// none; answers whether it does, and else the input stays.
+/// Passes values that have `size` bytes together, if reading refuses none of any size and there is
+/// room for so many; answers whether it does, and else the input stays.
 #[inline(always)]
 pub(crate) fn pass_sized<R: Reader>(input: &mut R, encoding: Encoding, size: u64) -> bool
+    ensures decides { result ≡ (reads_all R.Offset.limit encoding
+        && nat_le size (room_of (length (R.view input.old).bytes))) }
     ensures within { result ≡ true → size ≤ 64 }
     ensures passed { result ≡ true → (ss : List Specification) → All IsWellFormed ss
         → attributes_size encoding ss ≡ Some size

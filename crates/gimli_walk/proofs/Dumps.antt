@@ -1,8 +1,8 @@
 -- The lines of a dump, unit by unit.
-use Rattle.std.proofs.Common.{◌≡◌, ℕ, ◌+◌, ◌<◌, ◌≤◌, max, Bool, true, false, pos, List}
+use Rattle.std.proofs.Common.{◌≡◌, ℕ, ◌+◌, ◌<◌, ◌≤◌, max, Bool, true, false, pos, List, [], ◌∷◌}
 use Rattle.std.proofs.Common.{sym, ◌++◌, Option, None, Some, refl, ap, ◌∙◌, arith, length}
 use Rattle.std.proofs.Common.{length-append, Result, Ok, Err, subst}
-use Rattle.std.proofs.lemmas.List.{take-append-le}
+use Rattle.std.proofs.lemmas.List.{append-nil, take-append-le}
 use Rattle.std.proofs.lemmas.List.Folds.{concat-append}
 use Rattle.std.proofs.Math.Seq.{take-append-add}
 use Rattle.std.specs.Prelude.{take, if◌then◌else◌, ◌==◌}
@@ -26,7 +26,7 @@ use Rattle.gimli_walk.specs.Text.{WroteAll, has_unit, is_read, declared_text, un
 use Rattle.gimli_walk.specs.Stops.{WroteFront, WroteUntil}
 use Rattle.gimli_walk.specs.Dump.{led_by, join_texts, unit_dump, units_dump}
 use Rattle.gimli_walk.proofs.WrittenLines.{Appends-trans, Appends-none}
-use Rattle.gimli_walk.proofs.StoppedLines.{until_only, until_more, until_same, front_none}
+use Rattle.gimli_walk.proofs.StoppedLines.{until_only, until_more, until_same}
 use Rattle.gimli_walk.proofs.RowLines.{some_lines_of}
 
 -- the outcome of lines after others of this status
@@ -149,34 +149,34 @@ unit_first limit v u next is = cases (length v.bytes == 0) (unit_at limit DebugI
         absurd (let k = ap (λ (x : Result (Option UnitView) Error × UnitsPlace). x.0) h in cc)
 
 module _ (limit : ℕ) (u : UnitView) where
-  -- the rows of a unit whose declarations were read
-  pub table_rows : (a b : Option (List ℕ)) (declared : Map) (m : Result Map Error)
-      (r : Result ℕ Stop) → Ok declared ≡ m → WroteUntil a b (unit_text limit u declared) r
-      → WroteUntil a b (declared_text (unit_text limit) u m) r
-  table_rows a b declared m r is rows = rw (← is) rows
+  -- a unit whose declarations were read
+  pub unit_rows : (a b c : Option (List ℕ)) (line : List ℕ) (declared : Map) (m : Result Map Error)
+      (r : Result ℕ Stop) → Appends a b line → Ok declared ≡ m
+      → WroteUntil b c (unit_text limit u declared) r
+      → WroteUntil a c (led_by line (declared_text (unit_text limit) u m)) r
+  unit_rows a b c line declared m r h is rows =
+      let text : Text = unit_text limit u declared in
+      let all = until_more a b c line text.lines text.status r h rows in
+      rw (← is) all
 
-  -- those of one whose declarations want memory
-  pub table_memory : (a : Option (List ℕ)) (m : Result Map Error)
-      → WroteFront a a (declared_text (unit_text limit) u m)
-  table_memory a m = front_none a (declared_text (unit_text limit) u m) (some m)
+  -- a unit whose declarations want memory
+  pub unit_memory : (a b : Option (List ℕ)) (line : List ℕ) (m : Result Map Error)
+      → Appends a b line → WroteFront a b (led_by line (declared_text (unit_text limit) u m))
+  unit_memory a b line m h = record { count = 1; fewer = some m; lines = rw append-nil h }
     where
-      some : (x : Result Map Error) → 0 < length (declared_text (unit_text limit) u x).lines
+      some : (x : Result Map Error)
+          → 1 < length (line ∷ (declared_text (unit_text limit) u x).lines)
       some (Ok declared) =
-          some_lines_of
-          (ahead_at (entry_at limit u.encoding declared) (whole_length u) (pos 0) u.entries)
+          let k = some_lines_of
+          (ahead_at (entry_at limit u.encoding declared) (whole_length u) (pos 0)
+          u.entries) in omega (arith, k)
       some (Err e) = omega arith
 
-  -- those of one whose declarations are refused
-  pub table_refused : (a b : Option (List ℕ)) (m : Result Map Error) (e : Error) → Err e ≡ m
-      → Appends a b (error_line (number_of e))
-      → WroteUntil a b (declared_text (unit_text limit) u m) (Ok 1)
-  table_refused a b m e is h = rw (← is) (until_only a b (error_line (number_of e)) 1 h)
-
-  -- a unit's line, and then its rows
-  pub unit_line_rows : (a b c : Option (List ℕ)) (line : List ℕ) (m : Result Map Error)
-      (r : Result ℕ Stop) → Appends a b line
-      → WroteUntil b c (declared_text (unit_text limit) u m) r
-      → WroteUntil a c (led_by line (declared_text (unit_text limit) u m)) r
-  unit_line_rows a b c line m r h rows =
-      let text = declared_text (unit_text limit) u m in
-      until_more a b c line text.lines text.status r h rows
+  -- a unit whose declarations are refused
+  pub unit_refused : (a b c : Option (List ℕ)) (line : List ℕ) (m : Result Map Error) (e : Error)
+      → Appends a b line → Err e ≡ m → Appends b c (error_line (number_of e))
+      → WroteUntil a c (led_by line (declared_text (unit_text limit) u m)) (Ok 1)
+  unit_refused a b c line m e h is k =
+      let all = until_more a b c line (error_line (number_of e) ∷ []) 1 (Ok 1) h
+      (until_only b c (error_line (number_of e)) 1 k) in
+      rw (← is) all

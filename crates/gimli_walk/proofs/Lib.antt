@@ -20,11 +20,3 @@ pub mod TreeTruth
 pub mod TreeTurned
 pub mod WordLines
 pub mod WrittenLines
-mod ListEndSteps
-mod DeclarationParts
-mod NodeSteps
-mod VersionReads
-mod TableSteps
-mod TableOpening
-mod PassedValues
-mod PassedEntries

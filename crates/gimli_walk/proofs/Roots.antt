@@ -1,6 +1,5 @@
 -- The rows of a unit from its first entry on.
-use Rattle.std.proofs.Common.{◌≡◌, ℕ, ◌-◌, ◌<◌, ◌≤◌, pos, true, false}
-use Rattle.std.proofs.Common.{List, Option, None, Result, Ok, Err}
+use Rattle.std.proofs.Common.{◌≡◌, ℕ, ◌-◌, ◌<◌, ◌≤◌, pos, true, false, List, Option, None, Ok, Err}
 use Rattle.std.proofs.Common.{refl, ap, ◌∙◌, arith, length, ◌⊎◌, inl, inr, add-zero}
 use Rattle.std.specs.Prelude.{nat_le, nat_lt}
 use Rattle.std.specs.Io.KnownBytes.{Appends}
@@ -8,7 +7,6 @@ use Rattle.std.proofs.lemmas.Bool.{le-leb, lt-ltb, le-ltb, cases_lt}
 use Rattle.gimli_base.specs.declared.error.Error.{Error}
 use Rattle.gimli_base.specs.declared.error.Error.TheVariants.{OffsetOutOfBounds}
 use Rattle.gimli_base.specs.View.{View, cut}
-use Rattle.gimli_base.specs.Abbreviations.{Map}
 use Rattle.gimli_base.specs.Table.{Table, codes_of}
 use Rattle.gimli_units.specs.Entry.{entry_at}
 use Rattle.gimli_units.specs.RawPlace.{RawPlace}
@@ -20,7 +18,6 @@ use Rattle.gimli_headers.proofs.UnitReads.{some_size}
 use Rattle.gimli_walk.specs.Lines.{end_line}
 use Rattle.gimli_walk.specs.Text.{rows_text, unit_text}
 use Rattle.gimli_walk.specs.Stops.{WroteUntil}
-use Rattle.gimli_walk.proofs.RowLines.{text_ended}
 use Rattle.gimli_walk.proofs.StoppedLines.{until_only}
 
 cut_none : (v : View) → cut 0 v ≡ v
@@ -48,41 +45,6 @@ range_nowhere u ge =
     ≡ false = le-ltb (header_size u) (whole_length u) ge in
     rw (first, second) refl
 
--- the bytes from the root on, or none where there is no byte
-range_cases : (u : UnitView)
-    → ((length u.entries.bytes ≡ 0)
-    × (range_from u (header_size u) ≡ Err (OffsetOutOfBounds (header_size u))))
-    ⊎ (range_from u (header_size u) ≡ Ok u.entries)
-range_cases u = elim (cases_lt (header_size u) (whole_length u)) [
-  | inl lt ↦ inr (range_root u lt)
-  | inr ge ↦ inl (omega (arith, ge, some_size u.encoding.format), range_nowhere u ge)
-]
-
--- the bytes from the root on are those of the entries
-pub root_range : (u : UnitView) (v : View) → Ok v ≡ range_from u (header_size u) → v ≡ u.entries
-root_range u v is = elim (range_cases u) [
-  | inl none ↦
-      absurd
-      (let e : ◌≡◌ {A = Result View Error} (Ok v) (Err (OffsetOutOfBounds (header_size u))) =
-      is ∙ none.1 in
-      cc)
-  | inr read ↦
-      (let e : ◌≡◌ {A = Result View Error} (Ok v) (Ok u.entries) = is ∙ read in cc)
-]
-
--- where there are none there is no row
-pub root_no_range : (limit : ℕ) (u : UnitView) (m : Map) (old new : Option (List ℕ)) (e : Error)
-    → Err e ≡ range_from u (header_size u) → Appends old new end_line
-    → WroteUntil old new (unit_text limit u m) (Ok 0)
-root_no_range limit u m old new e is h = elim (range_cases u) [
-  | inl none ↦
-      text_ended (entry_at limit u.encoding m) (whole_length u) old new (pos 0) u.entries none.0 h
-  | inr read ↦
-      absurd
-      (let x : ◌≡◌ {A = Result View Error} (Err e) (Ok u.entries) = is ∙ read in
-      cc)
-]
-
 abbrev root_place : UnitView → Table → RawPlace
 root_place u t =
     record {
@@ -99,9 +61,10 @@ root_cases : (u : UnitView) (t : Table)
     × (entries_from u t None ≡ Err (OffsetOutOfBounds (header_size u))))
     ⊎ (entries_from u t None ≡ Ok (root_place u t))
 unfolding entries_from
-root_cases u t = elim (range_cases u) [
-  | inl none ↦ inl (none.0, ap (entries_in u t) none.1)
-  | inr read ↦ inr (ap (entries_in u t) read)
+root_cases u t = elim (cases_lt (header_size u) (whole_length u)) [
+  | inl lt ↦ inr (ap (entries_in u t) (range_root u lt))
+  | inr ge ↦
+      inl (omega (arith, ge, some_size u.encoding.format), ap (entries_in u t) (range_nowhere u ge))
 ]
 
 module _ (limit : ℕ) (u : UnitView) (t : Table) where

@@ -1,16 +1,15 @@
 -- The lines of rows, as the reading of an entry moves along them.
-use Rattle.std.proofs.Common.{◌≡◌, ℕ, ◌<◌, ℤ, List, Option, Result, Ok, Err, ap, arith, length}
+use Rattle.std.proofs.Common.{◌≡◌, ℕ, ◌<◌, List, Option, Result, Ok, Err, ap, arith, length}
 use Rattle.std.proofs.Common.{length-append}
 use Rattle.std.specs.Io.KnownBytes.{Appends}
 use Rattle.gimli_base.specs.declared.error.Error.{Error}
 use Rattle.gimli_base.specs.Refusal.{number_of}
 use Rattle.gimli_base.specs.View.{View}
-use Rattle.gimli_base.specs.Reading.{Reads}
 use Rattle.gimli_base.specs.Table.{codes_of}
 use Rattle.gimli_units.specs.Entry.{Entry, entry_at}
 use Rattle.gimli_units.proofs.EntryReads.{entry_at-shorter}
 use Rattle.gimli_units.specs.RawPlace.{RawPlace, next_offset_of, depth_after}
-use Rattle.gimli_units.specs.Rows.{Ahead, ahead_at, offset_of_view}
+use Rattle.gimli_units.specs.Rows.{Ahead, ahead_at}
 use Rattle.gimli_units.proofs.RowSteps.{ahead_ended, ahead_refused, ahead_more}
 use Rattle.gimli_walk.specs.declared.lines.Stop.{Stop}
 use Rattle.gimli_walk.specs.declared.lines.Stop.TheVariants.{Memory}
@@ -27,34 +26,6 @@ place_text limit p = rows_text
 pub some_lines_of : (a : Ahead) → 0 < length (rows_text a).lines
 some_lines_of a = simp length-append (omega arith)
 
--- the text of the rows from a view on
-module _ (next : View → Reads Entry) (end : ℕ) (old new : Option (List ℕ)) (depth : ℤ) (v : View) where
-  -- no row is left
-  pub text_ended : length v.bytes ≡ 0 → Appends old new end_line
-      → WroteUntil old new (rows_text (ahead_at next end depth v)) (Ok 0)
-  text_ended none h =
-      rw (ap rows_text (ahead_ended next end depth v none)) (until_only old new end_line 0 h)
-
-  -- a refusal ends the rows
-  pub text_refused : (e : Error) → (length v.bytes ≡ 0 → ⊥) → Err e ≡ next v
-      → Appends old new (error_line_at (number_of e) (offset_of_view end v))
-      → WroteUntil old new (rows_text (ahead_at next end depth v)) (Ok 1)
-  text_refused e some refused h =
-      rw (ap rows_text (ahead_refused next end depth v e some refused))
-      (until_only old new (error_line_at (number_of e) (offset_of_view end v)) 1 h)
-
--- a row's line, and then those of the rows after it
-pub text_more : (next : View → Reads Entry)
-    → ((v w : View) (e : Entry) → Ok (e, w) ≡ next v → length w.bytes < length v.bytes) → (end : ℕ)
-    (old mid new : Option (List ℕ)) (depth : ℤ) (v : View) (e : Entry) (w : View) (r : Result ℕ Stop)
-    → (length v.bytes ≡ 0 → ⊥) → Ok (e, w) ≡ next v
-    → Appends old mid (row_line (offset_of_view end v) depth e.tag.0 e.has_children)
-    → WroteUntil mid new (rows_text (ahead_at next end (depth_after e depth) w)) r
-    → WroteUntil old new (rows_text (ahead_at next end depth v)) r
-text_more next shorter end old mid new depth v e w r some read h rest =
-    rw (ap rows_text (ahead_more next end shorter depth v e w some read))
-    (until_more old mid new _ _ _ r h rest)
-
 module _ (limit : ℕ) (old new : Option (List ℕ)) (p : RawPlace) where
   -- memory was refused before any other line
   pub rows_memory : WroteUntil old old (place_text limit p) (Err Memory)
@@ -66,8 +37,11 @@ module _ (limit : ℕ) (old new : Option (List ℕ)) (p : RawPlace) where
   pub rows_ended : length p.rest.bytes ≡ 0 → Appends old new end_line
       → WroteUntil old new (place_text limit p) (Ok 0)
   rows_ended none h =
-      text_ended (entry_at limit p.encoding (codes_of p.abbreviations)) p.end old new p.depth p.rest
-      none h
+      let e =
+      ap rows_text
+      (ahead_ended (entry_at limit p.encoding (codes_of p.abbreviations)) p.end p.depth p.rest
+      none) in
+      rw e (until_only old new end_line 0 h)
 
   -- a refusal ends the rows
   pub rows_refused : (e : Error) → (length p.rest.bytes ≡ 0 → ⊥)
@@ -75,8 +49,10 @@ module _ (limit : ℕ) (old new : Option (List ℕ)) (p : RawPlace) where
       → Appends old new (error_line_at (number_of e) (next_offset_of p))
       → WroteUntil old new (place_text limit p) (Ok 1)
   rows_refused e some refused h =
-      text_refused (entry_at limit p.encoding (codes_of p.abbreviations)) p.end old new p.depth
-      p.rest e some refused h
+      let is = ap rows_text
+      (ahead_refused (entry_at limit p.encoding (codes_of p.abbreviations)) p.end p.depth p.rest
+      e some refused) in
+      rw is (until_only old new (error_line_at (number_of e) (next_offset_of p)) 1 h)
 
 -- a row's line, and then those of the rows after it
 pub rows_more : (limit : ℕ) (old mid new : Option (List ℕ)) (p : RawPlace) (e : Entry) (w : View)
@@ -87,6 +63,9 @@ pub rows_more : (limit : ℕ) (old mid new : Option (List ℕ)) (p : RawPlace) (
     → WroteUntil mid new (place_text limit (record p { rest = w; depth = depth_after e p.depth })) r
     → WroteUntil old new (place_text limit p) r
 rows_more limit old mid new p e w r some read h rest =
-    text_more (entry_at limit p.encoding (codes_of p.abbreviations))
-    (λ v u x. entry_at-shorter limit p.encoding (codes_of p.abbreviations) v u x) p.end old mid new
-    p.depth p.rest e w r some read h rest
+    let next = entry_at limit p.encoding (codes_of p.abbreviations) in
+    let is = ap rows_text
+    (ahead_more next p.end
+    (λ v u x. entry_at-shorter limit p.encoding (codes_of p.abbreviations) v u x) p.depth p.rest e
+    w some read) in
+    rw is (until_more old mid new _ _ _ r h rest)

@@ -3,27 +3,24 @@
 ghost use Rattle.std.specs.Prelude.{◌≡◌, ◌^◌, IfOk, IfSome, Ok, Err, false};
 ghost use Rattle.gimli_base.specs.declared.common.SectionId.TheVariants.{DebugInfo as InfoSection};
 ghost use Rattle.gimli_base.specs.Abbreviations.{map_at};
-ghost use Rattle.gimli_base.specs.Refusal.{number_of as number_of_error};
+ghost use Rattle.gimli_base.specs.Offset.{answer_of};
+ghost use Rattle.gimli_base.specs.Reading.{UnlessMemory};
 ghost use Rattle.gimli_base.specs.Table.{codes_of};
 ghost use Rattle.gimli_units.specs.UnitHeld.{unit_view};
 ghost use Rattle.gimli_units.specs.UnitKind.{map_type};
 ghost use Rattle.gimli_headers.specs.Units.{units_of};
 ghost use Rattle.gimli_walk.specs.declared.lines.Stop.TheVariants.{Memory};
-ghost use Rattle.gimli_walk.specs.Lines.{one_line, error_line};
-ghost use Rattle.gimli_walk.specs.Text.{Wrote, WroteAll, declared_text, has_unit, little_view};
-ghost use Rattle.gimli_walk.specs.Text.{unit_text};
-ghost use Rattle.gimli_walk.specs.TableCodes.{IsShared};
-ghost use Rattle.gimli_walk.specs.KeptTables.{IsKept};
+ghost use Rattle.gimli_walk.specs.Text.{Wrote, WroteAll, has_unit, little_view};
 ghost use Rattle.gimli_walk.specs.Stops.{WroteUntil};
 ghost use Rattle.gimli_walk.specs.Dump.{type_number as number_of_type, unit_dump, units_dump};
 ghost use Rattle.gimli_walk.specs.Dump.{dump_of};
 
-use crate::kept::{Held, Kept, table_of};
 use crate::lines::{Stop, WriteFault, write_error, write_unit_line};
 use crate::rows::{end_lines, write_rows};
-use crate::shared::Shared;
-use crate::shared_rows::write_shared_rows;
-use gimli_base::{DebugAbbrev, EndianSlice, Error, LittleEndian, Reader, ReaderOffset, Section};
+use gimli_base::{
+    Abbreviations, DebugAbbrev, EndianSlice, Error, LittleEndian, Reader, ReaderOffset, Result,
+    Section,
+};
 use gimli_headers::DebugInfo;
 use gimli_units::{UnitHeader, UnitType};
 use std::alloc::Allocator;
@@ -38,10 +35,6 @@ use std::result::Result as StdResult;
 /// Where memory is refused, whole lines from the front are written and then `error 24`, and the
 /// status is 1. `alloc` is asked for memory only after the first header is read: of an empty
 /// section, and where that header is refused, all lines are written.
-///
-/// Memory is taken for a table of abbreviations. Where units are shorter than their tables, and
-/// such tables were read of four times as many bytes as the section has, it is also taken for what
-/// is declared at each place of the section, and where that is refused tables are read as before.
 ///
 /// Refusal: `WriteFault`, where `out` refuses a write. Nothing more is written then, and nothing is
 /// said of what was written before.
@@ -64,7 +57,7 @@ pub fn dump_text<A: Allocator + Copy, W: Write>(
 }
 
 // Writes the units of a section, and answers the status of their text.
-fn dump_units<R: Reader<Offset = usize>, A: Allocator + Copy, W: Write>(
+fn dump_units<R: Reader, A: Allocator + Copy, W: Write>(
     alloc: A,
     debug_info: &DebugInfo<R>,
     debug_abbrev: &DebugAbbrev<R>,
@@ -72,18 +65,19 @@ fn dump_units<R: Reader<Offset = usize>, A: Allocator + Copy, W: Write>(
 ) -> StdResult<u8, Stop>
     ensures text { let info = ⟦<DebugInfo<R> as Section<R>>⟧.content debug_info.now in
         let declarations = ⟦<DebugAbbrev<R> as Section<R>>⟧.content debug_abbrev.now in
-        let text = units_dump (2 ^ 64) declarations (units_of (2 ^ 64) InfoSection info) in
+        let text = units_dump R.Offset.limit declarations
+        (units_of R.Offset.limit InfoSection info) in
         WroteUntil (W.contents out.old) (W.contents out.new) text result }
     ensures without_memory { let info = ⟦<DebugInfo<R> as Section<R>>⟧.content debug_info.now in
-        has_unit (2 ^ 64) info ≡ false → result ≡ Err Memory → ⊥ }
+        has_unit R.Offset.limit info ≡ false → result ≡ Err Memory → ⊥ }
 {
     let mut units = debug_info.units();
-    let mut kept = Kept::new();
+    let mut held = None;
     let mut status = 0;
     'units: loop {
         match units.next() {
             Ok(Some(unit)) => {
-                let next = dump_unit(alloc, &unit, debug_abbrev, &mut kept, out)?;
+                let next = dump_unit(alloc, &unit, debug_abbrev, &mut held, out)?;
                 status = status.max(next);
             }
             Ok(None) => return Ok(status),
@@ -95,54 +89,41 @@ fn dump_units<R: Reader<Offset = usize>, A: Allocator + Copy, W: Write>(
     }
 }
 
-// Writes a unit, and answers the status of its text.
-fn dump_unit<R: Reader<Offset = usize>, A: Allocator + Copy, W: Write>(
+// A table of abbreviations, and where it begins in its section.
+#[derive(Drop)]
+struct Held<A: Allocator> {
+    offset: u64,
+    table: Abbreviations<A>,
+}
+
+// The table of a unit: that of the unit before, where it begins at the same offset, or else it is
+// read. Refusals: those of `UnitHeader::abbreviations`.
+fn table_of<R: Reader, A: Allocator + Copy>(
     alloc: A,
     unit: &UnitHeader<R>,
     debug_abbrev: &DebugAbbrev<R>,
-    kept: &mut Kept<R, A>,
-    out: &mut W,
-) -> StdResult<u8, Stop>
-    requires kept { let declarations = ⟦<DebugAbbrev<R> as Section<R>>⟧.content debug_abbrev.now in
-        IsKept R.view declarations kept.old }
-    ensures kept { let declarations = ⟦<DebugAbbrev<R> as Section<R>>⟧.content debug_abbrev.now in
-        IsKept R.view declarations kept.new }
-    ensures text { let declarations = ⟦<DebugAbbrev<R> as Section<R>>⟧.content debug_abbrev.now in
-        let text = unit_dump (2 ^ 64) declarations (unit_view unit.now) in
-        WroteUntil (W.contents out.old) (W.contents out.new) text result }
+    before: Option<Held<A>>,
+) -> Result<Held<A>>
+    requires held { let declarations = ⟦<DebugAbbrev<R> as Section<R>>⟧.content debug_abbrev.now in
+        IfSome before (λ h. Ok (codes_of h.table) ≡ map_at h.offset declarations) }
+    ensures table { let declarations = ⟦<DebugAbbrev<R> as Section<R>>⟧.content debug_abbrev.now in
+        UnlessMemory result (answer_of (λ h. codes_of h.table) result
+        ≡ map_at (unit_view unit.now).abbreviations declarations) }
+    ensures offset { IfOk result (λ h. h.offset ≡ (unit_view unit.now).abbreviations) }
 {
-    let offset = unit.offset().0.into_u64();
-    let type_number = number_of(unit.type_());
-    write_unit_line(out, offset, unit.version(), type_number)?;
-    kept.look_ahead(alloc, unit, debug_abbrev);
-    match kept.shared_for(unit) {
-        Some(shared) => dump_shared(unit, shared, out),
-        None => dump_read(alloc, unit, debug_abbrev, &mut kept.held, out),
+    let offset = unit.debug_abbrev_offset().0.into_u64();
+    if let Some(held) = before {
+        if held.offset == offset {
+            return Ok(held);
+        }
     }
+    let table = unit.abbreviations(alloc, debug_abbrev)?;
+    Ok(Held { offset, table })
 }
 
-// Writes the rows of a unit by what is known of the places of its table, and answers the status of
-// their text.
-fn dump_shared<R: Reader<Offset = usize>, A: Allocator + Copy, W: Write>(
-    unit: &UnitHeader<R>,
-    shared: &Shared<R, A>,
-    out: &mut W,
-) -> StdResult<u8, Stop>
-    requires { IsShared R.view shared.now }
-    ensures { let u = unit_view unit.now in
-        let codes = map_at u.abbreviations (R.view shared.now.section) in
-        let text = declared_text (unit_text (2 ^ 64)) u codes in
-        WroteUntil (W.contents out.old) (W.contents out.new) text result }
-{
-    match shared.open(unit.debug_abbrev_offset().0) {
-        Ok(version) => write_shared_rows(unit, shared, version, out),
-        Err(error) => write_refusal(out, error),
-    }
-}
-
-// Writes the rows of a unit by its table, and answers the status of their text. The table of the
-// unit before is held, and then that of this unit, or none where it is refused.
-fn dump_read<R: Reader<Offset = usize>, A: Allocator + Copy, W: Write>(
+// Writes a unit, and answers the status of its text. The table of the unit before is held, and
+// then that of this unit, or none where it is refused.
+fn dump_unit<R: Reader, A: Allocator + Copy, W: Write>(
     alloc: A,
     unit: &UnitHeader<R>,
     debug_abbrev: &DebugAbbrev<R>,
@@ -154,10 +135,12 @@ fn dump_read<R: Reader<Offset = usize>, A: Allocator + Copy, W: Write>(
     ensures held { let declarations = ⟦<DebugAbbrev<R> as Section<R>>⟧.content debug_abbrev.now in
         IfSome held.new (λ h. Ok (codes_of h.table) ≡ map_at h.offset declarations) }
     ensures text { let declarations = ⟦<DebugAbbrev<R> as Section<R>>⟧.content debug_abbrev.now in
-        let u = unit_view unit.now in
-        let text = declared_text (unit_text (2 ^ 64)) u (map_at u.abbreviations declarations) in
+        let text = unit_dump R.Offset.limit declarations (unit_view unit.now) in
         WroteUntil (W.contents out.old) (W.contents out.new) text result }
 {
+    let offset = unit.offset().0.into_u64();
+    let type_number = number_of(unit.type_());
+    write_unit_line(out, offset, unit.version(), type_number)?;
     match table_of(alloc, unit, debug_abbrev, held.take()) {
         Ok(of_unit) => {
             let written = write_rows(unit, &of_unit.table, out);
@@ -165,17 +148,11 @@ fn dump_read<R: Reader<Offset = usize>, A: Allocator + Copy, W: Write>(
             written
         }
         Err(Error::OutOfMemory) => Err(Stop::Memory),
-        Err(error) => write_refusal(out, error),
+        Err(error) => {
+            write_error(out, error)?;
+            Ok(1)
+        }
     }
-}
-
-// Writes the line of a refused table, which stands in place of the rows, and answers its status.
-fn write_refusal<W: Write>(out: &mut W, error: Error) -> StdResult<u8, Stop>
-    ensures { let text = one_line (error_line (number_of_error error)) 1 in
-        WroteUntil (W.contents out.old) (W.contents out.new) text result }
-{
-    write_error(out, error)?;
-    Ok(1)
 }
 
 // The number of a unit's type.

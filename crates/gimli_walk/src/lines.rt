@@ -64,23 +64,6 @@ pub(crate) fn write_row<W: Write>(
         (Appends (W.contents out.old) (W.contents out.new)
         (row_line offset depth tag has_children)) }
 {
-    write_row_in_place(out, line, offset, depth, tag, has_children)
-}
-
-/// The same, laid into its caller: the loop over all rows of a unit.
-#[inline(always)]
-pub(crate) fn write_row_in_place<W: Write>(
-    out: &mut W,
-    line: &mut [u8; 48],
-    offset: u64,
-    depth: isize,
-    tag: u16,
-    has_children: bool,
-) -> Result<(), WriteFault>
-    ensures { OnOk result
-        (Appends (W.contents out.old) (W.contents out.new)
-        (row_line offset depth tag has_children)) }
-{
     let begin = put_row(offset, depth, tag, has_children, line);
     let text: &[u8] = line;
     out.write_all(&text[begin..]).map_err(|_| WriteFault)

@@ -12,7 +12,7 @@ ghost use Rattle.gimli_walk.specs.Lines.{Text};
 ghost use Rattle.gimli_walk.specs.Text.{Wrote, WroteAll, rows_text, unit_text};
 ghost use Rattle.gimli_walk.specs.Stops.{WroteUntil};
 
-use crate::lines::{Stop, WriteFault, write_end, write_error, write_error_at, write_row_in_place};
+use crate::lines::{Stop, WriteFault, write_end, write_error, write_error_at, write_row};
 use gimli_base::{Abbreviation, Abbreviations, Error, Reader, ReaderOffset};
 use gimli_units::{EntriesRaw, UnitHeader};
 use std::alloc::Allocator;
@@ -51,7 +51,7 @@ fn write_rows_left<R: Reader, A: Allocator, W: Write>(
         match entries.read_head() {
             Ok(declared) => {
                 let (tag, has_children) = head_parts(declared);
-                write_row_in_place(out, &mut line, offset, depth, tag, has_children)?;
+                write_row(out, &mut line, offset, depth, tag, has_children)?;
             }
             Err(error) => {
                 write_error_at(out, error, offset)?;

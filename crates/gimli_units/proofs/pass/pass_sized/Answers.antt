@@ -26,7 +26,7 @@ returns-clause-passed g c = λ _ ss well sized.
     let left : c.room-most.result ≤ length v.bytes =
     omega (arith, c.room-most.ensures.within, c.into_u64.ensures.value, c.len.ensures) in
     let there : n ≤ length v.bytes = omega (arith, fits, left) in
-    let any = any_below limit c.args.encoding c.above_any.result c.above_any.ensures
+    let any = any_below limit c.args.encoding c.above_any.result c.above_any.ensures.any
     (omega (arith, c.if-above_any-lt256.false)) in
     rw c.pass_bytes.ensures.left
     (sym

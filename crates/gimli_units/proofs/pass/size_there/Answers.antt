@@ -12,7 +12,7 @@ returns-clause-there g c =
     let left : c.room.result ≤ length v.bytes =
     omega (arith, c.room.ensures.within, c.into_u64.ensures.value, c.len.ensures) in
     let there : n ≤ length v.bytes = omega (arith, fits, left) in
-    let any = any_below limit c.args.encoding c.above_any.result c.above_any.ensures
+    let any = any_below limit c.args.encoding c.above_any.result c.above_any.ensures.any
     (omega (arith, c.if-above_any-lt256.false)) in
     record {
       within = let most = room_most c.room.result c.room.ensures.step in omega (arith, fits, most);

@@ -1,4 +1,4 @@
-use Rattle.std.proofs.Common.{rules, ◌≡◌, ◌∙◌, sym, ap, Ok, Err, ℕ, max, ◌^◌}
+use Rattle.std.proofs.Common.{rules, ◌≡◌, ◌∙◌, sym, ap, Ok, Err, ℕ, max}
 use Rattle.std.proofs.Math.Nat.{max-zero}
 use Rattle.gimli_units.specs.UnitHeld.{unit_view}
 use Rattle.gimli_walk.proofs.Dumps.{dump_ended, dump_refused, dump_more, dump_cut, dump_whole}
@@ -7,7 +7,7 @@ use Rattle.gimli_walk.proofs.dump.dump_units.Goals as goal
 
 pub returns-in_err-next-in-Ok-Some-clause-text : goal.returns-in_err-next-in-Ok-Some-clause-text
 returns-in_err-next-in-Ok-Some-clause-text g c =
-    let limit = (2 ^ 64) in
+    let limit = g.R.Offset.ReaderOffset.limit in
     let declarations = g.R.Reader.view c.args.debug_abbrev.now.section in
     let start = g.W.Write.contents c.args.out.now in
     let out = g.W.Write.contents c.units.out in
@@ -27,12 +27,12 @@ returns-in_err-next-in-Ok-Some-clause-without_memory g c = λ none.
     let one = rw (c.in-Ok-Some.field-0-is, c.units.invariant.first none) at
     c.in-Ok-Some.ensures.value in
     absurd
-    (let k = unit_first (2 ^ 64) _ (unit_view c.in-Ok-Some.unit) _ one in
+    (let k = unit_first g.R.Offset.ReaderOffset.limit _ (unit_view c.in-Ok-Some.unit) _ one in
     cc)
 
 pub units-preserved : goal.units-preserved
 units-preserved g c =
-    let limit = (2 ^ 64) in
+    let limit = g.R.Offset.ReaderOffset.limit in
     let declarations = g.R.Reader.view c.args.debug_abbrev.now.section in
     let start = g.W.Write.contents c.args.out.now in
     let out = g.W.Write.contents c.units.out in
@@ -54,12 +54,12 @@ units-preserved g c =
           let one = rw (c.in-Ok-Some.field-0-is, c.units.invariant.first none) at
           c.in-Ok-Some.ensures.value in
           absurd (let k = unit_first limit _ u _ one in cc);
-      kept = c.dump_unit.ensures.kept;
+      held = c.dump_unit.ensures.held;
     }
 
 pub returns-in-Ok-None-clause-text : goal.returns-in-Ok-None-clause-text
 returns-in-Ok-None-clause-text g c =
-    let limit = (2 ^ 64) in
+    let limit = g.R.Offset.ReaderOffset.limit in
     let declarations = g.R.Reader.view c.args.debug_abbrev.now.section in
     let start = g.W.Write.contents c.args.out.now in
     let out = g.W.Write.contents c.units.out in
@@ -72,7 +72,7 @@ returns-in-Ok-None-clause-text g c =
 
 pub returns-in-Err-clause-text : goal.returns-in-Err-clause-text
 returns-in-Err-clause-text g c =
-    let limit = (2 ^ 64) in
+    let limit = g.R.Offset.ReaderOffset.limit in
     let declarations = g.R.Reader.view c.args.debug_abbrev.now.section in
     let start = g.W.Write.contents c.args.out.now in
     let out = g.W.Write.contents c.units.out in

@@ -1,16 +1,17 @@
-use Rattle.std.proofs.Common.{◌≡◌, ℕ, false, Option, List, Result, length, ◌^◌}
+use Rattle.std.proofs.Common.{◌≡◌, ℕ, false, Option, List, Result, Ok, length, IfSome}
+use Rattle.gimli_base.specs.Abbreviations.{map_at}
+use Rattle.gimli_base.specs.Table.{codes_of}
 use Rattle.gimli_walk.specs.declared.lines.Stop.{Stop}
 use Rattle.gimli_walk.specs.Text.{has_unit}
 use Rattle.gimli_walk.specs.Stops.{WroteUntil}
-use Rattle.gimli_walk.specs.KeptTables.{IsKept}
 use Rattle.gimli_walk.proofs.Dumps.{place_dump, behind_status}
 use Rattle.gimli_walk.proofs.dump.dump_units.Given as goal
 
 -- whatever completes the units that are left completes the whole; where the first is refused no
--- other is read; and what is kept is of the section
+-- other is read; and a table that is held is that of its offset
 abbrev pub invariant-units : goal.invariant-units
 invariant-units g l =
-    let limit = (2 ^ 64) in
+    let limit = g.R.Offset.ReaderOffset.limit in
     let text = place_dump limit (g.R.Reader.view l.debug_abbrev.section) in
     record {
       completes : (final : Option (List ℕ)) (written : Result ℕ Stop)
@@ -19,7 +20,8 @@ invariant-units g l =
           (behind_status l.status written);
       first : has_unit limit (g.R.Reader.view l.debug_info.section) ≡ false
           → l.units ≡ record { rest = g.R.Reader.view l.debug_info.section; offset = 0 };
-      kept : IsKept g.R.Reader.view (g.R.Reader.view l.debug_abbrev.section) l.kept;
+      held : IfSome l.held
+          (λ h. Ok (codes_of h.table) ≡ map_at h.offset (g.R.Reader.view l.debug_abbrev.section));
     }
 
 abbrev pub decreases-units : goal.decreases-units

@@ -47,9 +47,9 @@ rows-preserved g c = λ final written rest.
     ≡ c.next_depth-depth.result = to_z-of_z w64 _ (record { sfits = c.next_depth-depth.type_inv }) in
     let tag = c.head_parts-tag.ensures.tag ∙ ap (λ (x : Head). x.tag.0) h.same in
     let flag = c.head_parts-tag.ensures.flag ∙ ap (λ (x : Head). x.has_children) h.same in
-    let line = rw (offset, back, depth, tag, flag) at c.in_ok-write_row_in_place-in-Ok.ensures in
+    let line = rw (offset, back, depth, tag, flag) at c.in_ok-write_row-in-Ok.ensures in
     c.rows.invariant final written
-    (rows_more limit _ (g.W.Write.contents c.write_row_in_place.new.out) final p h.entry q.rest written some
+    (rows_more limit _ (g.W.Write.contents c.write_row.new.out) final p h.entry q.rest written some
     h.reads line
     (until_same _ final _ _ written (ap (place_text limit) next) rest))
 
