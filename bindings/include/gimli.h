@@ -27,8 +27,10 @@
    times the size, and more for a moment while a list of them is moved. Memory that is refused is
    GIMLI_REFUSED + GIMLI_OUT_OF_MEMORY (280) for the table, and GIMLI_ROW_REFUSED +
    GIMLI_OUT_OF_MEMORY (536) for the attributes of a row, in gimli_entries, gimli_entries_by and
-   gimli_sibling.
-   gimli_first_false takes 24 bytes for each open entry besides, which its 280 may mean. */
+   gimli_sibling: 280 comes only where the table's first declaration is read as far as its
+   attributes, and 536 only where the declaration of a row has attributes.
+   gimli_first_false takes 24 bytes for each open entry besides, where a reference can be followed,
+   which its 280 may mean. */
 #ifndef GIMLI_H
 #define GIMLI_H
 

@@ -18,3 +18,4 @@ pub mod TableTurns
 pub mod Later
 pub mod Taken
 pub mod Passed
+pub mod Memory

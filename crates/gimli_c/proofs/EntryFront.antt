@@ -30,6 +30,7 @@ use Rattle.gimli_c.specs.Entries.{first_wants, wrote, AskMemory, FilledEntries}
 use Rattle.gimli_c.specs.Heads.{AsksMemory}
 use Rattle.gimli_c.proofs.Slots.{slot, written_more}
 use Rattle.gimli_c.proofs.Front.{before_rows, depth_from, depth_near, first_ahead, some_left}
+use Rattle.gimli_c.proofs.Memory.{IsOnward, onward_read}
 
 -- `n` rows and `used` attributes were written, and what is ahead was after them
 pub record EntryFront (limit : ℕ) (base : ℤ) (start now : RawPlace) (old new : List GimliEntry)
@@ -42,6 +43,7 @@ pub record EntryFront (limit : ℕ) (base : ℤ) (start now : RawPlace) (old new
   pub attributes : new_attrs ≡ map attr_of (all_attributes taken) ++ drop used old_attrs
   pub used_is : length (all_attributes taken) ≡ used
   pub space : used ≤ length old_attrs
+  pub onward : IsOnward start now
   pub fits : unsigned_abs base + unsigned_abs now.depth + length now.rest.bytes < 2 ^ 63
 
 flat-append : (xs : List Row) (r : Row) → all_attributes (xs ++ r ∷ []) ≡ all_attributes xs
@@ -212,6 +214,7 @@ module _ (limit : ℕ) (base : ℤ) where
           length-append,
         ) (ap (λ k. k + length e.attributes) f.used_is);
         space = space;
+        onward = onward_read limit start now e w (depth_after e now.depth) f.onward read;
         fits = omega (arith, f.fits, shorter, near);
       }
 

@@ -13,3 +13,4 @@ pub mod TableFront
 pub mod TableLaw
 pub mod ByTable
 pub mod TableSizes
+pub mod Memory

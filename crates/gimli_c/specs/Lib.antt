@@ -9,3 +9,4 @@ pub mod Addresses
 pub mod Lists
 pub mod Tables
 pub mod TableReads
+pub mod Memory

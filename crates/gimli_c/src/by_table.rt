@@ -2,7 +2,7 @@
 
 ghost use Rattle.std.specs.Prelude.{◌≡◌, ◌+◌, ◌-◌, ◌<◌, ◌≤◌, ◌^◌, map, take, drop, length, pos};
 ghost use Rattle.std.specs.Prelude.{◌-ℤ◌, unsigned_abs};
-ghost use Rattle.std.specs.Prelude.{Some, List, [], All, IsOk, IfOk, IfErr, OnErr};
+ghost use Rattle.std.specs.Prelude.{true, Some, List, [], All, IsOk, IfOk, IfErr, OnErr};
 ghost use Rattle.std.specs.Option.{option_map};
 ghost use Rattle.gimli_base.specs.Offset.{answer_of};
 ghost use Rattle.gimli_base.specs.Reading.{read_of, answer_leaving, map_read, UnlessMemory};
@@ -10,7 +10,7 @@ ghost use Rattle.gimli_base.specs.Table.{codes_of};
 ghost use Rattle.gimli_base.specs.Width.{attributes_size};
 ghost use Rattle.gimli_base.specs.declared.error.Error.TheVariants.{OutOfMemory};
 ghost use Rattle.gimli_units.specs.Entry.{Attr, attribute_at, attributes_at};
-ghost use Rattle.gimli_units.specs.Entry.{abbreviation_at, entry_at};
+ghost use Rattle.gimli_units.specs.Entry.{abbreviation_at, entry_at, takes_memory};
 ghost use Rattle.gimli_units.specs.RawPlace.{RawPlace, next_offset_of};
 ghost use Rattle.gimli_units.specs.Sized.{left_by};
 ghost use Rattle.gimli_units.specs.Unit.{whole_length};
@@ -335,6 +335,9 @@ fn read_numbers<R: Reader, A: Allocator>(
     ensures memory { let declared = codes_of (table_in table.entry) in
         IfErr result (λ _. AsksMemory
         (entry_at R.Offset.limit encoding declared (R.view input.old))) }
+    ensures takes { let declared = codes_of (table_in table.entry) in
+        IfErr result (λ e. e ≡ OutOfMemory
+        → takes_memory (abbreviation_at declared (R.view input.old)) ≡ true) }
 {
     numbers.0.clear();
     let Some(declared) = next_declared(input, table)? else {

@@ -1,15 +1,17 @@
 //! Rows with their attributes, filled into what the caller hands over.
 
-ghost use Rattle.std.specs.Prelude.{◌≡◌, ◌+◌, ◌<◌, ◌^◌, length, unsigned_abs};
+ghost use Rattle.std.specs.Prelude.{◌≡◌, ◌+◌, ◌<◌, ◌≤◌, ◌^◌, length, unsigned_abs, Ok};
 ghost use Rattle.gimli_base.specs.Table.{Table, codes_of};
 ghost use Rattle.gimli_units.specs.UnitHeld.{unit_view};
 ghost use Rattle.gimli_headers.specs.Units.{header_at};
 ghost use Rattle.gimli_c.specs.Units.{section_id};
 ghost use Rattle.gimli_c.specs.Heads.{IsOpened};
-ghost use Rattle.gimli_c.specs.Status.{memory_refused};
+ghost use Rattle.gimli_c.specs.Status.{memory_refused, row_memory_refused};
 ghost use Rattle.gimli_c.specs.Tables.{table_in, read_by, NoTableRefused};
 ghost use Rattle.gimli_c.specs.Fronts.{at, ahead_of, unit_ahead, rows_ahead, Resumes};
 ghost use Rattle.gimli_c.specs.Entries.{wrote, FilledEntries, AreTold};
+ghost use Rattle.gimli_c.specs.Memory.{TableMemory, DeclaredTakesMemory, RowTakesMemory};
+ghost use Rattle.gimli_c.specs.Memory.{RowTakesMemoryBy, TakesMemoryAhead};
 
 use crate::attrs::{GimliAttr, Numbers, write_attrs};
 use crate::by_table::entries_by;
@@ -82,6 +84,14 @@ pub(crate) fn read_entries<R: Reader, A: Allocator + Copy>(
         let ahead = rows_ahead R.Offset.limit (section_id sections.now.types)
         (R.view sections.now.units) declarations (R.Offset.number unit) in
         Resumes (ahead place) result.filled.rows (ahead result.place) }
+    ensures memory { let id = section_id sections.now.types in
+        let u = header_at R.Offset.limit id (R.Offset.number unit) (R.view sections.now.units) in
+        let declarations = ⟦<DebugAbbrev<R> as Section<R>>⟧.content sections.now.abbreviations in
+        TableMemory u declarations result.status }
+    ensures row_memory { let id = section_id sections.now.types in
+        let u = header_at R.Offset.limit id (R.Offset.number unit) (R.view sections.now.units) in
+        let declarations = ⟦<DebugAbbrev<R> as Section<R>>⟧.content sections.now.abbreviations in
+        result.status ≡ row_memory_refused → RowTakesMemory u declarations result.place.offset }
 {
     let header = match header_in(&sections.units, sections.types, unit) {
         Ok(header) => header,
@@ -121,6 +131,10 @@ pub(crate) fn read_entries_by<R: Reader, A: Allocator>(
     ensures memory { let id = section_id sections.now.types in
         let u = header_at R.Offset.limit id (R.Offset.number unit) (R.view sections.now.units) in
         NoTableRefused u result.status }
+    ensures row_memory { let id = section_id sections.now.types in
+        let u = header_at R.Offset.limit id (R.Offset.number unit) (R.view sections.now.units) in
+        let declared = codes_of (table_in table.entry) in
+        result.status ≡ row_memory_refused → RowTakesMemoryBy u declared result.place.offset }
 {
     match header_in(&sections.units, sections.types, unit) {
         Ok(header) => {
@@ -161,6 +175,10 @@ fn unit_entries<R: Reader, T: ReadEntries<R> + Drop, A: Allocator>(
         → AreTold (unit_ahead R.Offset.limit u (codes_of t) place) place rows.old attrs.old
         result.place rows.new attrs.new result.filled result.status }
     ensures memory { result.status ≡ memory_refused → ⊥ }
+    ensures row_memory { let u = unit_view unit.now in
+        (t : Table) → IsOpened T.place u t (R.Offset.number offset) opened
+        → result.status ≡ row_memory_refused
+        → DeclaredTakesMemory u (Ok (codes_of t)) result.place.offset }
 {
     let whole = unit.length_including_self().into_u64();
     let start = offset.into_u64();
@@ -193,6 +211,9 @@ fn fill_entries<R: Reader, T: ReadEntries<R>, A: Allocator>(
         FilledEntries ahead rows.old attrs.old result.place rows.new attrs.new
         result.filled result.status }
     ensures memory { result.status ≡ memory_refused → ⊥ }
+    ensures row_memory { let p = T.place entries.old in
+        length p.rest.bytes ≤ p.end → result.status ≡ row_memory_refused
+        → TakesMemoryAhead p result.place.offset }
 {
     let mut numbers = Numbers(Vec::new(alloc));
     let mut count = 0;

@@ -3,8 +3,9 @@
 ghost use Rattle.std.specs.Prelude.{◌≡◌, ℕ};
 ghost use Rattle.gimli_headers.specs.Units.{header_at};
 ghost use Rattle.gimli_c.specs.Units.{section_id};
-ghost use Rattle.gimli_c.specs.Status.{end, UnlessRefused};
+ghost use Rattle.gimli_c.specs.Status.{end, memory_refused};
 ghost use Rattle.gimli_c.specs.Siblings.{read_false, StandsIn, AreHonestIn};
+ghost use Rattle.gimli_c.specs.Memory.{CheckMemory};
 
 use crate::sections::{UnitSections, header_in};
 use crate::status::{END, MORE, refusal_status};
@@ -22,13 +23,17 @@ pub(crate) fn find_false<R: Reader, A: Allocator + Copy>(
     ensures told { let id = section_id sections.now.types in
         let read = header_at R.Offset.limit id (R.Offset.number unit) (R.view sections.now.units) in
         let declarations = ⟦<DebugAbbrev<R> as Section<R>>⟧.content sections.now.abbreviations in
-        UnlessRefused result ((result, offset.new)
-        ≡ read_false R.Offset.limit read declarations offset.old) }
+        (result ≡ memory_refused → ⊥) →
+        (result, offset.new) ≡ read_false R.Offset.limit read declarations offset.old }
     ensures starts { let id = section_id sections.now.types in
         let read = header_at R.Offset.limit id (R.Offset.number unit) (R.view sections.now.units) in
         let declarations = ⟦<DebugAbbrev<R> as Section<R>>⟧.content sections.now.abbreviations in
         result ≡ end → (at : ℕ) → StandsIn R.Offset.limit read declarations at →
         AreHonestIn R.Offset.limit read declarations at }
+    ensures memory { let id = section_id sections.now.types in
+        let read = header_at R.Offset.limit id (R.Offset.number unit) (R.view sections.now.units) in
+        let declarations = ⟦<DebugAbbrev<R> as Section<R>>⟧.content sections.now.abbreviations in
+        CheckMemory R.Offset.limit read declarations result }
 {
     let header = match header_in(&sections.units, sections.types, unit) {
         Ok(header) => header,

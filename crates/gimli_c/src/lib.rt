@@ -5,13 +5,17 @@
 //! of the refusal of a unit, of abbreviations or of an offset, and 512 and that of a row.
 #![tactic(auto)]
 
-ghost use Rattle.std.specs.Prelude.{◌≡◌, ◌<◌, ℕ, take};
+ghost use Rattle.std.specs.Prelude.{◌≡◌, ◌<◌, ◌^◌, ℕ, take};
+ghost use Rattle.gimli_base.specs.Table.{codes_of};
 ghost use Rattle.gimli_c.specs.Units.{units_view, abbreviations_view, unit_told, section_unit};
 ghost use Rattle.gimli_c.specs.Tables.{table_in, table_of, rows_by, IsTableAt, HasTableAt, Serves};
 ghost use Rattle.gimli_c.specs.Tables.{NoTableRefused};
 ghost use Rattle.gimli_c.specs.Fronts.{section_rows, ToldRows, Resumes};
 ghost use Rattle.gimli_c.specs.Entries.{AreTold};
-ghost use Rattle.gimli_c.specs.Status.{more, end, UnlessRefused};
+ghost use Rattle.gimli_c.specs.Status.{more, end, memory_refused, row_memory_refused};
+ghost use Rattle.gimli_c.specs.Status.{UnlessRefused};
+ghost use Rattle.gimli_c.specs.Memory.{TableMemory, RowTakesMemory, RowTakesMemoryBy, RowsTakeMemory};
+ghost use Rattle.gimli_c.specs.Memory.{CheckMemory};
 ghost use Rattle.gimli_c.specs.Siblings.{section_sibling, section_false, IsRowOf, UnitIsHonest};
 ghost use Rattle.gimli_c.specs.Addresses.{section_holding};
 ghost use Rattle.gimli_c.specs.Lists.{section_is_big, range_row, location_row, ranges_at, locations_at};
@@ -66,7 +70,8 @@ pub extern "C" fn gimli_unit(sections: &GimliSections<'_>, offset: u64, unit: &m
 /// Status 0: `rows` is full, and there is more. Status 1: the unit ends after the rows. Status 2:
 /// the depth of the place is out of range. From 512 on: what is read after the rows was refused.
 /// Any other: the unit, its abbreviations or the place's offset was refused. 280 says that memory
-/// was refused for the abbreviations.
+/// was refused for the abbreviations, which comes only where their first declaration is read as far
+/// as its attributes.
 #[unsafe(no_mangle)]
 pub extern "C" fn gimli_rows(
     alloc: Global,
@@ -80,6 +85,8 @@ pub extern "C" fn gimli_rows(
         ToldRows ahead place.old rows.old place.new rows.new count.new result }
     ensures resumes { let ahead = section_rows sections.now unit place.old in
         Resumes ahead count.new (section_rows sections.now unit place.new) }
+    ensures memory { let u = section_unit sections.now unit in
+        TableMemory u (abbreviations_view sections.now) result }
 {
     let unit = unit as usize;
     let offset = place.offset as usize;
@@ -98,7 +105,8 @@ pub extern "C" fn gimli_rows(
 /// The same with the attributes of each row in `attrs`; `filled` says how many of each were
 /// written. A row whose attributes have no space left is not written, nor are those after it, and
 /// the place is at it; the status is then 0, and `filled.wanted` is the number of its attributes.
-/// 536 says that memory was refused for the attributes of a row; the place is then after the rows.
+/// 536 says that memory was refused for the attributes of a row; the place is then after the rows,
+/// at one whose declaration has attributes.
 #[unsafe(no_mangle)]
 pub extern "C" fn gimli_entries(
     alloc: Global,
@@ -114,6 +122,11 @@ pub extern "C" fn gimli_entries(
         result }
     ensures resumes { let ahead = section_rows sections.now unit place.old in
         Resumes ahead filled.new.rows (section_rows sections.now unit place.new) }
+    ensures memory { let u = section_unit sections.now unit in
+        TableMemory u (abbreviations_view sections.now) result }
+    ensures row_memory { let u = section_unit sections.now unit in
+        result ≡ row_memory_refused
+        → RowTakesMemory u (abbreviations_view sections.now) place.new.offset }
 {
     let unit = unit as usize;
     let offset = place.offset as usize;
@@ -211,7 +224,8 @@ pub extern "C" fn gimli_rows_by(
 }
 
 /// The same as `gimli_entries` by a table in the caller's buffers, as `gimli_rows_by`. Memory is
-/// asked for the attributes of a row alone.
+/// asked for the attributes of a row alone: status 280 does not come, and 536 only where the
+/// declaration of the row at the place has attributes.
 #[unsafe(no_mangle)]
 pub extern "C" fn gimli_entries_by(
     alloc: Global,
@@ -229,6 +243,9 @@ pub extern "C" fn gimli_entries_by(
     ensures resumes { let ahead = rows_by sections.now unit (table_in table.now) in
         Resumes (ahead place.old) filled.new.rows (ahead place.new) }
     ensures memory { NoTableRefused (section_unit sections.now unit) result }
+    ensures row_memory { let u = section_unit sections.now unit in
+        let declared = codes_of (table_in table.now) in
+        result ≡ row_memory_refused → RowTakesMemoryBy u declared place.new.offset }
 {
     let unit = unit as usize;
     let offset = place.offset as usize;
@@ -255,8 +272,9 @@ pub extern "C" fn gimli_entries_by(
 /// Status 0: `row` is the sibling, where references are honest or none is followed; whatever they
 /// are, it stands behind the place. Otherwise `row` is as it was. Status 1: there is none, or a
 /// null stands at the place. From 512 on: what is read at the place or after it was refused. Any
-/// other: the unit, its abbreviations or the offset was refused. 280 and 536 say that memory was
-/// refused.
+/// other: the unit, its abbreviations or the offset was refused. 280 says that memory was refused
+/// for the abbreviations, as at `gimli_rows`, and 536 that it was for the attributes of an entry at
+/// the place or after it, which comes only where a declaration there has attributes.
 #[unsafe(no_mangle)]
 pub extern "C" fn gimli_sibling(
     alloc: Global,
@@ -274,6 +292,11 @@ pub extern "C" fn gimli_sibling(
         UnlessRefused result ((result, row.new)
         ≡ section_sibling sections.now unit place.now.offset place.now.depth row.old) }
     ensures kept { (result ≡ more → ⊥) → row.new ≡ row.old }
+    ensures memory { let u = section_unit sections.now unit in
+        TableMemory u (abbreviations_view sections.now) result }
+    ensures row_memory { let u = section_unit sections.now unit in
+        result ≡ row_memory_refused
+        → RowsTakeMemory u (abbreviations_view sections.now) place.now.offset }
 {
     let unit = unit as usize;
     let offset = place.offset as usize;
@@ -293,7 +316,8 @@ pub extern "C" fn gimli_sibling(
 ///
 /// Status 0: it stands at `offset`. Otherwise `offset` is as it was. Status 1: there is none, so
 /// from each row of the unit references may be followed. Any other: the unit or its abbreviations
-/// were refused. 280 says that memory was refused.
+/// were refused. 280 says that memory was refused: for the abbreviations, as at `gimli_rows`, or
+/// for the check, which asks for some only where a reference can be followed. 536 does not come.
 #[unsafe(no_mangle)]
 pub extern "C" fn gimli_first_false(
     alloc: Global,
@@ -301,10 +325,12 @@ pub extern "C" fn gimli_first_false(
     unit: u64,
     offset: &mut u64,
 ) -> u32
-    ensures told { UnlessRefused result ((result, offset.new)
-        ≡ section_false sections.now unit offset.old) }
+    ensures told { (result ≡ memory_refused → ⊥) →
+        (result, offset.new) ≡ section_false sections.now unit offset.old }
     ensures starts { result ≡ end → (at : ℕ) → IsRowOf sections.now unit at →
         UnitIsHonest sections.now unit at }
+    ensures memory { let u = section_unit sections.now unit in
+        CheckMemory (2 ^ 64) u (abbreviations_view sections.now) result }
 {
     let unit = unit as usize;
     if sections.big == 0 {

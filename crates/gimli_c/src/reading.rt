@@ -1,10 +1,10 @@
 //! Entries that are read one after the other, each into what a row tells of it.
 
-ghost use Rattle.std.specs.Prelude.{◌≡◌, ◌≢◌, ◌↔◌, [], map, length};
+ghost use Rattle.std.specs.Prelude.{◌≡◌, ◌≢◌, ◌↔◌, true, [], map, length};
 ghost use Rattle.std.specs.Prelude.{IsTrue, IsOk, IfOk, IfErr, OnErr};
 ghost use Rattle.gimli_base.specs.Table.{codes_of};
 ghost use Rattle.gimli_base.specs.Reading.{read_of, answer_leaving, map_read, UnlessMemory};
-ghost use Rattle.gimli_units.specs.Entry.{attributes_at, entry_at};
+ghost use Rattle.gimli_units.specs.Entry.{attributes_at, abbreviation_at, entry_at, takes_memory};
 ghost use Rattle.gimli_units.specs.RawPlace.{RawPlace, next_offset_of};
 ghost use Rattle.gimli_base.specs.declared.error.Error.TheVariants.{OutOfMemory};
 ghost use Rattle.gimli_c.specs.Attrs.{attr_of};
@@ -77,7 +77,7 @@ pub(crate) trait ReadEntries<R: Reader> {
         ensures remembered { remembers self.new memo.new };
 
     /// Reads the next entry, and keeps its head, and its attributes in place of those in `numbers`.
-    /// Refused as reading the entry is, or for memory.
+    /// Refused as reading the entry is; or for memory, only where its declaration has attributes.
     fn read<A: Allocator>(&mut self, numbers: &mut Numbers<A>) -> Result<Head>
         ensures past { IfOk result (λ head. IsReadWith R.Offset.limit (place self.old) head
             numbers.new.0.items (place self.new)) }
@@ -87,6 +87,9 @@ pub(crate) trait ReadEntries<R: Reader> {
         ensures memory { let p = place self.old in
             IfErr result (λ _. AsksMemory
             (entry_at R.Offset.limit p.encoding (codes_of p.abbreviations) p.rest)) }
+        ensures takes { let p = place self.old in
+            IfErr result (λ e. e ≡ OutOfMemory
+            → takes_memory (abbreviation_at (codes_of p.abbreviations) p.rest) ≡ true) }
         ensures kept { OnErr result (place self.new ≡ place self.old) };
 }
 
@@ -168,6 +171,9 @@ fn read_numbers<R: Reader, A: Allocator, B: Allocator>(
         entries.old.rest) }
     ensures memory { IfErr result (λ _. AsksMemory (entry_at R.Offset.limit entries.old.encoding
         (codes_of entries.old.abbreviations) entries.old.rest)) }
+    ensures takes { let declared = codes_of entries.old.abbreviations in
+        IfErr result (λ e. e ≡ OutOfMemory
+        → takes_memory (abbreviation_at declared entries.old.rest) ≡ true) }
     ensures kept { OnErr result (entries.new ≡ entries.old) }
 {
     numbers.0.clear();

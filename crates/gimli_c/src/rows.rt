@@ -12,6 +12,7 @@ ghost use Rattle.gimli_c.specs.Status.{memory_refused};
 ghost use Rattle.gimli_c.specs.Tables.{table_in, read_by, NoTableRefused};
 ghost use Rattle.gimli_c.specs.Fronts.{at, ahead_of, unit_ahead, rows_ahead, Filled, ToldRows};
 ghost use Rattle.gimli_c.specs.Fronts.{Resumes};
+ghost use Rattle.gimli_c.specs.Memory.{TableMemory};
 
 use crate::by_table::entries_by;
 use crate::reading::ReadEntries;
@@ -73,6 +74,10 @@ pub(crate) fn read_rows<R: Reader, A: Allocator + Copy>(
         let ahead = rows_ahead R.Offset.limit (section_id sections.now.types)
         (R.view sections.now.units) declarations (R.Offset.number unit) in
         Resumes (ahead place) result.count (ahead result.place) }
+    ensures memory { let id = section_id sections.now.types in
+        let u = header_at R.Offset.limit id (R.Offset.number unit) (R.view sections.now.units) in
+        let declarations = ⟦<DebugAbbrev<R> as Section<R>>⟧.content sections.now.abbreviations in
+        TableMemory u declarations result.status }
 {
     let header = match header_in(&sections.units, sections.types, unit) {
         Ok(header) => header,

@@ -1,6 +1,6 @@
 //! The next sibling of a row.
 
-ghost use Rattle.std.specs.Prelude.{◌≡◌, ◌<◌, ◌≤◌, true, false, Some, Ok};
+ghost use Rattle.std.specs.Prelude.{◌≡◌, ℕ, ◌<◌, ◌≤◌, length, true, false, Some, Ok, IfErr};
 ghost use Rattle.gimli_base.specs.Table.{codes_of};
 ghost use Rattle.gimli_units.specs.CursorMoves.{place_of, Goes, IsHonestFor};
 ghost use Rattle.gimli_units.specs.CursorPlace.{next_of_depth};
@@ -8,12 +8,14 @@ ghost use Rattle.gimli_units.specs.Entry.{is_null};
 ghost use Rattle.gimli_units.specs.RawPlace.{next_offset_of};
 ghost use Rattle.gimli_units.specs.UnitHeld.{unit_view};
 ghost use Rattle.gimli_units.specs.UnitRows.{IsHonestFrom, start_view};
-ghost use Rattle.gimli_units.specs.CursorMoves.{IsHonestCursor};
+ghost use Rattle.gimli_units.specs.CursorMoves.{IsHonestCursor, IsRefused};
 ghost use Rattle.gimli_base.specs.Reading.{UnlessMemory};
 ghost use Rattle.gimli_headers.specs.Units.{header_at};
 ghost use Rattle.gimli_c.specs.Units.{section_id};
-ghost use Rattle.gimli_c.specs.Status.{more, UnlessRefused};
+ghost use Rattle.gimli_c.specs.Status.{more, memory_refused, row_memory_refused, UnlessRefused};
 ghost use Rattle.gimli_c.specs.Siblings.{place_sibling, unit_sibling, read_sibling, AreHonestIn};
+ghost use Rattle.gimli_c.specs.Memory.{TableMemory, DeclaredTakesMemoryFrom, RowsTakeMemory};
+ghost use Rattle.gimli_c.specs.Memory.{TakesMemoryAhead};
 
 use crate::rows::GimliRow;
 use crate::sections::{UnitSections, header_in};
@@ -41,6 +43,14 @@ pub(crate) fn find_sibling<R: Reader, A: Allocator + Copy>(
         ≡ read_sibling R.Offset.limit read declarations number depth row.old) }
     ensures kept { (result ≡ more → ⊥) → row.new ≡ row.old }
     ensures behind { result ≡ more → R.Offset.number offset < row.new.offset }
+    ensures memory { let id = section_id sections.now.types in
+        let read = header_at R.Offset.limit id (R.Offset.number unit) (R.view sections.now.units) in
+        let declarations = ⟦<DebugAbbrev<R> as Section<R>>⟧.content sections.now.abbreviations in
+        TableMemory read declarations result }
+    ensures row_memory { let id = section_id sections.now.types in
+        let read = header_at R.Offset.limit id (R.Offset.number unit) (R.view sections.now.units) in
+        let declarations = ⟦<DebugAbbrev<R> as Section<R>>⟧.content sections.now.abbreviations in
+        result ≡ row_memory_refused → RowsTakeMemory read declarations (R.Offset.number offset) }
 {
     let header = match header_in(&sections.units, sections.types, unit) {
         Ok(header) => header,
@@ -70,6 +80,10 @@ fn find_in_unit<R: Reader, A: Allocator + Copy>(
         ≡ unit_sibling R.Offset.limit u (codes_of table.now) number depth row.old) }
     ensures kept { (result ≡ more → ⊥) → row.new ≡ row.old }
     ensures behind { result ≡ more → R.Offset.number offset < row.new.offset }
+    ensures memory { result ≡ memory_refused → ⊥ }
+    ensures row_memory { let u = unit_view unit.now in
+        result ≡ row_memory_refused
+        → DeclaredTakesMemoryFrom u (Ok (codes_of table.now)) (R.Offset.number offset) }
 {
     let cursor = if follows {
         unit.entries_at_offset(alloc, table, UnitOffset(offset))
@@ -93,6 +107,10 @@ fn find_behind<R: Reader, A: Allocator>(
         ≡ place_sibling cursor.old.raw.end (place_of R.Offset.limit cursor.old) depth row.old) }
     ensures kept { (result ≡ more → ⊥) → row.new ≡ row.old }
     ensures behind { result ≡ more → next_offset_of cursor.old.raw < row.new.offset }
+    ensures memory { result ≡ memory_refused → ⊥ }
+    ensures row_memory { let p = cursor.old.raw in
+        length p.rest.bytes ≤ p.end → result ≡ row_memory_refused
+        → (at : ℕ) × TakesMemoryAhead p at }
 {
     match cursor.next_entry() {
         Ok(_) => {}
@@ -125,6 +143,7 @@ fn step<R: Reader, A: Allocator>(cursor: &mut EntriesCursor<'_, R, A>) -> Result
         IsHonestFor R.Offset.limit cursor.old.depth cursor.old) →
         let goes = Goes R.Offset.limit (next_of_depth cursor.old.raw.end) in
         UnlessMemory result (goes cursor.old result cursor.new) }
+    ensures refused { IfErr result (λ e. IsRefused R.Offset.limit cursor.old e cursor.new) }
 {
     match cursor.next_sibling() {
         Ok(entry) => Ok(entry.is_some()),

@@ -2,7 +2,9 @@
 -- answers.
 use Rattle.std.proofs.Common.{◌≡◌, ℕ, ℤ, pos, ◌+ℤ◌, ◌-ℤ◌, Bool, true, false, List, [], ◌∷◌, ◌++◌}
 use Rattle.std.proofs.Common.{length, Option, Some, None, Result, Ok, Err, refl, sym, ap, ◌∙◌}
-use Rattle.std.proofs.Common.{arith}
+use Rattle.std.proofs.Common.{arith, subst}
+use Rattle.std.specs.List.{All}
+use Rattle.std.proofs.lemmas.List.Elements.{All-head, All-tail}
 use Rattle.std.specs.Prelude.{◌≤ℤ◌, ◌≢◌, not, is_some, IfOk, IfSome, OnOk}
 use Rattle.std.specs.Option.{is_none, option_copied}
 use Rattle.std.proofs.Common.{Bor}
@@ -162,3 +164,19 @@ module _ (limit : ℕ) (p : RawPlace) where
       r.entry q.rest some reads)
       ∙ ap (λ (x : Row). x ∷ (rows_of limit left).rows) row
       ∙ ap (λ (y : RawPlace). r ∷ (rows_of limit y).rows) (sym next)
+
+-- where no row has a reference that can be followed, neither has the first, nor one after it
+abbrev pub NoneLeads : ℕ → List Row → Type 0
+NoneLeads end rows = All (λ r. usable_target end r ≡ None) rows
+
+pub none_first : (end : ℕ) (rows : List Row) (r : Row) (rest : List Row) → rows ≡ r ∷ rest
+    → NoneLeads end rows → usable_target end r ≡ None
+none_first end rows r rest is none =
+    let P : Row → Type 0 = λ x. usable_target end x ≡ None in
+    All-head P r rest (subst (All P) is none)
+
+pub none_after : (end : ℕ) (rows : List Row) (r : Row) (rest : List Row) → rows ≡ r ∷ rest
+    → NoneLeads end rows → NoneLeads end rest
+none_after end rows r rest is none =
+    let P : Row → Type 0 = λ x. usable_target end x ≡ None in
+    All-tail P r rest (subst (All P) is none)

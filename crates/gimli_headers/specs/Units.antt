@@ -5,7 +5,7 @@ use Rattle.gimli_base.specs.Address.{without_rest}
 use Rattle.gimli_base.specs.declared.common.SectionId.{SectionId}
 use Rattle.gimli_base.specs.declared.error.Error.{Error}
 use Rattle.gimli_base.specs.View.{View, cut, end_of_view}
-use Rattle.gimli_base.specs.Reading.{Reads, ◌>>=◌, skip_at}
+use Rattle.gimli_base.specs.Reading.{◌>>=◌, skip_at}
 use Rattle.gimli_base.specs.Chain.{Chain, no_item, then_item, chain}
 use Rattle.gimli_units.specs.Unit.{UnitView, whole_length, header_size, size_of_header}
 use Rattle.gimli_headers.specs.Header.{unit_at}

@@ -1,14 +1,14 @@
 //! The check of sibling references.
 
 ghost use Rattle.std.specs.Prelude.{◌≡◌, ℕ, pos, ◌-ℤ◌, ◌++◌, ◌↔◌, List, [], ◌∷◌, None, Ok, true};
-ghost use Rattle.std.specs.Prelude.{IfOk, IfErr, IfSome, OnOk};
+ghost use Rattle.std.specs.Prelude.{All, IsOk, IfOk, IfErr, IfSome, OnOk};
 ghost use Rattle.std.specs.Option.{option_map};
 ghost use Rattle.gimli_base.specs.declared.error.Error.TheVariants.{OutOfMemory};
 ghost use Rattle.gimli_base.specs.Table.{codes_of};
 ghost use Rattle.gimli_units.specs.Entry.{is_null};
 ghost use Rattle.gimli_units.specs.RawPlace.{depth_after};
 ghost use Rattle.gimli_units.specs.Rows.{Row};
-ghost use Rattle.gimli_units.specs.Honest.{within};
+ghost use Rattle.gimli_units.specs.Honest.{within, usable_target};
 ghost use Rattle.gimli_units.specs.CursorMoves.{rows_of};
 ghost use Rattle.gimli_units.specs.Unit.{whole_length};
 ghost use Rattle.gimli_units.specs.UnitHeld.{unit_view};
@@ -159,6 +159,9 @@ fn go_behind<Offset: ReaderOffset, A: Allocator>(
         IsPassedRow Offset.number passed.now (Offset.number behind.0) r →
         Rise (depth_after r.entry r.depth) (check_held Offset.number check.new).opens) }
     ensures refusal { IfErr result (λ e. e ≡ OutOfMemory) }
+    ensures without_memory { (r : Row) →
+        IsPassedRow Offset.number passed.now (Offset.number behind.0) r →
+        usable_target (Offset.number end.0) r ≡ None → IsOk result }
 {
     if passed.is_null {
         check.close(passed.depth, behind);
@@ -185,6 +188,8 @@ fn first_false_ahead<R: Reader, A: Allocator>(
         let first = first_false entries.old.end rows in
         IfOk result (λ o. option_map (λ x. R.Offset.number x.0) o ≡ first) }
     ensures refusal { IfErr result (λ e. e ≡ OutOfMemory) }
+    ensures without_memory { let rows = (rows_of R.Offset.limit entries.old).rows in
+        All (λ r. usable_target entries.old.end r ≡ None) rows → IsOk result }
 {
     let mut check = Check::new(alloc);
     'rows: while !entries.is_empty() {
@@ -210,7 +215,8 @@ fn first_false_ahead<R: Reader, A: Allocator>(
 /// lead just past the null that closes its children, also where there is no such null; or none.
 ///
 /// There is none exactly where the rows of the unit are honest, and they are then honest from the
-/// offset of each on. Rows before a refusal of bytes are judged. Refusal: `OutOfMemory`.
+/// offset of each on. Rows before a refusal of bytes are judged. Refusal: `OutOfMemory`, only where
+/// a reference can be followed.
 pub fn first_false_sibling<R: Reader, A: Allocator + Copy>(
     alloc: A,
     unit: &UnitHeader<R>,
@@ -232,6 +238,9 @@ pub fn first_false_sibling<R: Reader, A: Allocator + Copy>(
         result ≡ Ok None → (offset : ℕ) → StandsAt offset (unit_rows R.Offset.limit u declared) →
         IsHonestFrom R.Offset.limit u declared (start_view u (Some offset)) }
     ensures refusal { IfErr result (λ e. e ≡ OutOfMemory) }
+    ensures without_memory { let u = unit_view unit.now in
+        let rows = unit_rows R.Offset.limit u (codes_of abbreviations.now) in
+        All (λ r. usable_target (whole_length u) r ≡ None) rows → IsOk result }
 {
     match unit.entries_raw(abbreviations, None) {
         Ok(mut entries) => {

@@ -31,7 +31,10 @@ use Rattle.gimli_walk.specs.declared.mode.Mode.TheVariants.{Rows, Check, Cursor,
 use Rattle.gimli_walk.proofs.AnswerLines.{if_ok}
 use Rattle.std.specs.Prelude.{IfOk}
 use Rattle.gimli_walk.specs.Lines.{Text, error_line, memory_line}
-use Rattle.gimli_walk.specs.Text.{Wrote, WroteText, wrote, no_line, declared_text, mode_text}
+use Rattle.gimli_walk.specs.Text.{Wrote, WroteAll, WroteText, wrote, no_line, declared_text}
+use Rattle.gimli_walk.specs.Text.{mode_text, is_rows, declared_may_take}
+use Rattle.std.specs.Prelude.{not}
+use Rattle.std.proofs.lemmas.List.{append-nil}
 use Rattle.gimli_walk.specs.Text.{IsHonestMode, IsHonestDeclared, WroteTrueMode, WroteTrueDeclared}
 use Rattle.gimli_walk.specs.declared.cursor.CursorStep.{CursorStep}
 use Rattle.gimli_units.specs.UnitRows.{unit_rows_at}
@@ -96,6 +99,33 @@ pub walked_declared : {E : Type 0}
 walked_declared limit mode u declared m old new r is h walked =
     let honest = rw (← is) at h in
     rw (← is) (if_ok r (λ status w. wrote w) (walked honest))
+
+-- all lines are written, where declarations are refused for their bytes
+pub undeclared_all : (old new : Option (List ℕ)) (text : UnitView → Map → Text) (u : UnitView)
+    (m : Result Map Error) (e : Error)
+    → Err e ≡ m → Appends old new (error_line (number_of e))
+    → WroteAll old new (declared_text text u m) 1
+undeclared_all old new text u m e is h =
+    rw (← is) (record { lines = rw append-nil h; same_status = refl })
+
+-- and where rows are written by declarations that were read
+pub walked_all : {E : Type 0}
+    → (limit : ℕ) (mode : Mode) (u : UnitView) (declared : Map) (m : Result Map Error)
+    (old new : Option (List ℕ)) (r : Result ℕ E) → Ok declared ≡ m
+    → declared_may_take mode m ≡ false
+    → (is_rows mode ≡ true
+    → IfOk r (λ status. WroteAll old new (mode_text limit mode u declared) status))
+    → IfOk r (λ status. WroteAll old new (declared_text (mode_text limit mode) u m) status)
+walked_all limit mode u declared m old new r is idle walked =
+    let rows = rw (← is) at idle in
+    rw (← is) (walked (rows_alone mode rows))
+  where
+    rows_alone : (x : Mode) → not (is_rows x) ≡ false → is_rows x ≡ true
+    rows_alone Rows h = refl
+    rows_alone Check h = absurd (cc)
+    rows_alone (Cursor steps) h = absurd (cc)
+    rows_alone (Plain steps) h = absurd (cc)
+    rows_alone (Tree steps) h = absurd (cc)
 
 -- what is said of all answers holds where there are none
 no_steps : (limit : ℕ) (u : UnitView) (declared : Map) (follows : Bool) (p : Place)

@@ -1,28 +1,31 @@
 -- The lines of a dump, unit by unit.
-use Rattle.std.proofs.Common.{◌≡◌, ℕ, ◌+◌, ◌<◌, ◌≤◌, max, Bool, true, false, pos, List, [], ◌∷◌}
+use Rattle.std.proofs.Common.{◌≡◌, ℕ, ◌+◌, ◌<◌, ◌≤◌, max, false, pos, List, [], ◌∷◌}
 use Rattle.std.proofs.Common.{sym, ◌++◌, Option, None, Some, refl, ap, ◌∙◌, arith, length}
 use Rattle.std.proofs.Common.{length-append, Result, Ok, Err, subst}
 use Rattle.std.proofs.lemmas.List.{append-nil, take-append-le}
 use Rattle.std.proofs.lemmas.List.Folds.{concat-append}
 use Rattle.std.proofs.Math.Seq.{take-append-add}
-use Rattle.std.specs.Prelude.{take, if◌then◌else◌, ◌==◌}
-use Rattle.std.specs.List.{concat}
+use Rattle.std.specs.Prelude.{take, ◌^◌}
+use Rattle.std.specs.List.{All, concat}
 use Rattle.std.specs.Io.KnownBytes.{Appends}
 use Rattle.gimli_base.specs.declared.common.SectionId.TheVariants.{DebugInfo}
 use Rattle.gimli_base.specs.declared.error.Error.{Error}
 use Rattle.gimli_base.specs.Refusal.{number_of}
-use Rattle.gimli_base.specs.Reading.{Reads}
-use Rattle.gimli_base.specs.View.{View, end_of_view}
+use Rattle.gimli_base.specs.View.{View}
 use Rattle.gimli_base.specs.Abbreviations.{Map}
 use Rattle.gimli_units.specs.Entry.{entry_at}
 use Rattle.gimli_units.specs.Rows.{ahead_at}
 use Rattle.gimli_units.specs.Unit.{UnitView, whole_length}
-use Rattle.gimli_headers.specs.Header.{unit_at}
-use Rattle.gimli_headers.specs.Units.{UnitsPlace, next_unit, units_ahead, units_of, before_units}
+use Rattle.gimli_headers.specs.Units.{Units, UnitsPlace, units_ahead, units_of, before_units}
 use Rattle.gimli_walk.specs.declared.lines.Stop.{Stop}
 use Rattle.gimli_walk.specs.declared.lines.Stop.TheVariants.{Memory, Write}
 use Rattle.gimli_walk.specs.Lines.{Text, error_line}
-use Rattle.gimli_walk.specs.Text.{WroteAll, has_unit, is_read, declared_text, unit_text}
+use Rattle.gimli_walk.specs.Text.{WroteAll, declared_text, unit_text, unit_takes_memory}
+use Rattle.gimli_walk.specs.Text.{little_view}
+use Rattle.gimli_walk.specs.Dump.{dump_of}
+use Rattle.gimli_base.specs.Chain.{chain, chain_within, no_item}
+use Rattle.gimli_headers.specs.Units.{unit_or_end}
+use Rattle.std.proofs.lemmas.List.Elements.{All-head, All-tail}
 use Rattle.gimli_walk.specs.Stops.{WroteFront, WroteUntil}
 use Rattle.gimli_walk.specs.Dump.{led_by, join_texts, unit_dump, units_dump}
 use Rattle.gimli_walk.proofs.WrittenLines.{Appends-trans, Appends-none}
@@ -128,25 +131,42 @@ pub until_outcome : (a b : Option (List ℕ)) (t : Text) (r q : Result ℕ Stop)
 until_outcome a b t r q is wrote = let P : Result ℕ Stop → Type 0 = λ x. WroteUntil a b t x in
     subst P is wrote
 
--- where a unit is read first, there is one
-pub unit_first : (limit : ℕ) (v : View) (u : UnitView) (next : UnitsPlace)
-    → (Ok (Some u), next) ≡ next_unit limit DebugInfo (record { rest = v; offset = 0 })
-    → has_unit limit v ≡ true
-unfolding next_unit
-unit_first limit v u next is = cases (length v.bytes == 0) (unit_at limit DebugInfo 0 v) is
-  where
-    cases : (none : Bool) (r : Reads UnitView)
-        → ◌≡◌ {A = Result (Option UnitView) Error × UnitsPlace} (Ok (Some u), next)
-        (if none then (Ok None, record { rest = v; offset = 0 }) else elim r [
-          | Ok q ↦ (Ok (Some q.0), record { rest = q.1; offset = 0 + whole_length q.0 })
-          | Err e ↦ (Err e, record { rest = end_of_view v; offset = 0 })
-        ])
-        → is_read r ≡ true
-    cases true r h = absurd
-        (let k = ap (λ (x : Result (Option UnitView) Error × UnitsPlace). x.0) h in cc)
-    cases false (Ok q) h = refl
-    cases false (Err e) h =
-        absurd (let k = ap (λ (x : Result (Option UnitView) Error × UnitsPlace). x.0) h in cc)
+-- an empty section has no units
+no_units : (limit : ℕ) (v : View) → length v.bytes ≡ 0
+    → units_of limit DebugInfo v ≡ no_item None
+unfolding units_ahead chain chain_within unit_or_end
+no_units limit v none = rw none refl
+
+-- and its dump no lines
+pub nothing_dumped : (info abbreviations old : List ℕ) → length info ≡ 0
+    → WroteAll (Some old) (Some old) (dump_of info abbreviations) 0
+nothing_dumped info abbreviations old none =
+    rw (no_units (2 ^ 64) (little_view info) none)
+    (record { lines = Appends-none (Some old); same_status = refl })
+
+-- the tables of these units take no memory
+abbrev pub NoneTakes : View → List UnitView → Type 0
+NoneTakes abbreviations us = All (λ u. unit_takes_memory abbreviations u ≡ false) us
+
+-- where those of the units that are ahead take none, neither does that of the first
+pub first_takes_none : (limit : ℕ) (abbreviations : View) (p next : UnitsPlace) (u : UnitView)
+    → units_ahead limit DebugInfo p ≡ before_units (Ok (Some u)) (units_ahead limit DebugInfo next)
+    → NoneTakes abbreviations (units_ahead limit DebugInfo p).items
+    → unit_takes_memory abbreviations u ≡ false
+first_takes_none limit abbreviations p next u is none =
+    let P : UnitView → Type 0 = λ x. unit_takes_memory abbreviations x ≡ false in
+    All-head P u (units_ahead limit DebugInfo next).items
+    (subst (λ (a : Units). All P a.items) is none)
+
+-- nor one of those after it
+pub others_take_none : (limit : ℕ) (abbreviations : View) (p next : UnitsPlace) (u : UnitView)
+    → units_ahead limit DebugInfo p ≡ before_units (Ok (Some u)) (units_ahead limit DebugInfo next)
+    → NoneTakes abbreviations (units_ahead limit DebugInfo p).items
+    → NoneTakes abbreviations (units_ahead limit DebugInfo next).items
+others_take_none limit abbreviations p next u is none =
+    let P : UnitView → Type 0 = λ x. unit_takes_memory abbreviations x ≡ false in
+    All-tail P u (units_ahead limit DebugInfo next).items
+    (subst (λ (a : Units). All P a.items) is none)
 
 module _ (limit : ℕ) (u : UnitView) where
   -- a unit whose declarations were read

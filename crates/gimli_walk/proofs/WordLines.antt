@@ -1,7 +1,9 @@
 -- What a flush keeps of a walk's text, and the status of a walk whose write may fail.
 use Rattle.std.proofs.Common.{◌≡◌, ◌⊎◌, inl, inr, refl, Bool, true, false, ℕ, List, Option, None}
 use Rattle.std.proofs.Common.{Some, ◌∙◌, Result, Ok, Err, subst, sym}
-use Rattle.std.specs.Prelude.{IfOk}
+use Rattle.std.specs.Prelude.{IfOk, ◌^◌}
+use Rattle.std.specs.List.{All}
+use Rattle.gimli_headers.specs.Units.{units_of}
 use Rattle.std.specs.Result.{result_unwrap_or}
 use Rattle.std.specs.Fn.{Mut, CalledAt}
 use Rattle.std.specs.Borrow.{Bor}
@@ -19,8 +21,11 @@ use Rattle.gimli_units.specs.Unit.{UnitView}
 use Rattle.gimli_headers.specs.Header.{unit_at}
 use Rattle.gimli_walk.specs.Lines.{Text}
 use Rattle.gimli_walk.specs.Text.{Wrote, WroteAll, all_lines, some_lines, WroteText, wrote, no_line}
-use Rattle.gimli_walk.specs.Text.{IsHonestDeclared, IsHonestFirst, IsHonestWalk}
-use Rattle.gimli_walk.specs.Words.{OfTwoFiles, OfFile, SaysWalk, cursor_mode, tree_mode, no_first}
+use Rattle.gimli_walk.specs.Text.{IsHonestDeclared, IsHonestFirst, IsHonestWalk, text_of}
+use Rattle.gimli_walk.specs.Text.{little_view, unit_takes_memory, walk_may_take}
+use Rattle.gimli_walk.specs.Dump.{dump_of}
+use Rattle.gimli_walk.specs.Words.{OfTwoFiles, OfFile, SaysWalk, SaysPlainWalk, SaysDump}
+use Rattle.gimli_walk.specs.Words.{cursor_mode, tree_mode, no_first}
 use Rattle.gimli_walk.specs.Words.{no_second, said, failed, said_of_one, failed_of_one}
 
 Appends-kept : (a b c : Option (List ℕ)) (xs : List ℕ) → Appends a b xs → Keeps b c → Appends a c xs
@@ -66,22 +71,54 @@ check_honest limit info abbreviations = first (unit_at limit DebugInfo 0 info)
     first (Ok p) = declared p.0 (map_at p.0.abbreviations abbreviations)
     first (Err e) = tt
 
--- a premise may be asked for after the status
-pub if_ok_asks : {E H : Type 0} → (P : ℕ → Type 0) (r : Result ℕ E) → (H → IfOk r P)
-    → IfOk r (λ s. H → P s)
-if_ok_asks P (Ok s) says = says
-if_ok_asks P (Err e) says = tt
+-- what is proved of a walk's text is what it says
+pub says_walk : {E : Type 0} → (mode : Mode) (old new : Option (List ℕ)) (info table : List ℕ)
+    (r : Result ℕ E)
+    → (IsHonestWalk (2 ^ 64) mode (little_view info) (little_view table)
+    → IfOk r (WroteText old new (text_of mode info table)))
+    → (walk_may_take (2 ^ 64) mode (little_view info) (little_view table) ≡ false
+    → IfOk r (WroteAll old new (text_of mode info table)))
+    → IfOk r (SaysWalk mode old new info table)
+says_walk mode old new info table (Ok s) text all = (text, all)
+says_walk mode old new info table (Err e) text all = tt
 
--- what a walk says is said after a flush
-pub SaysWalk-kept : (mode : Mode) (old b c : Option (List ℕ)) (info table : List ℕ) (status : ℕ)
-    → SaysWalk mode old b info table status → Keeps b c → SaysWalk mode old c info table status
-SaysWalk-kept mode old b c info table status says k =
-    λ honest. WroteText-kept old b c _ status (says honest) k
+-- and of a dump's
+pub says_dump : {E : Type 0} → (old new : Option (List ℕ)) (info table : List ℕ) (r : Result ℕ E)
+    → IfOk r (Wrote old new (dump_of info table))
+    → (All (λ u. unit_takes_memory (little_view table) u ≡ false)
+    (units_of (2 ^ 64) DebugInfo (little_view info)).items
+    → IfOk r (WroteAll old new (dump_of info table)))
+    → IfOk r (SaysDump old new info table)
+says_dump old new info table (Ok s) text all = record { text = text; without_memory = all }
+says_dump old new info table (Err e) text all = tt
 
 pub WroteAll-kept : (a b c : Option (List ℕ)) (text : Text) (status : ℕ) → WroteAll a b text status
     → Keeps b c → WroteAll a c text status
 WroteAll-kept a b c text status w k =
     record { lines = Appends-kept a b c _ w.lines k; same_status = w.same_status }
+
+-- what a walk says is said after a flush
+pub SaysWalk-kept : (mode : Mode) (old b c : Option (List ℕ)) (info table : List ℕ) (status : ℕ)
+    → SaysWalk mode old b info table status → Keeps b c → SaysWalk mode old c info table status
+SaysWalk-kept mode old b c info table status says k = (
+  (λ honest. WroteText-kept old b c _ status (says.0 honest) k),
+  (λ none. WroteAll-kept old b c _ status (says.1 none) k),
+)
+
+-- and what a dump says
+pub SaysDump-kept : (old b c : Option (List ℕ)) (info table : List ℕ) (status : ℕ)
+    → SaysDump old b info table status → Keeps b c → SaysDump old c info table status
+SaysDump-kept old b c info table status says k = record {
+  text = Wrote-kept old b c _ status says.text k;
+  without_memory = λ none. WroteAll-kept old b c _ status (says.without_memory none) k;
+}
+
+-- a walk that asks nothing of references
+pub says_plain_walk : (mode : Mode) (old new : Option (List ℕ)) (info table : List ℕ) (status : ℕ)
+    → IsHonestWalk (2 ^ 64) mode (little_view info) (little_view table)
+    → SaysWalk mode old new info table status → SaysPlainWalk mode old new info table status
+says_plain_walk mode old new info table status honest says =
+    record { text = says.0 honest; without_memory = says.1 }
 
 module _ {F V E : Type 0} (g : Mut F (Bor (List ℕ) × Unit {0}) (Option V)) (bytes : V → List ℕ)
     (read : F) (old between new : Option (List ℕ)) where

@@ -2,6 +2,7 @@
 -- sections (DWARF 5, 7.5).
 use Rattle.std.specs.Prelude.{◌≡◌, ℕ, ◌<◌, ◌^◌, ◌==◌, if◌then◌else◌, Bool, true, false, pos, List}
 use Rattle.std.specs.Prelude.{[], ◌∷◌, ◌++◌, map, take, length, Option, Some, None, Result, Ok, Err}
+use Rattle.std.specs.Prelude.{not, ◌||◌}
 use Rattle.std.specs.List.{concat}
 use Rattle.std.specs.Io.KnownBytes.{Appends}
 use Rattle.gimli_base.specs.declared.common.SectionId.TheVariants.{DebugInfo}
@@ -9,7 +10,7 @@ use Rattle.gimli_base.specs.declared.error.Error.{Error}
 use Rattle.gimli_base.specs.Refusal.{number_of}
 use Rattle.gimli_base.specs.View.{View}
 use Rattle.gimli_base.specs.Reading.{Reads}
-use Rattle.gimli_base.specs.Abbreviations.{Map, map_at}
+use Rattle.gimli_base.specs.Abbreviations.{Map, map_at, table_takes_memory_at}
 use Rattle.gimli_units.specs.Entry.{entry_at}
 use Rattle.gimli_units.specs.Rows.{Row, Ahead, ahead_at}
 use Rattle.gimli_units.specs.Unit.{UnitView, whole_length}
@@ -116,15 +117,35 @@ abbrev pub text_of : Mode → List ℕ → List ℕ → Text
 text_of mode info abbreviations =
     sections_text (2 ^ 64) (mode_text (2 ^ 64) mode) (little_view info) (little_view abbreviations)
 
--- whether a unit was read, and not refused
-abbrev pub is_read : Reads UnitView → Bool
-is_read (Ok p) = true
-is_read (Err e) = false
+-- whether reading the table of a unit takes memory
+abbrev pub unit_takes_memory : View → UnitView → Bool
+unit_takes_memory abbreviations u = table_takes_memory_at u.abbreviations abbreviations
 
--- whether `.debug_info` begins with a unit, whose header is not refused; a walk asks for memory
--- only after that header
-abbrev pub has_unit : ℕ → View → Bool
-has_unit limit info = is_read (unit_at limit DebugInfo 0 info)
+-- whether a mode is that of rows, which are written without memory
+abbrev pub is_rows : Mode → Bool
+is_rows Rows = true
+is_rows Check = false
+is_rows (Cursor steps) = false
+is_rows (Plain steps) = false
+is_rows (Tree steps) = false
+
+-- whether a walk by the declarations of a unit may take memory: another than that of rows
+abbrev pub declared_may_take : Mode → Result Map Error → Bool
+declared_may_take mode (Ok declared) = not (is_rows mode)
+declared_may_take mode (Err e) = false
+
+-- whether a walk over the first unit may take memory: its header is not refused, and its table
+-- takes some, or is read for another mode than that of rows
+abbrev pub first_may_take : Mode → Reads UnitView → View → Bool
+first_may_take mode (Ok p) abbreviations =
+    unit_takes_memory abbreviations p.0
+    || declared_may_take mode (map_at p.0.abbreviations abbreviations)
+first_may_take mode (Err e) abbreviations = false
+
+-- the same of the first unit of `.debug_info`
+abbrev pub walk_may_take : ℕ → Mode → View → View → Bool
+walk_may_take limit mode info abbreviations =
+    first_may_take mode (unit_at limit DebugInfo 0 info) abbreviations
 
 -- what is written is all lines
 pub record WroteAll (old new : Option (List ℕ)) (text : Text) (status : ℕ) : Type 0 where

@@ -1,7 +1,7 @@
 -- What the words of the command line ask for, and what comes of it.
 use Rattle.std.specs.Prelude.{◌≡◌, ◌^◌, ◌≤◌, ◌==◌, ◌&&◌, not, if◌then◌else◌, ℕ, Bool, true, false}
 use Rattle.std.specs.Prelude.{List, [], length, slice_index_or, codes, Option, Some, None}
-use Rattle.std.specs.List.{AllPass, filter_map}
+use Rattle.std.specs.List.{All, AllPass, filter_map}
 use Rattle.std.specs.Option.{is_some}
 use Rattle.std.specs.Str.Parse.{digits_value}
 use Rattle.std.specs.Char.{is_digit, is_ascii_uppercase}
@@ -14,7 +14,11 @@ use Rattle.gimli_walk.specs.declared.cursor.CursorStep.{CursorStep}
 use Rattle.gimli_walk.specs.declared.cursor.CursorStep.TheVariants.{NextEntry, NextDfs, NextSibling}
 use Rattle.gimli_walk.specs.declared.tree.TreeStep.{TreeStep}
 use Rattle.gimli_walk.specs.declared.tree.TreeStep.TheVariants.{Root, Next, Enter, Leave}
-use Rattle.gimli_walk.specs.Text.{WroteText, text_of, little_view, IsHonestWalk}
+use Rattle.gimli_base.specs.declared.common.SectionId.TheVariants.{DebugInfo}
+use Rattle.gimli_headers.specs.Units.{units_of}
+use Rattle.gimli_walk.specs.Text.{Wrote, WroteAll, WroteText, text_of, little_view, IsHonestWalk}
+use Rattle.gimli_walk.specs.Text.{unit_takes_memory, walk_may_take}
+use Rattle.gimli_walk.specs.Dump.{dump_of}
 
 -- a `&[&str]`
 abbrev pub Words : Type 0
@@ -126,11 +130,29 @@ pub data OfFile {F V : Type 0} (g : Mut F (Bor (List ℕ) × Unit {0}) (Option V
   failed_of_one : (x : V) (last : F) → CalledAt g read name (Some x) last → status ≡ 3
       → OfFile g bytes read name old new Says status
 
--- what a walk over two sections writes, where its mode follows only references that are honest
+-- what a walk over two sections writes, where its mode follows only references that are honest;
+-- where it takes no memory that is all lines
 abbrev pub SaysWalk : Mode → Option (List ℕ) → Option (List ℕ) → List ℕ → List ℕ → ℕ → Type 0
 SaysWalk mode old new info table status =
-    IsHonestWalk (2 ^ 64) mode (little_view info) (little_view table)
-    → WroteText old new (text_of mode info table) status
+    (IsHonestWalk (2 ^ 64) mode (little_view info) (little_view table)
+    → WroteText old new (text_of mode info table) status)
+    × (walk_may_take (2 ^ 64) mode (little_view info) (little_view table) ≡ false
+    → WroteAll old new (text_of mode info table) status)
+
+-- the same of a mode that follows no reference
+pub record SaysPlainWalk (mode : Mode) (old new : Option (List ℕ)) (info table : List ℕ)
+    (status : ℕ) : Type 0 where
+  pub text : WroteText old new (text_of mode info table) status
+  pub without_memory : walk_may_take (2 ^ 64) mode (little_view info) (little_view table) ≡ false
+      → WroteAll old new (text_of mode info table) status
+
+-- what a dump of two sections writes; where no unit's table takes memory that is all lines
+pub record SaysDump (old new : Option (List ℕ)) (info table : List ℕ) (status : ℕ) : Type 0 where
+  pub text : Wrote old new (dump_of info table) status
+  pub without_memory :
+      All (λ u. unit_takes_memory (little_view table) u ≡ false)
+      (units_of (2 ^ 64) DebugInfo (little_view info)).items
+      → WroteAll old new (dump_of info table) status
 
 -- What comes of a walk by the steps that letters name: status 2 where a letter names none, and
 -- status 3 where memory for them is refused; nothing is written then.

@@ -1,6 +1,6 @@
 //! A dump of all units of a section, as text.
 
-ghost use Rattle.std.specs.Prelude.{◌≡◌, ◌^◌, IfOk, IfSome, Ok, Err, false};
+ghost use Rattle.std.specs.Prelude.{◌≡◌, ◌^◌, All, IfOk, IfSome, Ok, Err, false};
 ghost use Rattle.gimli_base.specs.declared.common.SectionId.TheVariants.{DebugInfo as InfoSection};
 ghost use Rattle.gimli_base.specs.Abbreviations.{map_at};
 ghost use Rattle.gimli_base.specs.Offset.{answer_of};
@@ -10,7 +10,7 @@ ghost use Rattle.gimli_units.specs.UnitHeld.{unit_view};
 ghost use Rattle.gimli_units.specs.UnitKind.{map_type};
 ghost use Rattle.gimli_headers.specs.Units.{units_of};
 ghost use Rattle.gimli_walk.specs.declared.lines.Stop.TheVariants.{Memory};
-ghost use Rattle.gimli_walk.specs.Text.{Wrote, WroteAll, has_unit, little_view};
+ghost use Rattle.gimli_walk.specs.Text.{Wrote, WroteAll, little_view, unit_takes_memory};
 ghost use Rattle.gimli_walk.specs.Stops.{WroteUntil};
 ghost use Rattle.gimli_walk.specs.Dump.{type_number as number_of_type, unit_dump, units_dump};
 ghost use Rattle.gimli_walk.specs.Dump.{dump_of};
@@ -33,8 +33,8 @@ use std::result::Result as StdResult;
 /// section nothing is written, and the status is 0.
 ///
 /// Where memory is refused, whole lines from the front are written and then `error 24`, and the
-/// status is 1. `alloc` is asked for memory only after the first header is read: of an empty
-/// section, and where that header is refused, all lines are written.
+/// status is 1. Memory is taken for tables of abbreviations alone, as `UnitHeader::abbreviations`
+/// takes some: where no unit's table does, all lines are written.
 ///
 /// Refusal: `WriteFault`, where `out` refuses a write. Nothing more is written then, and nothing is
 /// said of what was written before.
@@ -47,7 +47,8 @@ pub fn dump_text<A: Allocator + Copy, W: Write>(
     ensures text { let text = dump_of info.now abbreviations.now in
         IfOk result (λ status. Wrote (W.contents out.old) (W.contents out.new) text status) }
     ensures without_memory { let text = dump_of info.now abbreviations.now in
-        has_unit (2 ^ 64) (little_view info.now) ≡ false →
+        let units = (units_of (2 ^ 64) InfoSection (little_view info.now)).items in
+        All (λ u. unit_takes_memory (little_view abbreviations.now) u ≡ false) units →
         IfOk result (λ status. WroteAll (W.contents out.old) (W.contents out.new) text status) }
 {
     let debug_info = DebugInfo::new(info, LittleEndian);
@@ -69,7 +70,9 @@ fn dump_units<R: Reader, A: Allocator + Copy, W: Write>(
         (units_of R.Offset.limit InfoSection info) in
         WroteUntil (W.contents out.old) (W.contents out.new) text result }
     ensures without_memory { let info = ⟦<DebugInfo<R> as Section<R>>⟧.content debug_info.now in
-        has_unit R.Offset.limit info ≡ false → result ≡ Err Memory → ⊥ }
+        let declarations = ⟦<DebugAbbrev<R> as Section<R>>⟧.content debug_abbrev.now in
+        let units = (units_of R.Offset.limit InfoSection info).items in
+        All (λ u. unit_takes_memory declarations u ≡ false) units → result ≡ Err Memory → ⊥ }
 {
     let mut units = debug_info.units();
     let mut held = None;
@@ -109,6 +112,10 @@ fn table_of<R: Reader, A: Allocator + Copy>(
     ensures table { let declarations = ⟦<DebugAbbrev<R> as Section<R>>⟧.content debug_abbrev.now in
         UnlessMemory result (answer_of (λ h. codes_of h.table) result
         ≡ map_at (unit_view unit.now).abbreviations declarations) }
+    ensures without_memory { let u = unit_view unit.now in
+        let declarations = ⟦<DebugAbbrev<R> as Section<R>>⟧.content debug_abbrev.now in
+        unit_takes_memory declarations u ≡ false →
+        answer_of (λ h. codes_of h.table) result ≡ map_at u.abbreviations declarations }
     ensures offset { IfOk result (λ h. h.offset ≡ (unit_view unit.now).abbreviations) }
 {
     let offset = unit.debug_abbrev_offset().0.into_u64();
@@ -137,6 +144,8 @@ fn dump_unit<R: Reader, A: Allocator + Copy, W: Write>(
     ensures text { let declarations = ⟦<DebugAbbrev<R> as Section<R>>⟧.content debug_abbrev.now in
         let text = unit_dump R.Offset.limit declarations (unit_view unit.now) in
         WroteUntil (W.contents out.old) (W.contents out.new) text result }
+    ensures without_memory { let declarations = ⟦<DebugAbbrev<R> as Section<R>>⟧.content debug_abbrev.now in
+        unit_takes_memory declarations (unit_view unit.now) ≡ false → result ≡ Err Memory → ⊥ }
 {
     let offset = unit.offset().0.into_u64();
     let type_number = number_of(unit.type_());

@@ -1,8 +1,10 @@
 //! A dump that is taken into memory.
 
-ghost use Rattle.std.specs.Prelude.{◌≡◌, ◌^◌, [], IfOk, IfErr, OnErr, Some, false};
+ghost use Rattle.std.specs.Prelude.{◌≡◌, ◌≢◌, ◌^◌, [], All, IfOk, IfErr, OnErr, Some, false};
+ghost use Rattle.gimli_base.specs.declared.common.SectionId.TheVariants.{DebugInfo as InfoSection};
 ghost use Rattle.gimli_base.specs.declared.error.Error.TheVariants.{OutOfMemory};
-ghost use Rattle.gimli_walk.specs.Text.{Wrote, WroteAll, has_unit, little_view};
+ghost use Rattle.gimli_headers.specs.Units.{units_of};
+ghost use Rattle.gimli_walk.specs.Text.{Wrote, WroteAll, little_view, unit_takes_memory};
 ghost use Rattle.gimli_walk.specs.Dump.{dump_of};
 
 use crate::dump_text;
@@ -38,10 +40,10 @@ impl<A: Allocator> Write for Bytes<A> {
 /// a refusal was met, else 0.
 ///
 /// Where memory is refused for a table of abbreviations, whole lines from the front and then
-/// `error 24` are put onto `text`, and the status is 1.
+/// `error 24` are put onto `text`, and the status is 1; which tables take some, `dump_text` says.
 ///
-/// Refusal: `OutOfMemory`, where memory is refused for the lines. `text` then holds what it held
-/// before.
+/// Refusal: `OutOfMemory`, where memory is refused for the lines; of an empty section there are
+/// none. `text` then holds what it held before; an empty one keeps the room that it has grown to.
 pub fn dump_to_vec<A: Allocator + Copy>(
     alloc: A,
     info: &[u8],
@@ -51,11 +53,15 @@ pub fn dump_to_vec<A: Allocator + Copy>(
     ensures text { let dump = dump_of info.now abbreviations.now in
         IfOk result (λ status. Wrote (Some text.old.items) (Some text.new.items) dump status) }
     ensures without_memory { let dump = dump_of info.now abbreviations.now in
-        has_unit (2 ^ 64) (little_view info.now) ≡ false →
+        let units = (units_of (2 ^ 64) InfoSection (little_view info.now)).items in
+        All (λ u. unit_takes_memory (little_view abbreviations.now) u ≡ false) units →
         IfOk result (λ status. WroteAll (Some text.old.items) (Some text.new.items) dump status) }
-    ensures refused { IfErr result (λ e. e ≡ OutOfMemory) }
+    ensures refused { IfErr result (λ e. (e ≡ OutOfMemory) × (info.now ≢ [])) }
     ensures kept { OnErr result (text.new.items ≡ text.old.items) }
 {
+    if info.is_empty() {
+        return Ok(0);
+    }
     if text.is_empty() {
         return fill(alloc, info, abbreviations, text);
     }
@@ -76,7 +82,8 @@ fn fill<A: Allocator + Copy>(
     ensures text { let dump = dump_of info.now abbreviations.now in
         IfOk result (λ status. Wrote (Some []) (Some text.new.items) dump status) }
     ensures without_memory { let dump = dump_of info.now abbreviations.now in
-        has_unit (2 ^ 64) (little_view info.now) ≡ false →
+        let units = (units_of (2 ^ 64) InfoSection (little_view info.now)).items in
+        All (λ u. unit_takes_memory (little_view abbreviations.now) u ≡ false) units →
         IfOk result (λ status. WroteAll (Some []) (Some text.new.items) dump status) }
     ensures refused { IfErr result (λ e. e ≡ OutOfMemory) }
     ensures kept { OnErr result (text.new.items ≡ []) }

@@ -39,10 +39,11 @@ fn write_rows_left<R: Reader, A: Allocator, W: Write>(
     entries: &mut EntriesRaw<'_, R, A>,
     out: &mut W,
 ) -> Result<u8, Stop>
-    ensures { let read = entry_at R.Offset.limit entries.old.encoding
+    ensures text { let read = entry_at R.Offset.limit entries.old.encoding
         (codes_of entries.old.abbreviations) in
         let text = rows_text (ahead_at read entries.old.end entries.old.depth entries.old.rest) in
         WroteUntil (W.contents out.old) (W.contents out.new) text result }
+    ensures without_memory { result ≡ Err Memory → ⊥ }
 {
     let mut line = [b' '; 48];
     'rows: while !entries.is_empty() {
@@ -69,9 +70,10 @@ pub(crate) fn write_rows<R: Reader, A: Allocator, W: Write>(
     abbreviations: &Abbreviations<A>,
     out: &mut W,
 ) -> Result<u8, Stop>
-    ensures { let declared = codes_of abbreviations.now in
+    ensures text { let declared = codes_of abbreviations.now in
         let text = unit_text R.Offset.limit (unit_view unit.now) declared in
         WroteUntil (W.contents out.old) (W.contents out.new) text result }
+    ensures without_memory { result ≡ Err Memory → ⊥ }
 {
     match unit.entries_raw(abbreviations, None) {
         Ok(mut entries) => write_rows_left(&mut entries, out),

@@ -1,9 +1,11 @@
 //! Walks over the first unit, as text.
 
-ghost use Rattle.std.specs.Prelude.{◌≡◌, ◌^◌, IfOk, false};
+ghost use Rattle.std.specs.Prelude.{◌≡◌, ◌^◌, IfOk, true, false};
 ghost use Rattle.gimli_base.specs.Table.{codes_of};
 ghost use Rattle.gimli_base.specs.Abbreviations.{map_at};
-ghost use Rattle.gimli_walk.specs.Text.{Wrote, WroteAll, WroteText, has_unit, little_view};
+ghost use Rattle.gimli_walk.specs.Text.{Wrote, WroteAll, WroteText, little_view};
+ghost use Rattle.gimli_walk.specs.Text.{unit_takes_memory, is_rows, declared_may_take};
+ghost use Rattle.gimli_walk.specs.Text.{walk_may_take};
 ghost use Rattle.gimli_walk.specs.Text.{declared_text, mode_text, sections_text, text_of};
 ghost use Rattle.gimli_walk.specs.Text.{IsHonestMode, IsHonestDeclared, IsHonestWalk};
 ghost use Rattle.gimli_walk.specs.Text.{WroteTrueMode, WroteTrueDeclared, WroteTrueWalk};
@@ -25,8 +27,8 @@ use std::io::Write;
 /// where there is no unit or a refusal was met, else 0. The sections are little endian.
 ///
 /// Where memory is refused, whole lines from the front are written and then `error 24`, and the
-/// status is 1. `alloc` is asked for memory only after the header of the unit is read: without a
-/// unit, and where its header is refused, all lines are written.
+/// status is 1. Memory is taken only where the header of the unit is read: for its table, as
+/// `UnitHeader::abbreviations` takes some, and after that in any mode but that of rows.
 ///
 /// Refusal: `WriteFault`, where `out` refuses a write. Nothing more is written then, and nothing is
 /// said of what was written before.
@@ -45,7 +47,8 @@ pub fn walk_text<A: Allocator + Copy, W: Write>(
         IfOk result (λ status. WroteTrueWalk (2 ^ 64) mode.entry (little_view info.now)
         (little_view abbreviations.now) old new status) }
     ensures without_memory { let text = text_of mode.entry info.now abbreviations.now in
-        has_unit (2 ^ 64) (little_view info.now) ≡ false →
+        walk_may_take (2 ^ 64) mode.entry (little_view info.now) (little_view abbreviations.now)
+        ≡ false →
         IfOk result (λ status. WroteAll (W.contents out.old) (W.contents out.new) text status) }
 {
     let debug_info = DebugInfo::new(info, LittleEndian);
@@ -66,7 +69,7 @@ fn walk_sections<R: Reader, A: Allocator + Copy, W: Write>(
         let declarations = ⟦<DebugAbbrev<R> as Section<R>>⟧.content debug_abbrev.now in
         let text = sections_text R.Offset.limit (mode_text R.Offset.limit mode.entry) info
         declarations in
-        has_unit R.Offset.limit info ≡ false →
+        walk_may_take R.Offset.limit mode.entry info declarations ≡ false →
         IfOk result (λ status. WroteAll (W.contents out.old) (W.contents out.new) text status) }
     ensures true_lines { let info = ⟦<DebugInfo<R> as Section<R>>⟧.content debug_info.now in
         let declarations = ⟦<DebugAbbrev<R> as Section<R>>⟧.content debug_abbrev.now in
@@ -115,6 +118,12 @@ fn walk_unit<R: Reader, A: Allocator + Copy, W: Write>(
         let text = declared_text (mode_text R.Offset.limit mode.entry) u declared in
         IsHonestDeclared R.Offset.limit mode.entry u declared →
         IfOk result (λ status. WroteText (W.contents out.old) (W.contents out.new) text status) }
+    ensures without_memory { let u = unit_view unit.now in
+        let section = ⟦<DebugAbbrev<R> as Section<R>>⟧.content debug_abbrev.now in
+        let declared = map_at u.abbreviations section in
+        let text = declared_text (mode_text R.Offset.limit mode.entry) u declared in
+        unit_takes_memory section u ≡ false → declared_may_take mode.entry declared ≡ false →
+        IfOk result (λ status. WroteAll (W.contents out.old) (W.contents out.new) text status) }
 {
     match unit.abbreviations(alloc, debug_abbrev) {
         Ok(abbreviations) => walk_declared(alloc, mode, unit, &abbreviations, out),
@@ -143,6 +152,10 @@ fn walk_declared<R: Reader, A: Allocator + Copy, W: Write>(
         let text = mode_text R.Offset.limit mode.entry u declared in
         IsHonestMode R.Offset.limit mode.entry u declared →
         IfOk result (λ status. Wrote (W.contents out.old) (W.contents out.new) text status) }
+    ensures without_memory { let declared = codes_of abbreviations.now in
+        let text = mode_text R.Offset.limit mode.entry (unit_view unit.now) declared in
+        is_rows mode.entry ≡ true →
+        IfOk result (λ status. WroteAll (W.contents out.old) (W.contents out.new) text status) }
 {
     match mode {
         Mode::Rows => {

@@ -3,13 +3,13 @@
 ghost use Rattle.std.specs.Prelude.{◌≡◌, ◌⊎◌, true, false};
 ghost use Rattle.std.specs.Io.KnownBytes.{Keeps};
 ghost use Rattle.gimli_walk.specs.declared.mode.Mode.TheVariants.{Rows, Check};
-ghost use Rattle.gimli_walk.specs.Text.{Wrote, WroteAll, WroteText, text_of};
-ghost use Rattle.gimli_walk.specs.Dump.{dump_of};
+ghost use Rattle.gimli_walk.specs.Text.{WroteAll};
 ghost use Rattle.gimli_walk.specs.UnitOfAddress.{find_of};
 ghost use Rattle.gimli_walk.specs.Words.{word, AsksRows, AsksCheck, AsksDump, AsksFind, AsksCursor};
 ghost use Rattle.gimli_walk.specs.Words.{AsksPlain, AsksTree, SaysNothing};
 ghost use Rattle.gimli_walk.specs.Words.{cursor_step_of, tree_step_of, cursor_mode, tree_mode};
-ghost use Rattle.gimli_walk.specs.Words.{OfTwoFiles, OfFile, SaysWalk, BySteps, AtAddress};
+ghost use Rattle.gimli_walk.specs.Words.{OfTwoFiles, OfFile, SaysWalk, SaysPlainWalk, SaysDump};
+ghost use Rattle.gimli_walk.specs.Words.{BySteps, AtAddress};
 
 use crate::letters::{Lettered, address_in, are_steps, steps_in};
 use crate::{CursorStep, Mode, TreeStep, dump_text, find_text, walk_text};
@@ -41,17 +41,17 @@ pub fn run_words<A: Allocator + Copy, F: FnMut(&str) -> Option<Vec<u8>>, W: Writ
         let new = W.contents out.new in
         AsksRows words.now →
         OfTwoFiles F.FnMut (λ v. v.items) read (word words.now 1) (word words.now 2) old new
-        (λ info table. WroteText old new (text_of Rows info table)) result }
+        (SaysPlainWalk Rows old new) result }
     ensures check { let old = W.contents out.old in
         let new = W.contents out.new in
         AsksCheck words.now →
         OfTwoFiles F.FnMut (λ v. v.items) read (word words.now 1) (word words.now 2) old new
-        (λ info table. WroteText old new (text_of Check info table)) result }
+        (SaysPlainWalk Check old new) result }
     ensures dump { let old = W.contents out.old in
         let new = W.contents out.new in
         AsksDump words.now →
         OfTwoFiles F.FnMut (λ v. v.items) read (word words.now 1) (word words.now 2) old new
-        (λ info table. Wrote old new (dump_of info table)) result }
+        (SaysDump old new) result }
     ensures find { let old = W.contents out.old in
         let new = W.contents out.new in
         AsksFind words.now → AtAddress (word words.now 2) old new (λ address.
@@ -190,7 +190,7 @@ fn dump_files<A: Allocator + Copy, F: FnMut(&str) -> Option<Vec<u8>>, W: Write, 
     ensures { let old = W.contents out.old in
         let new = W.contents out.new in
         OfTwoFiles F.FnMut (λ v. v.items) read info.now abbrev.now old new
-        (λ info table. Wrote old new (dump_of info table)) result }
+        (SaysDump old new) result }
 {
     let Some(info_bytes) = read(info) else {
         return cannot_read(err, info);

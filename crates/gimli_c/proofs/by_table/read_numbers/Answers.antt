@@ -5,6 +5,7 @@ use Rattle.gimli_c.specs.Tables.{declaration_in}
 use Rattle.gimli_c.specs.TableReads.{told_head}
 use Rattle.gimli_c.proofs.Heads.{past_code, past_attribute, numbers_of, refused_of, asks_refused}
 use Rattle.gimli_c.proofs.Heads.{asks_declared}
+use Rattle.gimli_c.proofs.Memory.{code_takes, declared_takes, refused_some}
 use Rattle.gimli_c.proofs.ByTable.{null_read_with, entry_by_with, are_read, are_refused, none_in}
 use Rattle.gimli_c.proofs.by_table.read_numbers.Goals as goal
 
@@ -76,3 +77,25 @@ returns-clause-past g c =
     (rw c.attributes_in-specifications.ensures at c.in_ok-push_values.ensures.value) in
     rw (c.head_by.ensures c.args.table.specifications.now)
     (entry_by_with _ _ _ _ _ _ d h n.0 _ (n.1 ∙ rw some refl))
+
+pub returns-in_err-declared-clause-takes : goal.returns-in_err-declared-clause-takes
+returns-in_err-declared-clause-takes g c =
+    let r : c.from_residual.result ≡ Err c.in_err-declared.field-0.0 = search rules in
+    rw r (code_takes _ _ _ c.in_err-declared.ensures)
+
+pub returns-in_err-pass_values-clause-takes : goal.returns-in_err-pass_values-clause-takes
+returns-in_err-pass_values-clause-takes g c =
+    let r : c.from_residual-in_err-pass_values.result
+    ≡ Err c.in_err-pass_values.field-0.0 = search rules in
+    let h = rw c.in-Some.is at c.in_ok-declared.ensures in
+    let k = rw c.attributes_in-specifications.ensures at c.in_err-pass_values.ensures in
+    rw r (λ _. declared_takes _ _ _ _ h (refused_some _ _ _ _ _ (are_refused _ _ _ _ _ k)))
+
+pub returns-in_err-push_values-clause-takes : goal.returns-in_err-push_values-clause-takes
+returns-in_err-push_values-clause-takes g c =
+    let r : c.from_residual-in_err-push_values.result
+    ≡ Err c.in_err-push_values.field-0.0 = search rules in
+    let h = rw c.in-Some.is at c.in_ok-declared.ensures in
+    rw r (λ _. declared_takes _ _ _ _ h
+    (λ none. let is_ok = c.in_err-push_values.ensures.none
+    (c.attributes_in-specifications.ensures ∙ none_in _ none) in cc))

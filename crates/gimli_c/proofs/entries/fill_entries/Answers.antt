@@ -8,6 +8,7 @@ use Rattle.gimli_c.specs.Attrs.{attr_of}
 use Rattle.gimli_c.specs.Status.{row_refused}
 use Rattle.gimli_c.proofs.EntryFront.{entry_more, entries_ended, entries_full, entries_refused}
 use Rattle.gimli_c.proofs.EntryFront.{entries_large}
+use Rattle.gimli_c.proofs.Memory.{row_memory, onward_none, onward_next}
 use Rattle.gimli_c.proofs.entries.fill_entries.Goals.{then-rows-test+else-not-is_empty}
 use Rattle.gimli_c.proofs.entries.fill_entries.Goals.{else-rows-test, then-is_empty, else-is_empty}
 use Rattle.gimli_c.proofs.entries.fill_entries.Goals as goal
@@ -24,6 +25,7 @@ rows-init g c =
       attributes = refl;
       used_is = refl;
       space = omega arith;
+      onward = onward_none (g.T.ReadEntries.place c.args.entries.now);
       fits = c.requires;
     })
 
@@ -132,3 +134,25 @@ returns-clause-told g c =
           c.rows.rows c.args.attrs.now c.rows.attrs c.place_of.result c.rows.count c.rows.used
           f offset depth some full)
     ]
+
+pub returns-in-Err-clause-row_memory : goal.returns-in-Err-clause-row_memory
+returns-in-Err-clause-row_memory g c =
+    let p = g.T.ReadEntries.place c.rows.entries in
+    let start = g.T.ReadEntries.place c.args.entries.now in
+    let some : length p.rest.bytes ≡ 0 → ⊥ = λ none. let t : c.is_empty.result ≡ true =
+    c.is_empty.ensures.1 none in let no = c.if-not-is_empty.true in cc in
+    rw (c.told_entries.ensures, c.row_refused.ensures, c.place_of-place.ensures.offset)
+    (λ fits told. onward_next start p c.rows.invariant.onward fits some
+    (c.in-Err.ensures.takes (row_memory c.in-Err.error told)))
+
+pub returns-then-attributes-attrs-clause-row_memory : goal.returns-then-attributes-attrs-clause-row_memory
+returns-then-attributes-attrs-clause-row_memory g c =
+    rw c.told_entries-then-attributes-attrs.ensures (λ _ told. absurd (omega (arith, told)))
+
+pub returns-clause-row_memory : goal.returns-clause-row_memory
+returns-clause-row_memory g c =
+    rw c.told_entries-2.ensures
+    (λ _ told. absurd (elim c.if-is_empty.branch [
+      | then-is_empty w ↦ omega (arith, told, w.status-is)
+      | else-is_empty w ↦ omega (arith, told, w.status-is)
+    ]))

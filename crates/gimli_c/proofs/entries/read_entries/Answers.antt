@@ -1,11 +1,13 @@
 use Rattle.std.proofs.Common.{◌≡◌, w64, to_z, of_z}
 use Rattle.std.proofs.lemmas.Int.{to_z-of_z}
 use Rattle.gimli_base.specs.Abbreviations.{map_at}
+use Rattle.gimli_units.specs.Unit.{range_from}
 use Rattle.gimli_units.specs.UnitHeld.{unit_view}
 use Rattle.gimli_c.specs.Fronts.{at, unit_ahead}
 use Rattle.gimli_base.specs.Table.{codes_of}
 use Rattle.gimli_c.proofs.EntryBounds.{told_undeclared}
 use Rattle.gimli_c.proofs.Heads.{same_answer}
+use Rattle.gimli_c.proofs.Memory.{table_takes, refusal_no_row}
 use Rattle.gimli_c.proofs.Resume.{unit_resumes, moved_entries}
 use Rattle.gimli_c.proofs.entries.read_entries.Goals as goal
 
@@ -24,7 +26,7 @@ returns-clause-told g c =
     (at number c.args.depth) c.args.rows.now c.args.attrs.now c.in-Ok.header.entries_fit
     c.in-Err-abbreviations.error
     (map_at u.abbreviations (g.R.Reader.view c.args.sections.now.abbreviations.section))
-    c.in-Err-abbreviations.ensures)
+    c.in-Err-abbreviations.ensures.value)
 
 pub returns-in-Ok-abbreviations-clause-resumes : goal.returns-in-Ok-abbreviations-clause-resumes
 returns-in-Ok-abbreviations-clause-resumes g c =
@@ -32,7 +34,7 @@ returns-in-Ok-abbreviations-clause-resumes g c =
     let number = g.R.Offset.ReaderOffset.number c.args.offset in
     let table = c.in-Ok-abbreviations.table in
     let told = rw back at c.unit_entries.ensures.told table (same_answer c.entries_raw-opened.ensures) in
-    rw (← c.in-Ok.ensures, ← c.in-Ok-abbreviations.ensures)
+    rw (← c.in-Ok.ensures, ← c.in-Ok-abbreviations.ensures.value)
     (unit_resumes g.R.Offset.ReaderOffset.limit (unit_view c.in-Ok.header)
     (codes_of c.in-Ok-abbreviations.table) c.in-Ok.header.entries_fit (at number c.args.depth)
     c.unit_entries.result.place c.unit_entries.result.filled.rows
@@ -45,5 +47,40 @@ pub returns-in-Ok-abbreviations-clause-told : goal.returns-in-Ok-abbreviations-c
 returns-in-Ok-abbreviations-clause-told g c =
     let back : to_z w64 (of_z w64 c.args.depth) ≡ c.args.depth = to_z-of_z w64 _ c.ranges.depth in
     let table = c.in-Ok-abbreviations.table in
-    rw (← c.in-Ok.ensures, ← c.in-Ok-abbreviations.ensures)
+    rw (← c.in-Ok.ensures, ← c.in-Ok-abbreviations.ensures.value)
     (rw back at c.unit_entries.ensures.told table (same_answer c.entries_raw-opened.ensures))
+
+pub returns-clause-memory : goal.returns-clause-memory
+returns-clause-memory g c =
+    rw (
+      c.no_entries-in-Err-abbreviations.ensures,
+      c.refusal_status-in-Err-abbreviations.ensures,
+      ← c.in-Ok.ensures,
+    )
+    (table_takes c.in-Err-abbreviations.error (unit_view c.in-Ok.header).abbreviations
+    (g.R.Reader.view c.args.sections.now.abbreviations.section)
+    c.in-Err-abbreviations.ensures.without_memory)
+
+pub returns-in-Ok-abbreviations-clause-memory : goal.returns-in-Ok-abbreviations-clause-memory
+returns-in-Ok-abbreviations-clause-memory g c =
+    rw (← c.in-Ok.ensures) (λ told. absurd (c.unit_entries.ensures.memory told))
+
+pub returns-in-Err-clause-row_memory : goal.returns-in-Err-clause-row_memory
+returns-in-Err-clause-row_memory g c =
+    rw (c.no_entries.ensures, c.refusal_status.ensures)
+    (λ told. absurd (refusal_no_row c.in-Err.error told))
+
+pub returns-clause-row_memory : goal.returns-clause-row_memory
+returns-clause-row_memory g c =
+    rw (
+      c.no_entries-in-Err-abbreviations.ensures,
+      c.refusal_status-in-Err-abbreviations.ensures,
+    )
+    (λ told. absurd (refusal_no_row c.in-Err-abbreviations.error told))
+
+pub returns-in-Ok-abbreviations-clause-row_memory : goal.returns-in-Ok-abbreviations-clause-row_memory
+unfolding range_from
+returns-in-Ok-abbreviations-clause-row_memory g c =
+    rw (← c.in-Ok.ensures, ← c.in-Ok-abbreviations.ensures.value)
+    (c.unit_entries.ensures.row_memory c.in-Ok-abbreviations.table
+    (same_answer c.entries_raw-opened.ensures))

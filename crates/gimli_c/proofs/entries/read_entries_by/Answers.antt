@@ -1,9 +1,11 @@
 use Rattle.std.proofs.Common.{◌≡◌, w64, to_z, of_z}
 use Rattle.std.proofs.lemmas.Int.{to_z-of_z}
 use Rattle.gimli_base.specs.Table.{codes_of}
+use Rattle.gimli_units.specs.Unit.{range_from}
 use Rattle.gimli_units.specs.UnitHeld.{unit_view}
 use Rattle.gimli_c.specs.Fronts.{at, unit_ahead}
 use Rattle.gimli_c.specs.Tables.{table_in}
+use Rattle.gimli_c.proofs.Memory.{refusal_no_row}
 use Rattle.gimli_c.proofs.Resume.{unit_resumes, moved_entries}
 use Rattle.gimli_c.proofs.entries.read_entries_by.Goals as goal
 
@@ -23,3 +25,14 @@ returns-in-Ok-clause-resumes g c =
     c.args.rows.now c.args.attrs.now c.unit_entries.result.place c.unit_entries.new.rows
     c.unit_entries.new.attrs c.unit_entries.result.filled
     c.unit_entries.result.status told))
+
+pub returns-in-Ok-clause-row_memory : goal.returns-in-Ok-clause-row_memory
+unfolding range_from
+returns-in-Ok-clause-row_memory g c =
+    rw (← c.in-Ok.ensures)
+    (c.unit_entries.ensures.row_memory (table_in c.args.table) c.entries_by-opened.ensures)
+
+pub returns-in-Err-clause-row_memory : goal.returns-in-Err-clause-row_memory
+returns-in-Err-clause-row_memory g c =
+    rw (c.no_entries.ensures, c.refusal_status.ensures)
+    (λ told. absurd (refusal_no_row c.in-Err.error told))

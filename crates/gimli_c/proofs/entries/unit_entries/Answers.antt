@@ -7,6 +7,7 @@ use Rattle.gimli_units.specs.UnitHeld.{unit_view}
 use Rattle.gimli_c.specs.Fronts.{at}
 use Rattle.gimli_c.proofs.Bounds.{unread_bounds, read_bounds, below_end, bytes_left}
 use Rattle.gimli_c.proofs.EntryBounds.{told_ended, told_outside, told_deep, told_filled}
+use Rattle.gimli_c.proofs.Memory.{refusal_no_row, bytes_fit, unit_takes}
 use Rattle.gimli_c.proofs.entries.unit_entries.Goals.{then-left-via-then-left}
 use Rattle.gimli_c.proofs.entries.unit_entries.Goals.{then-left-via-else-left+then-steps-left}
 use Rattle.gimli_c.proofs.entries.unit_entries.Goals as goal
@@ -144,3 +145,26 @@ returns-in-Err-clause-memory g c =
     let no = rw c.in-Err.is at c.requires.1 in
     let e = (unread_bounds (unit_view c.args.unit.now) c.requires.0 number c.in-Err.error no).1 in
     rw (c.no_entries-in-Err.ensures, c.refusal_status.ensures, e) (λ is. absurd (omega (arith, is)))
+
+pub returns-then-start-whole-clause-row_memory : goal.returns-then-start-whole-clause-row_memory
+returns-then-start-whole-clause-row_memory g c =
+    rw c.no_entries.ensures (λ _ _ told. absurd (omega (arith, told)))
+
+pub returns-in-Err-clause-row_memory : goal.returns-in-Err-clause-row_memory
+returns-in-Err-clause-row_memory g c =
+    rw (c.no_entries-in-Err.ensures, c.refusal_status.ensures)
+    (λ _ _ told. absurd (refusal_no_row c.in-Err.error told))
+
+pub returns-then-left-clause-row_memory : goal.returns-then-left-clause-row_memory
+returns-then-left-clause-row_memory g c =
+    rw c.no_entries-then-left.ensures (λ _ _ told. absurd (omega (arith, told)))
+
+pub returns-clause-row_memory : goal.returns-clause-row_memory
+returns-clause-row_memory g c = λ t opened told.
+    let p = g.T.ReadEntries.place c.in-Ok.entries in
+    let is = rw c.in-Ok.is at opened in
+    let u = unit_view c.args.unit.now in
+    let number = g.R.Offset.ReaderOffset.number c.args.offset in
+    let fits = c.args.unit.now.entries_fit in
+    (unit_takes u t number fits p is c.fill_entries.result.place.offset
+    (c.fill_entries.ensures.row_memory (bytes_fit u t number fits p is) told)).1

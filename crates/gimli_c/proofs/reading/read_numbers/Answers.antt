@@ -2,6 +2,7 @@ use Rattle.std.proofs.Common.{◌≡◌, ℤ, rules, Err, ap, ◌∙◌}
 use Rattle.gimli_units.specs.RawPlace.{RawPlace}
 use Rattle.gimli_c.proofs.Heads.{null_with, entry_with, past_code, past_attribute, numbers_of}
 use Rattle.gimli_c.proofs.Heads.{refused_of, asks_refused, asks_declared}
+use Rattle.gimli_c.proofs.Memory.{code_takes, declared_takes}
 use Rattle.gimli_c.proofs.reading.read_numbers.Goals as goal
 
 pub returns-in_err-declared-clause-refused : goal.returns-in_err-declared-clause-refused
@@ -55,3 +56,16 @@ returns-clause-past g c =
     (entry_with _ p q c.in-Some.declared.now middle e.value n.0 c.declared_head-head.ensures.set
     (c.in_ok-push_numbers.ensures.same ∙ ap (λ (t : RawPlace). record t { rest = q.rest }) moved)
     _ n.1)
+
+pub returns-in_err-declared-clause-takes : goal.returns-in_err-declared-clause-takes
+returns-in_err-declared-clause-takes g c =
+    let r : c.from_residual.result ≡ Err c.in_err-declared.field-0.0 = search rules in
+    rw r (code_takes _ _ _ (rw c.copy-rest.ensures at c.in_err-declared.ensures.value))
+
+pub returns-in_err-push_numbers-clause-takes : goal.returns-in_err-push_numbers-clause-takes
+returns-in_err-push_numbers-clause-takes g c =
+    let r : c.from_residual-in_err-push_numbers.result
+    ≡ Err c.in_err-push_numbers.field-0.0 = search rules in
+    let e = rw (c.copy-rest.ensures, c.in-Some.is) at c.in_ok-declared.ensures in
+    rw r (λ _. declared_takes _ _ _ _ e.value
+    (λ none. let is_ok = c.in_err-push_numbers.ensures.none (c.attributes.ensures ∙ none) in cc))

@@ -6,6 +6,7 @@ use Rattle.gimli_c.specs.Fronts.{at, unit_ahead}
 use Rattle.gimli_base.specs.Table.{codes_of}
 use Rattle.gimli_c.proofs.Bounds.{told_undeclared}
 use Rattle.gimli_c.proofs.Heads.{same_answer}
+use Rattle.gimli_c.proofs.Memory.{table_takes}
 use Rattle.gimli_c.proofs.Resume.{unit_resumes, moved_rows}
 use Rattle.gimli_c.proofs.rows.read_rows.Goals as goal
 
@@ -24,7 +25,7 @@ returns-clause-told g c =
     (at number c.args.depth) c.args.rows.now c.in-Ok.header.entries_fit
     c.in-Err-abbreviations.error
     (map_at u.abbreviations (g.R.Reader.view c.args.sections.now.abbreviations.section))
-    c.in-Err-abbreviations.ensures)
+    c.in-Err-abbreviations.ensures.value)
 
 pub returns-in-Ok-abbreviations-clause-resumes : goal.returns-in-Ok-abbreviations-clause-resumes
 returns-in-Ok-abbreviations-clause-resumes g c =
@@ -32,7 +33,7 @@ returns-in-Ok-abbreviations-clause-resumes g c =
     let number = g.R.Offset.ReaderOffset.number c.args.offset in
     let table = c.in-Ok-abbreviations.table in
     let told = rw back at c.unit_rows.ensures.told table (same_answer c.entries_raw-opened.ensures) in
-    rw (← c.in-Ok.ensures, ← c.in-Ok-abbreviations.ensures)
+    rw (← c.in-Ok.ensures, ← c.in-Ok-abbreviations.ensures.value)
     (unit_resumes g.R.Offset.ReaderOffset.limit (unit_view c.in-Ok.header)
     (codes_of c.in-Ok-abbreviations.table) c.in-Ok.header.entries_fit (at number c.args.depth)
     c.unit_rows.result.place c.unit_rows.result.count
@@ -45,5 +46,20 @@ pub returns-in-Ok-abbreviations-clause-told : goal.returns-in-Ok-abbreviations-c
 returns-in-Ok-abbreviations-clause-told g c =
     let back : to_z w64 (of_z w64 c.args.depth) ≡ c.args.depth = to_z-of_z w64 _ c.ranges.depth in
     let table = c.in-Ok-abbreviations.table in
-    rw (← c.in-Ok.ensures, ← c.in-Ok-abbreviations.ensures)
+    rw (← c.in-Ok.ensures, ← c.in-Ok-abbreviations.ensures.value)
     (rw back at c.unit_rows.ensures.told table (same_answer c.entries_raw-opened.ensures))
+
+pub returns-clause-memory : goal.returns-clause-memory
+returns-clause-memory g c =
+    rw (
+      c.no_rows-in-Err-abbreviations.ensures,
+      c.refusal_status-in-Err-abbreviations.ensures,
+      ← c.in-Ok.ensures,
+    )
+    (table_takes c.in-Err-abbreviations.error (unit_view c.in-Ok.header).abbreviations
+    (g.R.Reader.view c.args.sections.now.abbreviations.section)
+    c.in-Err-abbreviations.ensures.without_memory)
+
+pub returns-in-Ok-abbreviations-clause-memory : goal.returns-in-Ok-abbreviations-clause-memory
+returns-in-Ok-abbreviations-clause-memory g c =
+    rw (← c.in-Ok.ensures) (λ told. absurd (c.unit_rows.ensures.memory told))

@@ -1,9 +1,10 @@
-use Rattle.std.proofs.Common.{◌≡◌, ◌∙◌, Bool, true, false, refl, ap, rules, cond, w64, to_z}
+use Rattle.std.proofs.Common.{◌≡◌, ◌∙◌, Bool, true, false, refl, sym, ap, rules, cond, w64, to_z}
 use Rattle.std.proofs.Common.{of_z}
 use Rattle.std.proofs.lemmas.Int.{to_z-of_z}
 use mir.Val.{bool_byte}
 use Rattle.gimli_units.specs.CursorMoves.{place_of}
 use Rattle.gimli_c.specs.Status.{row_refused}
+use Rattle.gimli_c.proofs.Memory.{row_memory, onward_takes, refused_takes}
 use Rattle.gimli_c.proofs.SiblingLaw.{at_stop, honest_on, sibling_stopped, sibling_told}
 use Rattle.gimli_c.proofs.sibling.find_behind.Goals as goal
 
@@ -53,3 +54,32 @@ returns-in-None-clause-told g c = λ honest _ _.
     c.in-Ok-step.field-0 (at_stop on.raw.end from.raw.end (place_of limit on) _ read.unit.end moved)
     in
     rw (← c.in-None.ensures.entry) at told
+
+pub returns-in-Err-clause-row_memory : goal.returns-in-Err-clause-row_memory
+returns-in-Err-clause-row_memory g c = λ _ told.
+    let on = c.next_entry.new.self in
+    let e = c.in-Err.error in (
+      on.offset,
+      refused_takes g.R.Offset.ReaderOffset.limit c.args.cursor.now on e
+          (c.in-Err.ensures.refused e refl)
+          (row_memory e (sym c.row_refused.ensures ∙ told)),
+    )
+
+pub returns-in-Err-step-clause-row_memory : goal.returns-in-Err-step-clause-row_memory
+returns-in-Err-step-clause-row_memory g c = λ fits told.
+    let from = c.args.cursor.now in
+    let on = c.next_entry.new.self in
+    let there = c.step.new.cursor in
+    let read = c.in-Ok.ensures in
+    let e = c.in-Err-step.error in (
+      there.offset,
+      onward_takes from.raw on.raw
+          (record {
+            further = read.further;
+            end = read.unit.end;
+            abbreviations = read.unit.abbreviations;
+          })
+          fits there.offset
+          (refused_takes g.R.Offset.ReaderOffset.limit on there e c.in-Err-step.ensures.refused
+          (row_memory e (sym c.row_refused-in-Err-step.ensures ∙ told))),
+    )

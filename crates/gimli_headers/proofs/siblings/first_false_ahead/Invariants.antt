@@ -1,6 +1,8 @@
-use Rattle.std.proofs.Common.{◌≡◌, length}
+use Rattle.std.proofs.Common.{◌≡◌, length, None}
+use Rattle.std.specs.List.{All}
 use Rattle.gimli_units.specs.CursorMoves.{rows_of}
 use Rattle.gimli_units.specs.FirstFalse.{first_false}
+use Rattle.gimli_units.specs.Honest.{usable_target}
 use Rattle.gimli_headers.specs.OpenRows.{check_held, Rise, judgement}
 use Rattle.gimli_headers.proofs.siblings.first_false_ahead.Given as goal
 
@@ -15,6 +17,8 @@ invariant-rows g l =
           ≡ first_false l.fn.entries.end (rows_of limit l.fn.entries).rows;
       rise : Rise l.entries.depth (check_held number l.check).opens;
       end : l.entries.end ≡ l.fn.entries.end;
+      idle : All (λ r. usable_target l.fn.entries.end r ≡ None) (rows_of limit l.fn.entries).rows
+          → All (λ r. usable_target l.fn.entries.end r ≡ None) (rows_of limit l.entries).rows;
     }
 
 abbrev pub decreases-rows : goal.decreases-rows

@@ -50,6 +50,14 @@ returns-in-Ok-clause-starts g c =
     (exact limit (unit_view c.args.unit.now) c.args.abbreviations.now c.in-Ok.entries _ _ same
     c.first_false_ahead.ensures.value)
 
+pub returns-in-Ok-clause-without_memory : goal.returns-in-Ok-clause-without_memory
+returns-in-Ok-clause-without_memory g c = λ none.
+    let limit = g.R.Offset.ReaderOffset.limit in
+    let same = root_is (unit_view c.args.unit.now) c.args.abbreviations.now c.in-Ok.entries
+    c.in-Ok.ensures in
+    c.first_false_ahead.ensures.without_memory
+    (rw same none)
+
 pub returns-in-Err-clause-value : goal.returns-in-Err-clause-value
 returns-in-Err-clause-value g c =
     let none = root_none g.R.Offset.ReaderOffset.limit (unit_view c.args.unit.now)

@@ -99,3 +99,10 @@ returns-in-None-clause-judged g c = λ r rest is.
 pub returns-in-None-clause-rise : goal.returns-in-None-clause-rise
 returns-in-None-clause-rise g c = λ r is.
     entry_rise r.entry r.depth _ (is.null ∙ c.if-passed.false) (rw is.depth c.requires)
+
+pub returns-in-Some-clause-without_memory : goal.returns-in-Some-clause-without_memory
+returns-in-Some-clause-without_memory g c = λ r is none.
+    let number = g.Offset.ReaderOffset.number in
+    let leads : usable_target (number c.args.end.0) r ≡ Some (number c.in-Some.target.0) =
+    rw (is.next, is.leads) (sym c.in-Some.ensures) in
+    absurd (cc)

@@ -2,7 +2,8 @@ use Rattle.std.proofs.Common.{rules, ◌≡◌, ◌∙◌, sym, ap, Ok, Err, ℕ
 use Rattle.std.proofs.Math.Nat.{max-zero}
 use Rattle.gimli_units.specs.UnitHeld.{unit_view}
 use Rattle.gimli_walk.proofs.Dumps.{dump_ended, dump_refused, dump_more, dump_cut, dump_whole}
-use Rattle.gimli_walk.proofs.Dumps.{behind_status, behind_behind, until_outcome, unit_first}
+use Rattle.gimli_walk.proofs.Dumps.{behind_status, behind_behind, until_outcome, first_takes_none}
+use Rattle.gimli_walk.proofs.Dumps.{others_take_none}
 use Rattle.gimli_walk.proofs.dump.dump_units.Goals as goal
 
 pub returns-in_err-next-in-Ok-Some-clause-text : goal.returns-in_err-next-in-Ok-Some-clause-text
@@ -23,12 +24,14 @@ returns-in_err-next-in-Ok-Some-clause-text g c =
     c.units-units.ensures.begin (c.units.invariant.completes new (Err stop) cut))
 
 pub returns-in_err-next-in-Ok-Some-clause-without_memory : goal.returns-in_err-next-in-Ok-Some-clause-without_memory
-returns-in_err-next-in-Ok-Some-clause-without_memory g c = λ none.
-    let one = rw (c.in-Ok-Some.field-0-is, c.units.invariant.first none) at
-    c.in-Ok-Some.ensures.value in
-    absurd
-    (let k = unit_first g.R.Offset.ReaderOffset.limit _ (unit_view c.in-Ok-Some.unit) _ one in
-    cc)
+returns-in_err-next-in-Ok-Some-clause-without_memory g c = λ none is.
+    let declarations = g.R.Reader.view c.args.debug_abbrev.now.section in
+    let ahead = rw c.in-Ok-Some.field-0-is at c.in-Ok-Some.ensures.ahead in
+    let stop = c.in_err-next-in-Ok-Some.field-0.0 in
+    let r : c.from_residual.result ≡ Err stop = search rules in
+    c.in_err-next-in-Ok-Some.ensures.without_memory
+    (first_takes_none _ declarations _ _ _ ahead (c.units.invariant.idle none))
+    (let k = sym r ∙ is in cc)
 
 pub units-preserved : goal.units-preserved
 units-preserved g c =
@@ -50,10 +53,9 @@ units-preserved g c =
           (dump_more limit declarations out mid final c.units.units c.next.new.self u next
           written (rw c.in-Ok-Some.field-0-is at c.in-Ok-Some.ensures.ahead)
           c.in_ok-next-in-Ok-Some.ensures.text rest));
-      first = λ none.
-          let one = rw (c.in-Ok-Some.field-0-is, c.units.invariant.first none) at
-          c.in-Ok-Some.ensures.value in
-          absurd (let k = unit_first limit _ u _ one in cc);
+      idle = λ none. others_take_none _ declarations _ _ _
+          (rw c.in-Ok-Some.field-0-is at c.in-Ok-Some.ensures.ahead)
+          (c.units.invariant.idle none);
       held = c.dump_unit.ensures.held;
     }
 

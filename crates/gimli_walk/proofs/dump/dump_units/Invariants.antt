@@ -2,13 +2,16 @@ use Rattle.std.proofs.Common.{◌≡◌, ℕ, false, Option, List, Result, Ok, l
 use Rattle.gimli_base.specs.Abbreviations.{map_at}
 use Rattle.gimli_base.specs.Table.{codes_of}
 use Rattle.gimli_walk.specs.declared.lines.Stop.{Stop}
-use Rattle.gimli_walk.specs.Text.{has_unit}
+use Rattle.gimli_walk.specs.Text.{unit_takes_memory}
+use Rattle.gimli_headers.specs.Units.{units_of, units_ahead}
+use Rattle.gimli_base.specs.declared.common.SectionId.TheVariants.{DebugInfo}
+use Rattle.std.specs.List.{All}
 use Rattle.gimli_walk.specs.Stops.{WroteUntil}
 use Rattle.gimli_walk.proofs.Dumps.{place_dump, behind_status}
 use Rattle.gimli_walk.proofs.dump.dump_units.Given as goal
 
--- whatever completes the units that are left completes the whole; where the first is refused no
--- other is read; and a table that is held is that of its offset
+-- whatever completes the units that are left completes the whole; where no unit takes memory, none
+-- that is left does; and a table that is held is that of its offset
 abbrev pub invariant-units : goal.invariant-units
 invariant-units g l =
     let limit = g.R.Offset.ReaderOffset.limit in
@@ -18,8 +21,11 @@ invariant-units g l =
           → WroteUntil (g.W.Write.contents l.out) final (text l.units) written
           → WroteUntil (g.W.Write.contents l.initial.out) final (text l.initial.units)
           (behind_status l.status written);
-      first : has_unit limit (g.R.Reader.view l.debug_info.section) ≡ false
-          → l.units ≡ record { rest = g.R.Reader.view l.debug_info.section; offset = 0 };
+      idle :
+          All (λ u. unit_takes_memory (g.R.Reader.view l.debug_abbrev.section) u ≡ false)
+          (units_of limit DebugInfo (g.R.Reader.view l.debug_info.section)).items
+          → All (λ u. unit_takes_memory (g.R.Reader.view l.debug_abbrev.section) u ≡ false)
+          (units_ahead limit DebugInfo l.units).items;
       held : IfSome l.held
           (λ h. Ok (codes_of h.table) ≡ map_at h.offset (g.R.Reader.view l.debug_abbrev.section));
     }

@@ -8,8 +8,8 @@ use Rattle.gimli_walk.proofs.StoppedLines.{until_same}
 use Rattle.gimli_walk.proofs.RowLines.{place_text, rows_ended, rows_refused, rows_more}
 use Rattle.gimli_walk.proofs.rows.write_rows_left.Goals as goal
 
-pub returns-in-Err : goal.returns-in-Err
-returns-in-Err g c =
+pub returns-in-Err-clause-text : goal.returns-in-Err-clause-text
+returns-in-Err-clause-text g c =
     let limit = g.R.Offset.ReaderOffset.limit in
     let out = g.W.Write.contents c.rows.out in
     let new = g.W.Write.contents c.write_error_at.new.out in
@@ -53,8 +53,8 @@ rows-preserved g c = λ final written rest.
     h.reads line
     (until_same _ final _ _ written (ap (place_text limit) next) rest))
 
-pub returns : goal.returns
-returns g c =
+pub returns-clause-text : goal.returns-clause-text
+returns-clause-text g c =
     let limit = g.R.Offset.ReaderOffset.limit in
     let out = g.W.Write.contents c.rows.out in
     let new = g.W.Write.contents c.write_end.new.out in

@@ -3,7 +3,7 @@ use Rattle.gimli_walk.proofs.text.walk_declared.Goals as goal
 
 pub returns-in-Rows-clause-text : goal.returns-in-Rows-clause-text
 returns-in-Rows-clause-text g c h =
-    rw c.in-Rows.is (c.end_lines.ensures.lines _ _ c.write_rows-written.ensures)
+    rw c.in-Rows.is (c.end_lines.ensures.lines _ _ c.write_rows-written.ensures.text)
 
 pub returns-in-Check-clause-text : goal.returns-in-Check-clause-text
 returns-in-Check-clause-text g c h =
@@ -41,3 +41,9 @@ returns-in-Tree-clause-text g c h =
 
 pub returns-in-Tree-clause-true_lines : goal.returns-in-Tree-clause-true_lines
 returns-in-Tree-clause-true_lines g c = rw c.in-Tree.is c.write_tree_steps.ensures.true_lines
+
+pub returns-in-Rows-clause-without_memory : goal.returns-in-Rows-clause-without_memory
+returns-in-Rows-clause-without_memory g c = λ rows.
+    rw c.in-Rows.is
+    (c.end_lines.ensures.all c.write_rows-written.ensures.without_memory _ _
+    c.write_rows-written.ensures.text)

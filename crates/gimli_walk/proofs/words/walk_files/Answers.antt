@@ -1,7 +1,7 @@
 use Rattle.std.proofs.Common.{refl, subst}
 use Rattle.std.specs.Fn.{CalledAt}
 use Rattle.gimli_walk.specs.Words.{SaysWalk, no_first, no_second}
-use Rattle.gimli_walk.proofs.WordLines.{of_both, if_ok_asks, SaysWalk-kept, Keeps-same}
+use Rattle.gimli_walk.proofs.WordLines.{of_both, says_walk, SaysWalk-kept, Keeps-same}
 use Rattle.gimli_walk.proofs.words.walk_files.Goals as goal
 
 pub returns-in_default : goal.returns-in_default
@@ -33,6 +33,7 @@ returns g c =
     (record { shown = _; shows = refl; called = c.read.ensures }))
     (subst (λ o. CalledAt g.F.FnMut c.read.new.self c.args.abbrev.now o c.read-2.new.self)
     c.in-Some-read.is (record { shown = _; shows = refl; called = c.read-2.ensures }))
-    (if_ok_asks _ c.walk_text.result
-    (rw (← c.deref.ensures.value, ← c.deref-2.ensures.value) c.walk_text.ensures.text))
+    (says_walk c.args.mode _ _ _ _ c.walk_text.result
+    (rw (← c.deref.ensures.value, ← c.deref-2.ensures.value) c.walk_text.ensures.text)
+    (rw (← c.deref.ensures.value, ← c.deref-2.ensures.value) c.walk_text.ensures.without_memory))
     c.unwrap_or-status.ensures c.flush_status.ensures

@@ -1,4 +1,4 @@
-use Rattle.std.proofs.Common.{◌≡◌, rules, ap, ◌∙◌, sym, Err, true, false, refl}
+use Rattle.std.proofs.Common.{◌≡◌, rules, ap, ◌∙◌, sym, Err, refl}
 use Rattle.gimli_base.proofs.TableTurns.{table_begin, table_more, table_again, table_refused}
 use Rattle.gimli_base.proofs.TableTurns.{table_end}
 use Rattle.gimli_base.proofs.AbbreviationReads.{declaration_at-shorter, declaration_at-some}
