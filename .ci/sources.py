@@ -1,4 +1,4 @@
-"""The functions of a crate's sources, laid out by rt fmt: where each stands, and its name as the prover prints it."""
+"""The functions of a crate's sources, laid out by rt fmt: where each stands, and its name as the prover prints it; and what an edit of them says."""
 import dataclasses, glob, os, re
 
 ITEM = re.compile(r"^(?:pub(?:\(\w+\))? )?(?:unsafe )?(impl|trait)\b([^{]*)|^[ \t]*(?:pub(?:\(\w+\))? )?(?:final |const |unsafe )*fn (\w+)")
@@ -9,6 +9,20 @@ GENERICS = re.compile(r"\s*<((?:[^<>]|<(?:[^<>]|<[^<>]*>)*>)*)>")
 def read(path):
     with open(path, encoding="utf-8") as it:
         return it.read()
+
+
+def pairs_of(path):
+    """Returns the pairs of an edit: the file, the old text and the new one."""
+    pairs, file, old = [], None, None
+    for line in read(path).split("\n"):
+        word, _, rest = line.partition(":")
+        if word == "file":
+            file = rest.strip()
+        elif word == "old":
+            old = rest[1:]
+        elif word == "new":
+            pairs.append((file, old, rest[1:]))
+    return pairs
 
 
 @dataclasses.dataclass(frozen=True)

@@ -7,14 +7,13 @@ here=$(cd "$(dirname "$0")" && pwd)
 target=$here/target
 kit=$(dirname "$(rt doc)")
 mkdir -p "$target"
-# (GIMLI_C names an archive of the crate that is built already)
-[ -n "${GIMLI_C-}" ] || (cd "$here/../crates/gimli_c" && rt lib --jobs 1 | tail -1)
+(cd "$here/../crates/gimli_c" && rt lib | tail -1)
 
 # the archive, with the allocator over malloc, realloc and free
 rm -rf "$target/heap" "$target/libgimli.a"
 mkdir "$target/heap"
 (cd "$target/heap" && ar x "$kit/c/liblibc_c.a")
-cp "${GIMLI_C:-$here/../crates/gimli_c/out/libgimli_c.a}" "$target/libgimli.a"
+cp "$here/../crates/gimli_c/out/libgimli_c.a" "$target/libgimli.a"
 ar rs "$target/libgimli.a" "$target"/heap/*.o
 
 calls=$(grep -o '^uint32_t gimli_[a-z_]*' "$here/include/gimli.h" | cut -d' ' -f2)

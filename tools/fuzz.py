@@ -4,8 +4,9 @@
 usage: tools/fuzz.py PROGRAM RUNS [--seed N] [--memory MB] [--keep FOLDER] SECTIONS..
 
 PROGRAM is the built crates/gimli_walk_program/out/gimli_walk_program; RUNS is how many times it is started. SECTIONS are folders with the
-files `info` and `abbrev`, and `aranges` where there is one, which are cut, joined, and changed in single bytes. A section is also made
-from nothing: nested entries with sibling references of any value. Each run has a limit of memory (256 MB) and of time (10 s).
+files `info` and `abbrev`, and `aranges` where there is one, or files NAME.info beside NAME.abbrev and NAME.aranges; they are cut, and
+changed in single bytes. A section is also made from nothing: nested entries with sibling references of any value. Each run has a limit
+of memory (256 MB) and of time (10 s).
 
 What holds of every run:
 - it ends by itself, with status 0 or 1, and nothing but lines of its mode is written;
@@ -180,6 +181,12 @@ def read(path):
     return path.read_bytes() if path.exists() else b""
 
 
+def sections_of(path):
+    """Returns the sections of a folder, or those of a file NAME.info."""
+    path = pathlib.Path(path)
+    return {name: read(path / name if path.is_dir() else path.with_suffix(f".{name}")) for name in ("info", "abbrev", "aranges")}
+
+
 def main():
     parser = argparse.ArgumentParser(description=__doc__, formatter_class=argparse.RawDescriptionHelpFormatter)
     parser.add_argument("program")
@@ -189,7 +196,7 @@ def main():
     parser.add_argument("--memory", type=int, default=256)
     parser.add_argument("--keep")
     given = parser.parse_args()
-    files = [{name: read(pathlib.Path(it) / name) for name in ("info", "abbrev", "aranges")} for it in given.sections]
+    files = [sections_of(it) for it in given.sections]
     pick, begun, broken, cases = random.Random(given.seed), time.time(), 0, 0
     with tempfile.TemporaryDirectory(dir="/dev/shm") as room:
         program = Program(given.program, given.memory, room)
