@@ -1,5 +1,5 @@
 #!/usr/bin/env python3
-"""Sees that the tables tell wrong bodies that no clause can refuse, as a step that always answers that memory is refused, or one that asks for none.
+"""Sees that the tables tell wrong bodies that no clause can refuse, as a step that always answers that memory is refused.
 
 usage: tools/planted.py [NAME..]    at the top of the repository; without names all of tools/planted/*.edit are tried, a minute each
 

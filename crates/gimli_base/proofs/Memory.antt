@@ -40,7 +40,7 @@ unfolding byte_at
 byte_at-never v = never_if (nat_lt 0 (length v.bytes)) (Ok (slice_index v.bytes 0, cut 1 v))
     (Err (eof v)) (λ is. cc) (λ is. cc)
 
-skip_at-never : (n : ℕ) (v : View) → Never (skip_at n v)
+pub skip_at-never : (n : ℕ) (v : View) → Never (skip_at n v)
 unfolding skip_at
 skip_at-never n v =
     never_if (nat_le n (length v.bytes)) (Ok (tt, cut n v)) (Err (eof v)) (λ is. cc) (λ is. cc)
@@ -61,7 +61,7 @@ pub uleb_at-never : (v : View) → Never (uleb_at v)
 unfolding uleb_at
 uleb_at-never v = uleb_within-never 1 9 v
 
-uleb16_at-never : (v : View) → Never (uleb16_at v)
+pub uleb16_at-never : (v : View) → Never (uleb16_at v)
 unfolding uleb16_at
 uleb16_at-never v = uleb_within-never 3 2 v
 
@@ -79,7 +79,7 @@ sleb_within-never (suc n) v =
     (never_then (sleb_within n p.1) _ (sleb_within-never n p.1)
     (λ q. never_ok (pos (p.0 - 128) +ℤ (pos 128 *ℤ q.0), q.1)))))
 
-sleb_at-never : (v : View) → Never (sleb_at v)
+pub sleb_at-never : (v : View) → Never (sleb_at v)
 unfolding sleb_at
 sleb_at-never v = sleb_within-never 9 v
 

@@ -1,7 +1,7 @@
 //! A reader over a slice.
 
 ghost use Rattle.std.specs.Prelude.{◌≡◌, ℕ, ◌+◌, ◌-◌, ◌<◌, ◌≤◌, ◌^◌, length, Bool, ⊤, IfSome, ◌==◌};
-ghost use Rattle.std.specs.Prelude.{◌++◌, nat_eq, []};
+ghost use Rattle.std.specs.Prelude.{◌++◌, nat_eq, [], All};
 ghost use Rattle.std.specs.Cmp.{and_per, on_per, nat_eq_equiv, partial_equiv_from_equiv};
 ghost use Rattle.std.specs.Cmp.Lexicographic.{pointwise, lists_per};
 ghost use Rattle.std.specs.Cmp.Rules.{comparing, hashing};
@@ -29,6 +29,7 @@ pub struct EndianSlice<'a, E, K = <E as Endianity>::Kept> {
     ghost length_fits: { length bytes.now < 2 ^ 63 },
     ghost within: { length bytes.now ≤ end },
     ghost end_fits: { end < 2 ^ 64 },
+    ghost bytes_fit: { All (λ b. b < 256) bytes.now },
 }
 
 impl<'a, E, K: Copy> Clone for EndianSlice<'a, E, K> {
@@ -259,6 +260,8 @@ impl<'a, E: Endianity> Reader for EndianSlice<'a, E> {
     ghost length_fits_offset = { λ r. Prim.omega (arith, r.length_fits) };
 
     ghost end_fits = { λ r. Prim.omega (arith, r.within, r.end_fits) };
+
+    ghost bytes_fit = { λ r. r.bytes_fit };
 }
 
 // The number of bytes before the first `byte`: a call, so that its loop takes no registers from

@@ -1,7 +1,7 @@
 //! Readers: what can be read next, and where.
 
 ghost use Rattle.std.specs.Prelude.{◌≡◌, ℕ, ◌+◌, ◌-◌, ◌<◌, ◌≤◌, ◌^◌, ◌↔◌, length, Bool, IsTrue};
-ghost use Rattle.std.specs.Prelude.{OnErr};
+ghost use Rattle.std.specs.Prelude.{OnErr, All};
 ghost use Rattle.std.specs.Option.{option_map};
 ghost use Rattle.gimli_base.specs.Offset.{answer_of};
 ghost use Rattle.gimli_base.specs.View.{View, end_of_view};
@@ -96,6 +96,8 @@ pub trait Reader: Debug + Drop {
     ghost length_fits_offset: { (r : Self) → length (view r).bytes < Self.Offset.limit };
 
     ghost end_fits: { (r : Self) → (view r).place + length (view r).bytes < 2 ^ 64 };
+
+    ghost bytes_fit: { (r : Self) → All (λ b. b < 256) (view r).bytes };
 
     /// Whether no byte is left.
     #[inline]

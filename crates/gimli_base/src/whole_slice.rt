@@ -1,7 +1,7 @@
 //! A reader over a slice, of which it keeps the whole.
 
 ghost use Rattle.std.specs.Prelude.{◌≡◌, ℕ, ◌+◌, ◌-◌, ◌<◌, ◌≤◌, ◌^◌, length, slice_range, Bool, ⊤};
-ghost use Rattle.std.specs.Prelude.{◌++◌, nat_eq, []};
+ghost use Rattle.std.specs.Prelude.{◌++◌, nat_eq, [], All};
 ghost use Rattle.std.specs.Cmp.{and_per, on_per, nat_eq_equiv, partial_equiv_from_equiv};
 ghost use Rattle.std.specs.Cmp.Lexicographic.{pointwise, lists_per};
 ghost use Rattle.std.specs.Cmp.Rules.{comparing, hashing};
@@ -9,7 +9,7 @@ ghost use Rattle.std.specs.Hash as fed;
 ghost use Rattle.std.specs.Ordering.{on, eq_of_both};
 ghost use Rattle.std.proofs.Common.{arith, rules};
 ghost use Rattle.gimli_base.specs.View.{cut, front};
-ghost use Rattle.gimli_base.specs.Range.{length_range};
+ghost use Rattle.gimli_base.specs.Range.{length_range, all_range};
 
 use crate::endian_slice::position_of;
 use crate::{Endianity, Error, Reader, ReaderOffsetId, Result};
@@ -35,6 +35,7 @@ pub struct WholeSlice<'a, E, K = <E as Endianity>::Kept> {
     ghost ordered: { begin ≤ end },
     ghost within: { end ≤ length whole.now },
     ghost end_fits: { place + length whole.now < 2 ^ 64 },
+    ghost bytes_fit: { All (λ b. b < 256) whole.now },
 }
 
 impl<'a, E, K: Copy> Clone for WholeSlice<'a, E, K> {
@@ -293,4 +294,6 @@ impl<'a, E: Endianity> Reader for WholeSlice<'a, E> {
     ghost end_fits = { λ r.
         Prim.omega
         (arith, length_range r.whole.now r.begin r.end r.within, r.end_fits, r.within, r.ordered) };
+
+    ghost bytes_fit = { λ r. all_range r.whole.now r.begin r.end r.bytes_fit };
 }

@@ -1,7 +1,7 @@
 //! How many bytes the values of forms take.
 
 ghost use Rattle.std.specs.Prelude.{◌≡◌};
-ghost use Rattle.gimli_base.specs.Width.{width_of, size_in};
+ghost use Rattle.gimli_base.specs.Width.{width_of, size_in, form_size};
 ghost use Rattle.gimli_base.specs.Sizes.{share_of};
 
 use crate::constants::forms::{
@@ -110,5 +110,16 @@ impl Width {
             }
             Width::Unknown => None,
         }
+    }
+}
+
+impl DwForm {
+    /// The number of bytes of the form's value under an encoding, where it does not depend on the
+    /// bytes (DWARF 5, 7.5.6).
+    #[inline]
+    pub fn size(self, encoding: Encoding) -> Option<u8>
+        ensures { result ≡ form_size encoding self.0 }
+    {
+        Width::of(self).size(encoding)
     }
 }

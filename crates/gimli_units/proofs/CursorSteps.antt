@@ -129,7 +129,7 @@ module _ (limit : ℕ) where
           ap (λ v. takes_memory (abbreviation_at (codes_of old.raw.abbreviations) v)) here ∙ takes
       memory false none is =
           absurd
-          (entry_at-never limit old.raw.encoding (codes_of old.raw.abbreviations) old.raw.rest none
+          (entry_at-never limit old.raw.encoding (codes_of old.raw.abbreviations) old.raw.rest
           (sym (bare none) ∙ ap Err is))
 
 -- a depth changes by one at most

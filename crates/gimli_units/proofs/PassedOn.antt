@@ -105,4 +105,4 @@ module _ (limit : ℕ) (sought : ℤ) (old : CursorView) where
   sound_pass outcome new s (a_pass mid read is same) =
       rw same
       (onward_follow mid mid sought (onward_start mid (sound_read limit old (Ok true) mid s read))).sound
-  sound_pass outcome new s (no_pass e read is) = sound_read limit old (Err e) new s read
+  sound_pass outcome new s (no_pass e read is fine) = sound_read limit old (Err e) new s read

@@ -1,8 +1,8 @@
 -- The first values of known widths are passed together.
-use Rattle.std.specs.Prelude.{◌≡◌, ℕ, ◌+◌, ◌-◌, ◌<◌, ◌≤◌, length, take, drop, List, ◌∷◌, All}
+use Rattle.std.specs.Prelude.{◌≡◌, ℕ, ◌+◌, ◌-◌, ◌<◌, ◌≤◌, length, drop, List, ◌∷◌}
 use Rattle.std.specs.Prelude.{Bool, true, false, ◌&&◌, is_some, Option, Some, None, Result, Ok, Err}
-use Rattle.std.proofs.Common.{refl, sym, ap, subst, ◌∙◌, arith, get_or, length-drop}
-use Rattle.std.proofs.lemmas.List.{drop_more, drop-take}
+use Rattle.std.proofs.Common.{refl, sym, ap, ◌∙◌, arith, get_or, length-drop}
+use Rattle.std.proofs.lemmas.List.{drop_more}
 use Rattle.std.proofs.lemmas.List.Elements.{All-drop}
 use Rattle.gimli_base.specs.declared.common.Encoding.{Encoding}
 use Rattle.gimli_base.specs.declared.error.Error.{Error}
@@ -12,11 +12,11 @@ use Rattle.gimli_base.specs.Width.{form_size}
 use Rattle.gimli_base.specs.Abbreviations.{Specification, IsWellFormed}
 use Rattle.gimli_base.proofs.Later.{cut-cut}
 use Rattle.gimli_units.specs.Entry.{attribute_at, attributes_at}
-use Rattle.gimli_units.specs.Sized.{ReadsAny, GoesOn, PassesAsOne, IsRoom, no_room, room_of_8, room_of_16, room_of_32, room_of_64, left_by, sibling_at}
+use Rattle.gimli_units.specs.Sized.{ReadsAny, AreBytes, GoesOn, PassesAsOne, left_by, sibling_at}
 use Rattle.gimli_units.proofs.SkipTurns.{skip_ok}
 use Rattle.gimli_units.proofs.SizedReads.{Passed, attribute_any}
 use Rattle.gimli_units.proofs.ReadTurns.{left_by_all}
-use Rattle.gimli_units.proofs.SumReads.{first_bytes, skipped}
+use Rattle.gimli_units.proofs.SumReads.{skipped}
 use Rattle.gimli_units.proofs.SiblingReads.{is_sibling, sibling_after}
 
 not_led : (a b : Bool) → (a && b) ≡ false → a ≡ true → b ≡ false
@@ -30,21 +30,16 @@ module _ (limit : ℕ) (e : Encoding) (leads : Bool) (ss : List Specification) (
   next : drop i ss ≡ s ∷ drop (i + 1) ss
   next = drop_more ss i s lt ∙ ap (λ x. x ∷ drop (i + 1) ss) (sym is)
 
-  module _ (v : View) (le : n + a ≤ length v.bytes) (bytes : All (λ b. b < 256) (take (n + a) v.bytes)) where
-    front : All (λ b. b < 256) (take n v.bytes)
-    front = first_bytes n (n + a) v.bytes (omega arith) bytes
-
+  module _ (v : View) (le : n + a ≤ length v.bytes) (bytes : AreBytes v) where
     before : GoesOn limit e leads ss (drop i ss) v (cut n v)
-    before = so_far v (omega (arith, le)) front
+    before = so_far v (omega (arith, le)) bytes
 
     one : left_by (attribute_at limit e s (cut n v)) ≡ Ok (tt, cut a (cut n v))
     one =
         let left : length (cut n v).bytes ≡ length v.bytes - n = length-drop n v.bytes in
         let here : a ≤ length (cut n v).bytes = omega (arith, le, left) in
-        let back : All (λ x. x < 256) (take a (cut n v).bytes)
-        = subst (All (λ x. x < 256)) (drop-take n a v.bytes)
-        (All-drop (λ x. x < 256) n (take (n + a) v.bytes) bytes) in
-        attribute_any limit e a any (cut n v) (λ _ _. back) s well size ∙ skip_ok a (cut n v) here
+        let back : AreBytes (cut n v) = All-drop (λ x. x < 256) n v.bytes bytes in
+        attribute_any limit e a any (cut n v) back s well size ∙ skip_ok a (cut n v) here
 
     after : {A : Type 0} → (f : View → Reads A)
         → (left_by (attribute_at limit e s (cut n v)) >>= λ p. f p.1) ≡ f (cut (n + a) v)
@@ -68,56 +63,6 @@ module _ (limit : ℕ) (e : Encoding) (leads : Bool) (ss : List Specification) (
 
   pub run_more : PassesAsOne limit e leads ss (i + 1) (n + a)
   run_more v le bytes = both v le bytes
-
--- where there is room for so many bytes, there are as many as are looked at
-pub record Looks (m size : ℕ) : Type 0 where
-  pub most : m ≤ 64
-  pub by_8 : 8 ≤ m
-  pub by_16 : 8 < size → 16 ≤ m
-  pub by_32 : 16 < size → 32 ≤ m
-  pub by_64 : 32 < size → 64 ≤ m
-
-pub looks : (m size : ℕ) → IsRoom m → size ≤ m → 0 < size → Looks m size
-looks m size (no_room is) le some = absurd (omega (arith, is, le, some))
-looks m size (room_of_8 is) le some =
-    record {
-      most = omega (arith, is);
-      by_8 = omega (arith, is);
-      by_16 = λ h. omega (arith, is, le, h);
-      by_32 = λ h. omega (arith, is, le, h);
-      by_64 = λ h. omega (arith, is, le, h);
-    }
-looks m size (room_of_16 is) le some =
-    record {
-      most = omega (arith, is);
-      by_8 = omega (arith, is);
-      by_16 = λ h. omega (arith, is);
-      by_32 = λ h. omega (arith, is, le, h);
-      by_64 = λ h. omega (arith, is, le, h);
-    }
-looks m size (room_of_32 is) le some =
-    record {
-      most = omega (arith, is);
-      by_8 = omega (arith, is);
-      by_16 = λ h. omega (arith, is);
-      by_32 = λ h. omega (arith, is);
-      by_64 = λ h. omega (arith, is, le, h);
-    }
-looks m size (room_of_64 is) le some =
-    record {
-      most = omega (arith, is);
-      by_8 = omega (arith, is);
-      by_16 = λ h. omega (arith, is);
-      by_32 = λ h. omega (arith, is);
-      by_64 = λ h. omega (arith, is);
-    }
-
-pub room_most : (m : ℕ) → IsRoom m → m ≤ 64
-room_most m (no_room is) = omega (arith, is)
-room_most m (room_of_8 is) = omega (arith, is)
-room_most m (room_of_16 is) = omega (arith, is)
-room_most m (room_of_32 is) = omega (arith, is)
-room_most m (room_of_64 is) = omega (arith, is)
 
 -- bytes that are there are passed
 pub skipped_there : (r : Result (Unit {0}) Error) (w v : View) (n : ℕ) → read_of r w ≡ skip_at n v

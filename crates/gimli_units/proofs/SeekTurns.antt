@@ -17,6 +17,7 @@ use Rattle.gimli_units.proofs.CursorSteps.{sound_read}
 use Rattle.gimli_units.proofs.PassedOn.{sound_pass}
 use Rattle.gimli_units.proofs.Onward.{onward_start, onward_follow}
 use Rattle.gimli_units.proofs.Walking.{read_shorter}
+use Rattle.gimli_units.proofs.Splits.{equal}
 use Rattle.gimli_units.proofs.Seeking.{Seeking, seeking_on, seeking_start, sought_to, sought_end}
 use Rattle.gimli_units.proofs.Seeking.{sought_out, paired}
 
@@ -37,6 +38,17 @@ read_some limit old new outcome (the_end none is same) took =
     let x : ◌≡◌ {A = Result Bool Error} (Ok false) (Ok true) = sym is ∙ took in absurd (cc)
 read_some limit old new outcome (a_refusal e some is same why memory) took =
     let x : ◌≡◌ {A = Result Bool Error} (Err e) (Ok true) = sym is ∙ took in absurd (cc)
+
+-- what was refused had the depth that its place had, and there was something to read
+refused_at : (limit : ℕ) (old new : CursorView) (outcome : Result Bool Error)
+    → HasRead limit old outcome new → (x : Error) → outcome ≡ Err x
+    → (length old.raw.rest.bytes ≡ 0 → ⊥) × (new.depth ≡ old.raw.depth)
+refused_at limit old new outcome (an_entry e w some reads is same) x fails =
+    let y : ◌≡◌ {A = Result Bool Error} (Ok true) (Err x) = sym is ∙ fails in absurd (cc)
+refused_at limit old new outcome (the_end none is same) x fails =
+    let y : ◌≡◌ {A = Result Bool Error} (Ok false) (Err x) = sym is ∙ fails in absurd (cc)
+refused_at limit old new outcome (a_refusal e some is same why memory) x fails =
+    (some, ap (λ (c : CursorView). c.depth) same)
 
 module _ (limit : ℕ) (depth : ℤ) (offset : ℕ) where
   -- a search that has left an entry, and has found nothing yet
@@ -67,7 +79,7 @@ module _ (limit : ℕ) (depth : ℤ) (offset : ℕ) where
             refl (rw deep other);
         left = same;
       }
-  leaving_on start here outcome new k (no_pass e read is) took other =
+  leaving_on start here outcome new k (no_pass e read is fine) took other =
       let x : ◌≡◌ {A = Result (Unit {0}) Error} (Err e) (Ok tt) = sym is ∙ took in absurd (cc)
 
   -- entries of other depths are passed, one after the other
@@ -88,11 +100,11 @@ module _ (limit : ℕ) (depth : ℤ) (offset : ℕ) where
       → outcome ≡ Err x → HasSought limit depth offset start (Err x) new
   leaving_out start here outcome new k (a_pass mid read is same) x fails =
       let y : ◌≡◌ {A = Result (Unit {0}) Error} (Ok tt) (Err x) = sym is ∙ fails in absurd (cc)
-  leaving_out start here outcome new k (no_pass e read is) x fails =
+  leaving_out start here outcome new k (no_pass e read is fine) x fails =
       let y : ◌≡◌ {A = Result (Unit {0}) Error} (Err e) (Err x) = sym is ∙ fails in
       let one : e ≡ x = cc in
       sought_out limit depth offset start k.mid (Err e) new k.seeking (rw k.left at read) x
-      (ap Err one)
+      (ap Err one) (λ memory. absurd (fine (one ∙ memory)))
 
   -- the entry after them is refused
   pub leaving_after : (start old : CursorView) (x : Error) (new : CursorView) → Leaving start old
@@ -120,9 +132,12 @@ module _ (limit : ℕ) (depth : ℤ) (offset : ℕ) where
 
   pub left_out : (start here : CursorView) (outcome : Result Bool Error) (new : CursorView)
       → Leaving start here → HasRead limit here outcome new → (x : Error) → outcome ≡ Err x
+      → ((length here.raw.rest.bytes ≡ 0 → ⊥) → int_eq here.raw.depth depth ≡ true)
       → HasSought limit depth offset start (Err x) new
-  left_out start here outcome new k read x fails =
+  left_out start here outcome new k read x fails there =
+      let at = refused_at limit here new outcome read x fails in
       sought_out limit depth offset start k.mid outcome new k.seeking (rw k.left at read) x fails
+      (λ _. at.1 ∙ equal here.raw.depth depth (there at.0))
 
 -- entries that were passed up to here, on the way to a depth
 pub record Passing (limit : ℕ) (sought : ℤ) (start here : CursorView) : Type 0 where
@@ -152,7 +167,7 @@ module _ (limit : ℕ) (sought : ℤ) (start : CursorView) where
       let fewer = IsLater-length 0 mid.raw.rest (leave_entry sought mid).raw.rest o.further in
       let one = read_shorter limit here (Ok true) mid read refl in
       rw same (omega (arith, fewer, one))
-  passing_shorter here outcome new s (no_pass e read is) took =
+  passing_shorter here outcome new s (no_pass e read is fine) took =
       let x : ◌≡◌ {A = Result (Unit {0}) Error} (Err e) (Ok tt) = sym is ∙ took in absurd (cc)
 
   -- the next one is refused

@@ -8,6 +8,7 @@ use Rattle.std.specs.Ordering.{int_eq}
 use Rattle.std.proofs.lemmas.Int.{ints}
 use Rattle.std.proofs.lemmas.Bool.{not-true, not-false, ne_eqb}
 use Rattle.gimli_base.specs.declared.error.Error.{Error}
+use Rattle.gimli_base.specs.declared.error.Error.TheVariants.{OutOfMemory}
 use Rattle.gimli_base.specs.View.{View}
 use Rattle.gimli_base.specs.Reading.{UnlessMemory}
 use Rattle.gimli_base.specs.Table.{codes_of}
@@ -56,6 +57,9 @@ left_some v some = let t : (length v.bytes == 0) ≡ false = ne_eqb (length v.by
 
 left_none : (v : View) → length v.bytes ≡ 0 → one_if_left v ≡ 0
 left_none v none = rw none refl
+
+one_error : {x y : Error} → ◌≡◌ {A = Result Bool Error} (Err x) (Err y) → x ≡ y
+one_error h = cc
 
 module _ (limit : ℕ) (depth : ℤ) (offset : ℕ) where
   -- a cursor that has gone on, and what is sought is the same
@@ -423,6 +427,7 @@ module _ (limit : ℕ) (depth : ℤ) (offset : ℕ) where
                   inl (rw same at true_one),
                 );
             refused = λ x t. absurd (cc);
+            asked = λ t. absurd (cc);
             place = λ x t. absurd (cc);
             there = λ t leads at. first_at mid e w some reads ∙ first_rows start here k t leads at;
             once = λ t leads at.
@@ -511,6 +516,7 @@ module _ (limit : ℕ) (depth : ℤ) (offset : ℕ) where
             yes = λ t. absurd (cc);
             no = λ t. (refl, refl, inr (none, refl));
             refused = λ x t. absurd (cc);
+            asked = λ t. absurd (cc);
             place = λ x t. absurd (cc);
             there = λ t leads at. first_end_at mid none ∙ first_rows start here k t leads at;
             once = λ t leads at.
@@ -546,8 +552,9 @@ module _ (limit : ℕ) (depth : ℤ) (offset : ℕ) where
 
   pub sought_out : (start here : CursorView) (outcome : Result Bool Error) (new : CursorView)
       → Seeking start here → HasRead limit (leave_entry depth here) outcome new
-      → (x : Error) → outcome ≡ Err x → HasSought limit depth offset start (Err x) new
-  sought_out start here outcome new k h x fails =
+      → (x : Error) → outcome ≡ Err x → (x ≡ OutOfMemory → new.depth ≡ depth)
+      → HasSought limit depth offset start (Err x) new
+  sought_out start here outcome new k h x fails there =
       cases h
       (onward_read limit start (leave_entry depth here) outcome new
       (onward_follow start here depth k.onward) h) (plain_once start here outcome new k h)
@@ -585,6 +592,7 @@ module _ (limit : ℕ) (depth : ℤ) (offset : ℕ) where
             yes = λ t. absurd (cc);
             no = λ t. absurd (cc);
             refused = rw same at refused;
+            asked = λ t. (rw same at there) (one_error t);
             place = λ v t honest.
                 let i = k.honestly honest in
                 i.places _ _

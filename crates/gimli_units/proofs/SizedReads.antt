@@ -1,13 +1,13 @@
 -- Where the size of a value is known, reading it is passing its bytes, with the same refusals.
 use Rattle.std.specs.Prelude.{◌≡◌, ℕ, ℤ, suc, ◌+◌, ◌*◌, ◌<◌, ◌≤◌, ◌^◌, ◌==◌, ◌&&◌, ◌||◌}
 use Rattle.std.specs.Prelude.{Bool, true, false, if◌then◌else◌, nat_lt, nat_le, length, take, reverse}
-use Rattle.std.specs.Prelude.{List, [], ◌∷◌, All, is_some, Option, Some, None, Result, Ok, Err}
+use Rattle.std.specs.Prelude.{List, [], ◌∷◌, is_some, Option, Some, None, Result, Ok, Err}
 use Rattle.std.specs.List.{AllByRecursion}
 use Rattle.std.proofs.Common.{refl, sym, ap, subst, ◌∙◌, ◌++◌, arith, length-take}
 use Rattle.std.proofs.Math.Nat.{mul-le-mul_right, pow-succ', pow-le-pow_right}
 use Rattle.std.proofs.lemmas.Bool.{lt-ltb, ltb-true, leb-true, eqb-true}
 use Rattle.std.proofs.lemmas.List.{length-reverse, reverse-append}
-use Rattle.std.proofs.lemmas.List.Elements.{recursion_from_All}
+use Rattle.std.proofs.lemmas.List.Elements.{recursion_from_All, All-take}
 use Rattle.gimli_base.specs.declared.common.Encoding.{Encoding}
 use Rattle.gimli_base.specs.declared.common.Format.{Format}
 use Rattle.gimli_base.specs.declared.common.Format.TheVariants.{Dwarf32, Dwarf64}
@@ -30,7 +30,7 @@ use Rattle.gimli_units.specs.Layout.{block_leb, text, nothing, constant, forms, 
 use Rattle.gimli_units.specs.Form.{is_section_name, value_in, direct_at, form_at}
 use Rattle.gimli_units.specs.Form.{value_at}
 use Rattle.gimli_units.specs.Entry.{attribute_at}
-use Rattle.gimli_units.specs.Sized.{ReadsAny, left_by}
+use Rattle.gimli_units.specs.Sized.{ReadsAny, AreBytes, left_by}
 use Rattle.gimli_units.proofs.Chains.{chain_begin, chain_end, number_stands}
 use Rattle.gimli_units.proofs.WidthLaw.{size_of, known_size, form_size-known}
 use Rattle.gimli_units.proofs.SkipTurns.{not_indirect}
@@ -41,10 +41,6 @@ Passed = Reads (Unit {0})
 pub left_by_made : {A B : Type 0} → (f : A → B) (r : Reads A) → left_by (map_read f r) ≡ left_by r
 left_by_made f (Ok p) = refl
 left_by_made f (Err e) = refl
-
--- the next n bytes, where they are there and no more than an offset has, are bytes
-abbrev pub AreBytes : ℕ → View → Type 0
-AreBytes n v = n ≤ 8 → n ≤ length v.bytes → All (λ b. b < 256) (take n v.bytes)
 
 -- a number of n bytes is below 256 ^ n
 abbrev Below : List ℕ → Type 0
@@ -105,7 +101,7 @@ in_limit : (limit m : ℕ) (w : View) → m < limit
 in_limit limit m w h = rw (lt-ltb m limit h) refl
 
 -- the next n bytes as an offset
-offset_passed : (limit n : ℕ) (v : View) → n ≤ 8 → 256 ^ n ≤ limit → AreBytes n v
+offset_passed : (limit n : ℕ) (v : View) → n ≤ 8 → 256 ^ n ≤ limit → AreBytes v
     → left_by (uint_offset_at limit n v) ≡ skip_at n v
 unfolding uint_at bytes_at skip_at
 offset_passed limit n v few fits bytes = cases (nat_le n (length v.bytes)) refl
@@ -124,7 +120,8 @@ offset_passed limit n v few fits bytes = cases (nat_le n (length v.bytes)) refl
         let long : length (take n v.bytes) ≡ n = omega (arith, length-take n v.bytes, le) in
         let small : number_in v.big (take n v.bytes) < 256 ^ length (take n v.bytes)
         = number_below v.big (take n v.bytes)
-        (recursion_from_All (λ b. b < 256) (take n v.bytes) (bytes few le)) in
+        (recursion_from_All (λ b. b < 256) (take n v.bytes)
+        (All-take (λ b. b < 256) n v.bytes bytes)) in
         let same : 256 ^ length (take n v.bytes) ≡ 256 ^ n = ap (λ k. 256 ^ k) long in
         let below : number_in v.big (take n v.bytes) < limit = omega (arith, small, same, fits) in
         in_limit limit (number_in v.big (take n v.bytes)) (cut n v) below
@@ -181,7 +178,7 @@ found_suits form l (r ∷ rs) h k =
 
 -- the value in a layout
 module _ (limit : ℕ) (e : Encoding) (n : ℕ) (any : ReadsAny limit e n) (v : View)
-    (bytes : AreBytes n v) where
+    (bytes : AreBytes v) where
   offset_any : (m : ℕ) → n ≡ m → m ≤ 8 → left_by (uint_offset_at limit m v) ≡ skip_at n v
   offset_any m is few =
       let le : n ≤ 8 = omega (arith, is, few) in
@@ -312,6 +309,15 @@ ok_below f limit m (Ok o) h k = cases (nat_lt m limit) refl h
         → m < limit
     cases true is x = ltb-true m limit is
     cases false is x = absurd (cc)
+
+-- an offset is the number that it was made of
+pub offset_is : (limit m k : ℕ) → Ok k ≡ offset_of limit m → k ≡ m
+offset_is limit m k h = cases (nat_lt m limit) h
+  where
+    cases : (t : Bool)
+        → ◌≡◌ {A = Result ℕ Error} (Ok k) (if t then Ok m else Err UnsupportedOffset) → k ≡ m
+    cases true is = cc
+    cases false is = absurd (cc)
 
 pub any_of_16 : (limit : ℕ) (e : Encoding) → is_size e.address_size ≡ true
     → 0xffff_ffff_ffff_ffff < limit → (n : ℕ) → ReadsAny limit e n

@@ -1,10 +1,11 @@
 -- Turns of the loop that passes values, those of known sizes together.
-use Rattle.std.proofs.Common.{◌≡◌, ℕ, zero, suc, ◌+◌, ◌-◌, ◌<◌, ◌≤◌, ◌==◌, length, drop, List, ◌∷◌}
+use Rattle.std.proofs.Common.{◌≡◌, ℕ, zero, suc, ◌+◌, ◌-◌, ◌<◌, ◌≤◌, ◌==◌, length, drop, List, [], ◌∷◌}
 use Rattle.std.proofs.Common.{Bool, true, false, if◌then◌else◌, Option, Some, None, Result, Ok, Err}
 use Rattle.std.proofs.Common.{refl, sym, ap, ◌∙◌, arith, nat_le, get_or, length-drop}
 use Rattle.std.proofs.lemmas.Bool.{le-leb, lt-leb, leb-true, leb-false, ne_eqb}
 use Rattle.std.proofs.lemmas.List.{drop_more, drop_all}
 use Rattle.gimli_base.specs.declared.common.Encoding.{Encoding}
+use Rattle.gimli_base.specs.declared.constants.DwForm.{DwForm}
 use Rattle.gimli_base.specs.declared.error.Error.{Error}
 use Rattle.gimli_base.specs.declared.error.Error.TheVariants.{UnknownForm}
 use Rattle.gimli_base.specs.Abbreviations.{Specification}
@@ -18,7 +19,8 @@ use Rattle.gimli_base.specs.Offset.{sum_of}
 use Rattle.std.specs.Prelude.{nat_lt, IfErr}
 use Rattle.gimli_units.specs.Layout.{Layout, byte, number, section_or, address, uleb, sleb, offset}
 use Rattle.gimli_units.specs.Layout.{word_offset, reference, offset_leb, offset_leb_and, block}
-use Rattle.gimli_units.specs.Layout.{block_leb, text, nothing, constant, layout_of}
+use Rattle.gimli_units.specs.Layout.{block_leb, text, nothing, constant, forms, layout_in, layout_of}
+use Rattle.gimli_units.specs.Taking.{is_variable, is_among, has_variable_size}
 use Rattle.gimli_units.specs.Form.{form_at, form_within}
 use Rattle.gimli_units.proofs.WidthLaw.{size_of, known_size, form_size-known}
 use Rattle.gimli_units.specs.Passing.{pass, pass_at, pass_direct, pass_all}
@@ -63,6 +65,66 @@ direct_passes : (limit n form : ℕ) (e : Encoding) (v : View) → Some n ≡ kn
     → pass_direct limit e form v ≡ skip_at n v
 unfolding pass_direct known_size
 direct_passes limit n form e v h = option_passes limit n form e (layout_of form) v h
+
+-- a form of a known size is passed by it
+pub size_passed : (limit n form : ℕ) (e : Encoding) (v : View) → form_size e form ≡ Some n
+    → skip_at n v ≡ pass_direct limit e form v
+size_passed limit n form e v h =
+    sym (direct_passes limit n form e v (sym h ∙ form_size-known e form))
+
+-- a layout has a known size, or a variable one
+some_size : (e : Encoding) (l : Layout) → is_variable l ≡ false → size_of e l ≡ None → ⊥
+some_size e (byte f) fixed h = cc
+some_size e (number n f) fixed h = cc
+some_size e (section_or n f) fixed h = cc
+some_size e (address f) fixed h = cc
+some_size e (offset n f) fixed h = cc
+some_size e (word_offset f) fixed h = cc
+some_size e (reference f) fixed h = cc
+some_size e (nothing x) fixed h = cc
+some_size e (constant f) fixed h = cc
+some_size e (uleb f) fixed h = cc
+some_size e (sleb f) fixed h = cc
+some_size e (offset_leb f) fixed h = cc
+some_size e (offset_leb_and n f) fixed h = cc
+some_size e (block n f) fixed h = cc
+some_size e (block_leb f) fixed h = cc
+some_size e (text f) fixed h = cc
+
+no_layout : (e : Encoding) (form : ℕ) (rs : List (ℕ × Layout))
+    → ◌≡◌ {A = Option ℕ} (elim (layout_in form rs) [ Some l ↦ size_of e l | None ↦ None ]) None
+    → is_among is_variable form rs ≡ false → layout_in form rs ≡ None
+no_layout e form [] none other = refl
+no_layout e form (r ∷ rs) none other =
+    sort (form == r.0) (is_variable r.1) refl (no_layout e form rs) none other
+  where
+    sort : (b t : Bool) → is_variable r.1 ≡ t
+        → (◌≡◌ {A = Option ℕ} (elim (layout_in form rs) [ Some l ↦ size_of e l | None ↦ None ]) None
+        → is_among is_variable form rs ≡ false → layout_in form rs ≡ None)
+        → ◌≡◌ {A = Option ℕ}
+        (elim (if b then Some r.1 else layout_in form rs) [ Some l ↦ size_of e l | None ↦ None ])
+        None
+        → (if t then (if b then true else is_among is_variable form rs)
+        else is_among is_variable form rs)
+        ≡ false
+        → (if b then Some r.1 else layout_in form rs) ≡ None
+    sort true true is others h k = absurd (cc)
+    sort true false is others h k = absurd (some_size e r.1 is h)
+    sort false true is others h k = others h k
+    sort false false is others h k = others h k
+
+-- any other form is refused
+pub unknown_refused : (limit : ℕ) (e : Encoding) (form : DwForm) (v : View)
+    → form_size e form.0 ≡ None → has_variable_size form.0 ≡ false
+    → Err (UnknownForm form) ≡ pass_direct limit e form.0 v
+unfolding pass_direct has_variable_size known_size layout_of
+unknown_refused limit e form v size other =
+    let none : layout_of form.0 ≡ None =
+    no_layout e form.0 forms (sym (form_size-known e form.0) ∙ size) other in
+    sym (ap (λ (o : Option Layout). elim o [
+      | Some l ↦ pass limit e l v
+      | None ↦ Err (UnknownForm form)
+    ]) none)
 
 pub not_indirect : (n form : ℕ) (e : Encoding) → Some n ≡ known_size e form → form ≡ 0x16 → ⊥
 unfolding known_size layout_of

@@ -1,10 +1,9 @@
 -- Attributes of known sizes are passed together, where all their bytes are there.
-use Rattle.std.specs.Prelude.{◌≡◌, ℕ, ◌+◌, ◌-◌, ◌<◌, ◌≤◌, length, take, List, [], ◌∷◌, All}
+use Rattle.std.specs.Prelude.{◌≡◌, ℕ, ◌+◌, ◌-◌, ◌<◌, ◌≤◌, length, List, [], ◌∷◌, All}
 use Rattle.std.specs.Prelude.{Option, Some, None, Result, Ok, Err, true}
 use Rattle.std.specs.List.{AllByRecursion}
-use Rattle.std.proofs.Common.{refl, sym, ap, subst, ◌∙◌, arith, length-drop}
-use Rattle.std.proofs.lemmas.List.{take-take, drop-take}
-use Rattle.std.proofs.lemmas.List.Elements.{All-take, All-drop, recursion_from_All}
+use Rattle.std.proofs.Common.{refl, sym, ap, ◌∙◌, arith, length-drop}
+use Rattle.std.proofs.lemmas.List.Elements.{All-drop, recursion_from_All}
 use Rattle.gimli_base.specs.declared.common.Encoding.{Encoding}
 use Rattle.gimli_base.specs.View.{View, cut}
 use Rattle.gimli_base.specs.declared.error.Error.{Error}
@@ -15,7 +14,7 @@ use Rattle.gimli_base.specs.Abbreviations.{Specification, IsWellFormed}
 use Rattle.gimli_base.proofs.Later.{cut-cut}
 use Rattle.gimli_base.proofs.Passed.{skip_at-none}
 use Rattle.gimli_units.specs.Entry.{attribute_at, attributes_at}
-use Rattle.gimli_units.specs.Sized.{ReadsAny, left_by}
+use Rattle.gimli_units.specs.Sized.{ReadsAny, AreBytes, left_by}
 use Rattle.gimli_units.proofs.SkipTurns.{skip_ok}
 use Rattle.gimli_units.proofs.SizedReads.{Passed, attribute_any}
 use Rattle.gimli_units.proofs.ReadTurns.{left_by_all}
@@ -24,28 +23,22 @@ use Rattle.gimli_units.proofs.ReadTurns.{left_by_all}
 module _ (limit : ℕ) (e : Encoding) (any : (n : ℕ) → ReadsAny limit e n) where
   abbrev Together : List Specification → Type 0
   Together ss = (n : ℕ) (v : View) → Some n ≡ attributes_size e ss → n ≤ length v.bytes
-      → All (λ b. b < 256) (take n v.bytes)
+      → AreBytes v
       → left_by (attributes_at limit e ss v) ≡ Ok (tt, cut n v)
 
   both : (s : Specification) (ss : List Specification) → IsWellFormed s → Together ss
       → (a b : ℕ) (v : View) → Some a ≡ form_size e s.form.0 → Some b ≡ attributes_size e ss
-      → a + b ≤ length v.bytes → All (λ x. x < 256) (take (a + b) v.bytes)
+      → a + b ≤ length v.bytes → AreBytes v
       → left_by (attributes_at limit e (s ∷ ss) v) ≡ Ok (tt, cut (a + b) v)
   both s ss well others a b v first second le bytes =
       let here : a ≤ length v.bytes = omega (arith, le) in
       let left : length (cut a v).bytes ≡ length v.bytes - a = length-drop a v.bytes in
       let behind : b ≤ length (cut a v).bytes = omega (arith, le, left) in
-      let front : All (λ x. x < 256) (take a v.bytes)
-      = subst (All (λ x. x < 256)) (take-take a (a + b) v.bytes (omega arith))
-      (All-take (λ x. x < 256) a (take (a + b) v.bytes) bytes) in
-      let back : All (λ x. x < 256) (take b (cut a v).bytes)
-      = subst (All (λ x. x < 256)) (drop-take a b v.bytes)
-      (All-drop (λ x. x < 256) a (take (a + b) v.bytes) bytes) in
       let one : left_by (attribute_at limit e s v) ≡ Ok (tt, cut a v)
-      = attribute_any limit e a (any a) v (λ _ _. front) s well first ∙ skip_ok a v here in
+      = attribute_any limit e a (any a) v bytes s well first ∙ skip_ok a v here in
       left_by_all limit e s ss v
       ∙ ap (λ (r : Passed). r >>= λ p. left_by (attributes_at limit e ss p.1)) one
-      ∙ others b (cut a v) second behind back
+      ∙ others b (cut a v) second behind (All-drop (λ x. x < 256) a v.bytes bytes)
       ∙ ap (λ (u : View). Ok (tt, u)) (cut-cut a b v)
 
   together : (ss : List Specification) → AllByRecursion IsWellFormed ss → Together ss
@@ -61,16 +54,14 @@ module _ (limit : ℕ) (e : Encoding) (any : (n : ℕ) → ReadsAny limit e n) w
           → left_by (attributes_at limit e (s ∷ ss) v) ≡ Ok (tt, cut n v)
       cases (Some a) (Some b) i j k others =
           let sum : a + b ≡ n = cc in
-          both s ss well.0 others a b v (sym i) (sym j) (omega (arith, sum, le))
-          (subst (λ m. All (λ x. x < 256) (take m v.bytes)) (sym sum) bytes)
+          both s ss well.0 others a b v (sym i) (sym j) (omega (arith, sum, le)) bytes
           ∙ ap (λ m. Ok (tt, cut m v)) sum
       cases (Some a) None i j k others = absurd (cc)
       cases None p i j k others = absurd (cc)
 
   -- all of them, where the sum of their sizes is known
   pub attributes_together : (ss : List Specification) → All IsWellFormed ss → (n : ℕ) (v : View)
-      → Some n ≡ attributes_size e ss → n ≤ length v.bytes
-      → All (λ b. b < 256) (take n v.bytes)
+      → Some n ≡ attributes_size e ss → n ≤ length v.bytes → AreBytes v
       → left_by (attributes_at limit e ss v) ≡ Ok (tt, cut n v)
   attributes_together ss well = together ss (recursion_from_All IsWellFormed ss well)
 
@@ -90,9 +81,3 @@ any_below limit e above h le m = record {
   sized = (h 0 (omega (arith, le))).sized;
   fits = λ few. (h m (omega (arith, le, few))).fits few;
 }
-
--- the first of bytes are bytes
-pub first_bytes : (n m : ℕ) (xs : List ℕ) → n ≤ m → All (λ b. b < 256) (take m xs)
-    → All (λ b. b < 256) (take n xs)
-first_bytes n m xs le h =
-    subst (All (λ b. b < 256)) (take-take n m xs le) (All-take (λ b. b < 256) n (take m xs) h)

@@ -6,6 +6,7 @@ use Rattle.std.specs.Option.{option_map}
 use Rattle.std.specs.Borrow.{Fml, RattleType, Bor, MutBor}
 use Rattle.std.specs.Io.BufRead.{Rests}
 use Rattle.gimli_base.specs.declared.error.Error.{Error}
+use Rattle.gimli_base.specs.declared.error.Error.TheVariants.{OutOfMemory}
 use Rattle.gimli_base.specs.Offset.{answer_of}
 use Rattle.gimli_base.specs.View.{View}
 use Rattle.gimli_base.specs.Reading.{UnlessMemory}
@@ -57,7 +58,8 @@ pub record HasWalked (limit : ℕ) (old : CursorView) (outcome : Result Bool Err
 
 -- A step to the next sibling: the place moves as the definition says where the references are
 -- honest, unless memory is refused; and whatever the references, what is answered is true, and a
--- reference of the current entry that is followed is one read.
+-- reference of the current entry that is followed is one read. Memory is asked for at an entry of
+-- the current one's depth alone.
 pub record HasWalkedOver (limit : ℕ) (old : CursorView) (outcome : Result Bool Error)
     (new : CursorView) : Type 0 where
   pub moves : (old.follows ≡ true → IsHonestFor limit old.depth old)
@@ -66,6 +68,7 @@ pub record HasWalkedOver (limit : ℕ) (old : CursorView) (outcome : Result Bool
   pub true_entry : outcome ≡ Ok true
       → IsTrueEntry limit old new × (is_null new.entry ≡ false) × (new.depth ≡ old.depth)
   pub refused : (e : Error) → outcome ≡ Err e → IsRefused limit old e new
+  pub asked : outcome ≡ Err OutOfMemory → new.depth ≡ old.depth
   pub place : (e : Error) → outcome ≡ Err e → (old.follows ≡ true → IsHonestFor limit old.depth old)
       → IsAheadOf limit (has_depth old.depth) old new
   pub taken : (t : ℕ) → followed_to old ≡ Some t

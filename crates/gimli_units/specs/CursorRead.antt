@@ -123,13 +123,13 @@ abbrev pub passed_over : CursorView → RawPlace → CursorView
 passed_over c raw =
     without_entry raw (next_offset_of c.raw) c.raw.depth c.follows (c.reads + 1)
 
--- an entry was read and left, or what stood there was refused
+-- an entry was passed, and left, or what stood there was refused; no memory is asked for
 pub data HasPassed (limit : ℕ) (sought : ℤ) (old : CursorView) (outcome : Result (Unit {0}) Error)
     (new : CursorView) : Type 0 where
   a_pass : (mid : CursorView) → HasRead limit old (Ok true) mid → outcome ≡ Ok tt
       → new ≡ leave_entry sought mid → HasPassed limit sought old outcome new
   no_pass : (e : Error) → HasRead limit old (Err e) new → outcome ≡ Err e
-      → HasPassed limit sought old outcome new
+      → (e ≡ OutOfMemory → ⊥) → HasPassed limit sought old outcome new
 
 -- n entries of other depths were read and left, one after the other
 abbrev pub HasPassedMany : ℕ → ℤ → ℕ → CursorView → CursorView → Type 0
@@ -179,6 +179,7 @@ Searches limit (suc n) depth offset here outcome new =
 -- An entry of this depth was sought: where the rows are honest, the first row ahead that has it was
 -- found. Whatever the references, what was answered is true, and where the current entry has that
 -- depth and a reference that is followed, one read was made, and what stands there was answered.
+-- Memory was asked for at an entry of that depth alone.
 pub record HasSought (limit : ℕ) (depth : ℤ) (offset : ℕ) (old : CursorView)
     (outcome : Result Bool Error) (new : CursorView) : Type 0 where
   pub unit : IsSameUnit old new
@@ -191,6 +192,7 @@ pub record HasSought (limit : ℕ) (depth : ℤ) (offset : ℕ) (old : CursorVie
       → IsTrueEntry limit old new × (is_null new.entry ≡ false) × (new.depth ≡ depth)
   pub no : outcome ≡ Ok false → IsNotFound limit depth offset old new
   pub refused : (e : Error) → outcome ≡ Err e → IsRefused limit old e new
+  pub asked : outcome ≡ Err OutOfMemory → new.depth ≡ depth
   pub place : (e : Error) → outcome ≡ Err e → (old.follows ≡ true → IsHonestFor limit depth old)
       → IsAheadOf limit (has_depth depth) old new
   pub there : (t : ℕ) → followed_to old ≡ Some t → old.depth ≡ depth

@@ -1,12 +1,16 @@
 -- Passing values by their known size, where reading refuses none whose bytes are there.
-use Rattle.std.specs.Prelude.{◌≡◌, ℕ, ◌<◌, ◌≤◌, ◌^◌, Bool, true, All, length, take, drop, List, Ok}
-use Rattle.std.specs.Prelude.{Option, ◌&&◌, nat_le, nat_lt, if◌then◌else◌}
+use Rattle.std.specs.Prelude.{◌≡◌, ℕ, ◌<◌, ◌≤◌, ◌^◌, Bool, true, All, length, drop, List, Ok}
+use Rattle.std.specs.Prelude.{Option, ◌&&◌, nat_lt}
 use Rattle.gimli_base.specs.declared.common.Encoding.{Encoding}
 use Rattle.gimli_base.specs.View.{View, cut}
 use Rattle.gimli_base.specs.Reading.{Reads, is_size, map_read}
 use Rattle.gimli_base.specs.Abbreviations.{Specification}
 use Rattle.gimli_units.specs.Entry.{attributes_at}
 use Rattle.gimli_units.specs.Kind.{sibling_of}
+
+-- each byte is below 256, as a reader's are
+abbrev pub AreBytes : View → Type 0
+AreBytes v = All (λ b. b < 256) v.bytes
 
 -- what a read leaves, its value dropped
 abbrev pub left_by : {A : Type 0} → Reads A → Reads (Unit {0})
@@ -22,20 +26,6 @@ pub record ReadsAny (limit : ℕ) (e : Encoding) (n : ℕ) : Type 0 where
   pub sized : is_size e.address_size ≡ true
   pub fits : n ≤ 8 → 256 ^ n ≤ limit
 
--- how many bytes are passed together at most
-pub data IsRoom (n : ℕ) : Type 0 where
-  no_room : n ≡ 0 → IsRoom n
-  room_of_8 : n ≡ 8 → IsRoom n
-  room_of_16 : n ≡ 16 → IsRoom n
-  room_of_32 : n ≡ 32 → IsRoom n
-  room_of_64 : n ≡ 64 → IsRoom n
-
--- how many bytes are passed together at most, where n are left
-abbrev pub room_of : ℕ → ℕ
-room_of n =
-    if nat_le 64 n then 64 else if nat_le 32 n then 32 else if nat_le 16 n then 16 else
-    if nat_le 8 n then 8 else 0
-
 -- reading refuses no value whose bytes are there: the addresses have a size that can be read, and
 -- each number of 64 bits is an offset
 abbrev pub reads_all : ℕ → Encoding → Bool
@@ -48,19 +38,15 @@ pub record GoesOn (limit : ℕ) (e : Encoding) (leads : Bool) (ss behind : List 
   pub passed : left_by (attributes_at limit e ss v) ≡ left_by (attributes_at limit e behind w)
   pub led : leads ≡ true → sibling_at limit e ss v ≡ sibling_at limit e behind w
 
--- the first `count` values have `size` bytes together, and where these are there, each below 256,
--- reading refuses none of them
+-- the first `count` values have `size` bytes together, and where these are there, reading refuses
+-- none of them
 abbrev pub PassesAsOne : ℕ → Encoding → Bool → List Specification → ℕ → ℕ → Type 0
 PassesAsOne limit e leads ss count size =
-    (v : View) → size ≤ length v.bytes → All (λ b. b < 256) (take size v.bytes)
+    (v : View) → size ≤ length v.bytes → AreBytes v
     → GoesOn limit e leads ss (drop count ss) v (cut size v)
 
--- these attributes have n bytes together, for which there is room, and reading refuses none of them
--- where each is below 256
+-- these attributes have n bytes together, which are there, and reading refuses none of them
 pub record IsThere (limit : ℕ) (e : Encoding) (ss : List Specification) (n : ℕ) (v : View)
     : Type 0 where
-  pub within : n ≤ 64
   pub there : n ≤ length v.bytes
-  pub bytes : ((room : ℕ) → IsRoom room → n ≤ room → room ≤ length v.bytes
-      → All (λ b. b < 256) (take n v.bytes))
-      → Ok (tt {0}, cut n v) ≡ left_by (attributes_at limit e ss v)
+  pub passed : Ok (tt {0}, cut n v) ≡ left_by (attributes_at limit e ss v)

@@ -1,12 +1,12 @@
 //! Attributes of entries.
 
-ghost use Rattle.std.specs.Prelude.{◌≡◌, ◌≤◌, ◌^◌, List, All, Some, Ok, true, false, OnErr};
+ghost use Rattle.std.specs.Prelude.{◌≡◌, ◌^◌, List, All, Some, Ok, true, false, OnErr};
 ghost use Rattle.std.specs.Prelude.{◌&&◌, nat_le, length};
 ghost use Rattle.std.specs.Option.{option_map};
 ghost use Rattle.gimli_base.specs.Offset.{answer_of};
 ghost use Rattle.gimli_base.specs.Reading.{read_of, map_read};
 ghost use Rattle.gimli_units.specs.Entry.{attribute_at, attributes_at};
-ghost use Rattle.gimli_units.specs.Sized.{left_by, room_of, reads_all};
+ghost use Rattle.gimli_units.specs.Sized.{left_by, reads_all};
 ghost use Rattle.gimli_base.specs.Abbreviations.{Specification, IsWellFormed};
 ghost use Rattle.gimli_base.specs.Width.{attributes_size};
 ghost use Rattle.gimli_units.specs.Value.{map_value, map_attribute};
@@ -103,14 +103,11 @@ impl<R: Reader> Attribute<R> {
 
     /// Passes the values of attributes that have `size` bytes together (DWARF 5, 7.5.6), and
     /// answers true, where the encoding's addresses have 1, 2, 4 or 8 bytes, the reader's offsets
-    /// have 64 bits, and no fewer bytes are left than the least of 0, 8, 16, 32 and 64 that is not
-    /// below `size`. Else it answers false, and the input stays; so a size above 64 is never passed
-    /// so.
+    /// have 64 bits, and so many bytes are left. Else it answers false, and the input stays.
     #[inline(always)]
     pub fn pass_sized(input: &mut R, encoding: Encoding, size: u64) -> bool
         ensures decides { result ≡ (reads_all R.Offset.limit encoding
-            && nat_le size (room_of (length (R.view input.old).bytes))) }
-        ensures within { result ≡ true → size ≤ 64 }
+            && nat_le size (length (R.view input.old).bytes)) }
         ensures passed { result ≡ true → (ss : List Specification) → All IsWellFormed ss
             → attributes_size encoding ss ≡ Some size
             → Ok (tt, R.view input.new)

@@ -15,7 +15,7 @@ ghost use Rattle.gimli_units.specs.CursorRead.{HasRead, HasSought, leave_entry, 
 ghost use Rattle.gimli_units.specs.CursorRead.{HasPassed, HasPassedTo, IsRefusedAfter};
 ghost use Rattle.gimli_units.specs.CursorRead.{without_entry, passed_over};
 
-use crate::{Attribute, DebuggingInformationEntry, EntriesRaw, UnitOffset};
+use crate::{DebuggingInformationEntry, EntriesRaw, UnitOffset};
 use gimli_base::{Reader, ReaderOffset, Result};
 use std::alloc::Allocator;
 use std::marker::Model;
@@ -308,12 +308,11 @@ impl<'abbrev, R: Reader, A: Allocator> EntriesCursor<'abbrev, R, A> {
         let mut offset = self.entry.offset;
         let mut depth = self.entry.depth;
         let mut reads = self.reads;
-        let attrs = &mut self.entry.attrs;
         'passing: while raw.is_before(sought) {
             offset = raw.next_offset();
             depth = raw.next_depth();
             reads += 1;
-            match pass_on(&mut raw, attrs, follows, sought) {
+            match pass_on(&mut raw, follows, sought) {
                 Ok(()) => {}
                 Err(refusal) => {
                     self.stand(raw, offset, depth, reads);
@@ -329,7 +328,7 @@ impl<'abbrev, R: Reader, A: Allocator> EntriesCursor<'abbrev, R, A> {
     // are followed. At the end of the input the pair becomes `offset` and that depth.
     //
     // The attributes of an entry of another depth are passed, but for the reference: only an entry
-    // that may be answered is read as a whole. Memory is asked for at each, as if it was read.
+    // that may be answered is read as a whole, and memory is asked for it alone.
     pub(crate) fn seek(&mut self, offset: UnitOffset<R::Offset>, depth: isize) -> Result<bool>
         requires sound { IsSound self.old }
         requires shallow { unsigned_abs depth < 2 ^ 63 }
@@ -357,25 +356,20 @@ fn is_followed(follows: bool, sought: isize, depth: isize) -> bool
 }
 
 // Reads the next entry, without its attributes, and leaves it: for where its reference leads, if
-// that is followed. There is something to read. A list of attributes gets room for those of the entry,
-// so that memory is asked for where reading them asks. What a cursor knows beside `raw` is its
-// caller's.
+// that is followed. There is something to read. What a cursor knows beside `raw` is its caller's.
 #[inline(always)]
 fn pass_on<R: Reader, A: Allocator>(
     raw: &mut EntriesRaw<R, A>,
-    attrs: &mut Vec<Attribute<R>, A>,
     follows: bool,
     sought: isize,
 ) -> Result<()>
     requires some { length raw.old.rest.bytes ≡ 0 → ⊥ }
     requires shallow { unsigned_abs raw.old.depth + length raw.old.rest.bytes < 2 ^ 63 }
-    requires none { attrs.old.items ≡ [] }
-    ensures passed { (c : CursorView) → let old = record c { raw = raw.old; follows = follows } in
+    ensures { (c : CursorView) → let old = record c { raw = raw.old; follows = follows } in
         HasPassed R.Offset.limit sought old result (passed_over old raw.new) }
-    ensures none { attrs.new.items ≡ [] }
 {
     let depth = raw.next_depth();
-    match raw.pass_entry(attrs) {
+    match raw.read_head_and_sibling() {
         Ok((_, Some(target))) => {
             if is_followed(follows, sought, depth) {
                 raw.go_to(target, depth);

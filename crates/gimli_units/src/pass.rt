@@ -1,7 +1,7 @@
 //! Passing attributes with the refusals of reading them: those of known sizes by their bytes, where
 //! no value whose bytes are there is refused, and the others by reading them.
 
-ghost use Rattle.std.specs.Prelude.{◌≡◌, ◌≤◌, ◌<◌, ◌==◌, ◌∷◌, ℕ, take, length, All, IfSome};
+ghost use Rattle.std.specs.Prelude.{◌≡◌, ◌≤◌, ◌<◌, ◌==◌, ◌∷◌, ℕ, length, All, IfSome};
 ghost use Rattle.std.specs.List.{position};
 ghost use Rattle.std.specs.Option.{option_map};
 ghost use Rattle.gimli_base.specs.Offset.{answer_of};
@@ -11,8 +11,8 @@ ghost use Rattle.gimli_base.specs.Width.{form_size, attributes_size};
 ghost use Rattle.gimli_base.specs.Abbreviations.{Specification, IsWellFormed};
 ghost use Rattle.gimli_units.specs.Kind.{unit_reference};
 ghost use Rattle.gimli_units.specs.Entry.{attribute_at, attributes_at};
-ghost use Rattle.gimli_units.specs.Sized.{ReadsAny, IsRoom, PassesAsOne, GoesOn, IsThere};
-ghost use Rattle.gimli_units.specs.Sized.{left_by, sibling_at, room_of, reads_all};
+ghost use Rattle.gimli_units.specs.Sized.{ReadsAny, PassesAsOne, GoesOn, IsThere};
+ghost use Rattle.gimli_units.specs.Sized.{left_by, sibling_at, reads_all};
 ghost use Rattle.std.specs.Prelude.{Ok, Some, List, true, false, ◌&&◌, nat_le, nat_lt, not};
 
 use crate::UnitOffset;
@@ -23,81 +23,16 @@ use gimli_base::{
 };
 use std::alloc::Allocator;
 
-// Each of these bytes is below 256.
-#[inline(always)]
-fn are_bytes(bytes: &[u8])
-    ensures { All (λ b. b < 256) bytes.now }
-{}
-
-// The next N bytes, if they are there, are below 256. They are read to know it, and not used; a
-// slice's reader makes nothing of it.
-#[inline(always)]
-#[tactic(auto, unfolding(gimli_base::specs::Reading::bytes_at))]
-fn next_are_bytes<R: Reader, const N: usize>(input: &R)
-    requires { N ≤ 64 }
-    ensures { let bytes = (R.view input.now).bytes in
-        N ≤ length bytes → All (λ b. b < 256) (take N bytes) }
-{
-    let mut bytes = [0; N];
-    match input.copy().read_slice(&mut bytes) {
-        Ok(()) => are_bytes(&bytes),
-        Err(_) => {}
-    }
-}
-
-// How many bytes of values are passed together at most, where so many are left: as many as are
-// looked at together.
-#[inline(always)]
-fn room(left: u64) -> u64
-    ensures within { result ≤ left }
-    ensures step { IsRoom result }
-    ensures exact { result ≡ room_of left }
-{
-    if left >= 64 {
-        64
-    } else if left >= 32 {
-        32
-    } else if left >= 16 {
-        16
-    } else if left >= 8 {
-        8
-    } else {
-        0
-    }
-}
-
-// The next bytes are below 256, of which there are no more than there is room for. They are looked
-// at by one read, which may take bytes after them as well; none are read where there are none.
-#[inline(always)]
-fn so_many_are_bytes<R: Reader>(input: &R, size: u64)
-    ensures { let bytes = (R.view input.now).bytes in
-        (room : ℕ) → IsRoom room → size ≤ room → room ≤ length bytes →
-        All (λ b. b < 256) (take size bytes) }
-{
-    if size > 32 {
-        next_are_bytes::<R, 64>(input)
-    } else if size > 16 {
-        next_are_bytes::<R, 32>(input)
-    } else if size > 8 {
-        next_are_bytes::<R, 16>(input)
-    } else if size > 0 {
-        next_are_bytes::<R, 8>(input)
-    }
-}
-
-// Passes so many bytes of values together, for which there is room.
+// Passes so many bytes, which are there.
 #[inline(always)]
 fn pass_bytes<R: Reader>(input: &mut R, size: u64)
-    requires within { size ≤ 64 }
-    requires there { size ≤ length (R.view input.old).bytes }
-    ensures left { R.view input.new ≡ cut size (R.view input.old) }
-    ensures bytes { let bytes = (R.view input.old).bytes in
-        (room : ℕ) → IsRoom room → size ≤ room → room ≤ length bytes →
-        All (λ b. b < 256) (take size bytes) }
+    requires { size ≤ length (R.view input.old).bytes }
+    ensures { R.view input.new ≡ cut size (R.view input.old) }
 {
-    so_many_are_bytes(input, size);
-    if size > 0 {
-        let _ = input.skip(R::Offset::from_u8(size as u8));
+    if size > 0
+        && let Ok(size) = R::Offset::from_u64(size)
+    {
+        let _ = input.skip(size);
     }
 }
 
@@ -177,19 +112,19 @@ struct Run {
     size: u64,
 }
 
-// The first values that have known widths of which reading refuses none, and no more bytes together
-// than there is room for. Where `leads` is set, they end before a reference to a sibling.
+// The first values that have known widths of which reading refuses none, and at most `left` bytes
+// together. Where `leads` is set, they end before a reference to a sibling.
 #[inline(always)]
 fn run_of<R: Reader>(
     encoding: Encoding,
     specifications: &[AttributeSpecification],
     above: u16,
-    room: u64,
+    left: u64,
     leads: bool,
 ) -> Run
     requires { (n : ℕ) → n < above → ReadsAny R.Offset.limit encoding n }
     ensures within { result.count ≤ length specifications.now }
-    ensures room { result.size ≤ room }
+    ensures there { result.size ≤ left }
     ensures passed { PassesAsOne R.Offset.limit encoding leads specifications.now result.count
         result.size }
 {
@@ -201,7 +136,7 @@ fn run_of<R: Reader>(
         let Some(width) = width_below(encoding, specification, above) else {
             break;
         };
-        if width > room - run.size {
+        if width > left - run.size {
             break;
         }
         run.count += 1;
@@ -224,8 +159,8 @@ fn pass_run<'s, R: Reader>(
     ensures passed { GoesOn R.Offset.limit encoding leads specifications.now result.now
         (R.view input.old) (R.view input.new) }
 {
-    let room = room(input.len().into_u64());
-    let run = run_of::<R>(encoding, specifications, above, room, leads);
+    let left = input.len().into_u64();
+    let run = run_of::<R>(encoding, specifications, above, left, leads);
     pass_bytes(input, run.size);
     &specifications[run.count..]
 }
@@ -253,21 +188,19 @@ pub(crate) fn pass_as_read<R: Reader>(
     }
 }
 
-/// Passes values that have `size` bytes together, if reading refuses none of any size and there is
-/// room for so many; answers whether it does, and else the input stays.
+/// Passes values that have `size` bytes together, if reading refuses none of any size and so many
+/// are left; answers whether it does, and else the input stays.
 #[inline(always)]
 pub(crate) fn pass_sized<R: Reader>(input: &mut R, encoding: Encoding, size: u64) -> bool
     ensures decides { result ≡ (reads_all R.Offset.limit encoding
-        && nat_le size (room_of (length (R.view input.old).bytes))) }
-    ensures within { result ≡ true → size ≤ 64 }
+        && nat_le size (length (R.view input.old).bytes)) }
     ensures passed { result ≡ true → (ss : List Specification) → All IsWellFormed ss
         → attributes_size encoding ss ≡ Some size
         → Ok (tt, R.view input.new)
         ≡ left_by (attributes_at R.Offset.limit encoding ss (R.view input.old)) }
     ensures kept { result ≡ false → input.new ≡ input.old }
 {
-    let most = room(input.len().into_u64());
-    if most < size || above_any::<R>(encoding) < 256 {
+    if input.len().into_u64() < size || above_any::<R>(encoding) < 256 {
         return false;
     }
     pass_bytes(input, size);
@@ -286,7 +219,7 @@ fn size_there<R: Reader, A: Allocator>(
     ensures formed { All IsWellFormed declared.now.attributes }
 {
     let size = declared.attributes_size(encoding)?;
-    if size > room(input.len().into_u64()) || above_any::<R>(encoding) < 256 {
+    if size > input.len().into_u64() || above_any::<R>(encoding) < 256 {
         return None;
     }
     Some(size)

@@ -363,54 +363,6 @@ impl<'abbrev, R: Reader, A: Allocator> EntriesRaw<'abbrev, R, A> {
         Ok((Some(declared), sibling))
     }
 
-    // The same as `read_head_and_sibling`, where a list of attributes that a cursor keeps gets room
-    // for those of the entry, as `read_entry` makes it. Refusals: `OutOfMemory` too.
-    #[inline(always)]
-    #[tactic(auto, unfolding(crate::specs::Entry::entry_at))]
-    pub(crate) fn pass_entry(
-        &mut self,
-        attrs: &mut Vec<Attribute<R>, A>,
-    ) -> Result<
-        (
-            Option<&'abbrev Abbreviation<A>>,
-            Option<UnitOffset<R::Offset>>,
-        ),
-    >
-        requires { attrs.old.items ≡ [] }
-        ensures value { let declared = codes_of self.old.abbreviations in
-            UnlessMemory result (read_of (answer_of (λ r.
-            led_head (option_copied r.0) (option_map (λ o. R.Offset.number o.0) r.1)) result)
-            self.new.rest
-            ≡ map_read head_and_sibling
-            (entry_at R.Offset.limit self.old.encoding declared self.old.rest)) }
-        ensures without_memory { let declared = codes_of self.old.abbreviations in
-            takes_memory (abbreviation_at declared self.old.rest) ≡ false
-            → read_of (answer_of (λ r.
-            led_head (option_copied r.0) (option_map (λ o. R.Offset.number o.0) r.1)) result)
-            self.new.rest
-            ≡ map_read head_and_sibling
-            (entry_at R.Offset.limit self.old.encoding declared self.old.rest) }
-        ensures declared { let declared = codes_of self.old.abbreviations in
-            IfOk result (λ r. IsDeclaredAt declared self.old.rest (option_copied r.0)) }
-        ensures some { IfOk result (λ r. IfSome (option_copied r.0) (λ d. d.tag.0 ≢ 0)) }
-        ensures depth { IfOk result
-            (λ r. self.new.depth ≡ depth_read (option_copied r.0) self.old.depth) }
-        ensures same { self.new ≡ record self.old { rest = self.new.rest; depth = self.new.depth } }
-        ensures kept { OnErr result (self.new ≡ self.old) }
-        ensures none { attrs.new.items ≡ [] }
-    {
-        let mut rest = self.input.copy();
-        let Some(abbreviation) = parse_abbreviation(&mut rest, self.abbreviations)? else {
-            self.go_behind_null(rest);
-            return Ok((None, None));
-        };
-        // (it says that the tag is not 0)
-        let _ = abbreviation.tag();
-        attrs.reserve(abbreviation.attributes().len())?;
-        let sibling = self.pass_behind(rest, abbreviation)?;
-        Ok((Some(abbreviation), sibling))
-    }
-
     // Passes the attributes of an entry, which begin in `rest`, and goes behind it. Answers where its
     // sibling is, if it has children and says so.
     #[inline(always)]

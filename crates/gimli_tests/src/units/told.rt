@@ -89,6 +89,8 @@ impl<'a> Reader for Told<'a> {
     ghost length_fits_offset = { Prim.search rules };
 
     ghost end_fits = { Prim.search rules };
+
+    ghost bytes_fit = { Prim.search rules };
 }
 
 // A reader of these bytes, and where it counts.
@@ -112,16 +114,15 @@ const BY_CLANG: &[u8] = b"\x11\x1b\x12\x06\x40\x18\x6e\x25\x03\x25\x3a\x0b\x3b\x
 const RUST_STRUCTURE: &[u8] = b"\x03\x0e\x0b\x0b\x32\x0b\x22\x0f";
 
 // The attributes of entries as compilers write them, and how often a reader may be told something for the
-// head of one, with children and without: once for the code, twice for each run of values of known widths, to
-// look at their bytes and to pass them, twice for an expression, once for a LEB128 number, and once for a
-// reference to a sibling where one is sought.
+// head of one, with children and without: once for the code, once for each run of values of known widths, twice
+// for an expression, once for a LEB128 number, and once for a reference to a sibling where one is sought.
 const USUAL: [(&[u8], u64, u64); 6] = [
     (&[], 1, 1),
-    (FUNCTION, 6, 7),
-    (STRUCTURE, 4, 3),
-    (VARIABLE, 5, 5),
-    (BY_CLANG, 8, 8),
-    (RUST_STRUCTURE, 4, 4),
+    (FUNCTION, 5, 5),
+    (STRUCTURE, 3, 2),
+    (VARIABLE, 4, 4),
+    (BY_CLANG, 6, 6),
+    (RUST_STRUCTURE, 3, 3),
 ];
 
 // Reads the head of an entry and the whole entry, over so many bytes. The head copies the reader no more often,
@@ -150,10 +151,10 @@ fn heads_of_usual_entries_tell_a_reader_little(rt: HostRuntime) -> Result<(), Fa
 }
 
 // A head takes a reader of its own, one for the code, one for a reference to a sibling with what stands behind it,
-// and one to look for the reference; a value of a known size that is passed alone takes one more.
+// and one to look for the reference.
 #[test]
 fn heads_with_a_reference_copy_a_reader_seldom(rt: HostRuntime) -> Result<(), Fail> {
-    for (given, most) in [(b"\x01\x13\x0b\x0b", 5), (b"\x01\x13\x03\x08", 4)] {
+    for (given, most) in [(b"\x01\x13\x0b\x0b", 4), (b"\x01\x13\x03\x08", 4)] {
         let table = table_with(rt.alloc(), 1, given, 1)?;
         let counts = Counts::default();
         let reader = reader_of(&[1, 0, 0, 0, 0, 0, 0], &counts);

@@ -1,7 +1,11 @@
+use Rattle.std.proofs.Common.{◌≡◌}
+use Rattle.gimli_units.proofs.SizedReads.{offset_is}
 use Rattle.gimli_units.proofs.RunReads.{skipped_there}
 use Rattle.gimli_units.proofs.pass.pass_bytes.Goals as goal
 
-pub returns-then-size-gt0-clause-left : goal.returns-then-size-gt0-clause-left
-returns-then-size-gt0-clause-left g c =
+pub returns-in-Ok : goal.returns-in-Ok
+returns-in-Ok g c =
+    let n = g.R.Offset.ReaderOffset.number in
+    let same : n c.in-Ok.size ≡ c.args.size = offset_is _ _ _ c.in-Ok.ensures in
     skipped_there c.skip.result (g.R.Reader.view c.skip.new.self) (g.R.Reader.view c.args.input.now)
-    c.args.size (rw c.from_u8.ensures at c.skip.ensures.value) c.requires.there
+    c.args.size (rw same at c.skip.ensures.value) c.requires

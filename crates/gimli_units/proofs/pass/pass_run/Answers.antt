@@ -7,13 +7,9 @@ returns-clause-passed g c =
     let v = g.R.Reader.view c.args.input.now in
     let ss = c.args.specifications.now in
     let n = c.run_of-run.result.count in
-    let left : c.room-room.result ≤ length v.bytes =
-    omega (arith, c.room-room.ensures.within, c.into_u64.ensures.value, c.len.ensures) in
     let there : c.run_of-run.result.size ≤ length v.bytes =
-    omega (arith, c.run_of-run.ensures.room, left) in
+    omega (arith, c.run_of-run.ensures.there, c.into_u64-left.ensures.value, c.len.ensures) in
     let others : take (length ss - n) (drop n ss) ≡ drop n ss =
     take_all (length ss - n) (drop n ss) (omega (arith, length-drop n ss)) in
-    rw (c.pass_bytes.ensures.left, others)
-    (c.run_of-run.ensures.passed v there
-    (c.pass_bytes.ensures.bytes c.room-room.result c.room-room.ensures.step
-    c.run_of-run.ensures.room left))
+    rw (c.pass_bytes.ensures, others)
+    (c.run_of-run.ensures.passed v there (g.met.R.Reader.bytes_fit c.args.input.now))

@@ -8,7 +8,7 @@ run-preserved g c =
     let lt : c.run.run.count < length c.args.specifications.now = omega (arith, i.at, c.run-test.true) in
     record {
       at = omega (arith, i.at);
-      fits = omega (arith, i.fits, c.if-width-room.false);
+      fits = omega (arith, i.fits, c.if-width-left.false);
       passed =
           run_more g.R.Offset.ReaderOffset.limit c.args.encoding c.args.leads
           c.args.specifications.now c.run.run.count c.run.run.size i.passed

@@ -6,7 +6,7 @@ abbrev pub invariant-run : goal.invariant-run
 invariant-run g l =
     record {
       at : l.run.count ≡ l.specification-index;
-      fits : l.run.size ≤ l.fn.room;
+      fits : l.run.size ≤ l.fn.left;
       passed : PassesAsOne g.R.Offset.ReaderOffset.limit l.fn.encoding l.fn.leads l.fn.specifications
           l.run.count l.run.size;
     }

@@ -13,8 +13,8 @@ stand-requires g c =
     to_z-of_z w64 _ (record { sfits = c.next_depth-depth.type_inv }) ∙ c.next_depth-depth.ensures in
     let follows : c.self.inside.follows ≡ c.args.self.now.follows =
     ap (λ (x : CursorView). x.follows) c.self.view_is in
-    let passed = passed_here limit _ _ _ _ _ _ follows c.pass_on.ensures.passed _ _ _ in
-    rw (follows, deep, c.next_offset-offset.ensures)
+    let passed = passed_here limit _ _ _ _ _ _ follows c.pass_on.ensures _ _ _ in
+    rw (ap (λ (x : CursorView). x.follows) c.passing.invariant.kept, deep, c.next_offset-offset.ensures)
     (sound_pass limit _ _ _ _ c.passing.invariant.passing.sound passed)
 
 pub returns-in-Err-clause-refused : goal.returns-in-Err-clause-refused
@@ -24,11 +24,11 @@ returns-in-Err-clause-refused g c =
     to_z-of_z w64 _ (record { sfits = c.next_depth-depth.type_inv }) ∙ c.next_depth-depth.ensures in
     let follows : c.self.inside.follows ≡ c.args.self.now.follows =
     ap (λ (x : CursorView). x.follows) c.self.view_is in
-    let passed = passed_here limit _ _ _ _ _ _ follows c.pass_on.ensures.passed
+    let passed = passed_here limit _ _ _ _ _ _ follows c.pass_on.ensures
     (g.R.Offset.ReaderOffset.number c.passing.offset.0) (to_z w64 c.passing.depth-bits)
     c.passing.reads in
     let same = to_z-of_z w64 c.args.sought c.ranges.sought in
-    rw (c.stand.ensures, follows, deep, c.next_offset-offset.ensures)
+    rw (c.stand.ensures, ap (λ (x : CursorView). x.follows) c.passing.invariant.kept, deep, c.next_offset-offset.ensures)
     (passing_out limit c.args.sought c.args.self.now _ c.pass_on.result _
     (rw same at c.passing.invariant.passing) (rw same at passed) c.in-Err.refusal
     c.in-Err.is)
@@ -37,7 +37,7 @@ pub passing-smaller : goal.passing-smaller
 passing-smaller g c =
     let limit = g.R.Offset.ReaderOffset.limit in
     let passed = passed_here limit _ _ _ _ _ _ (ap (λ (x : CursorView). x.follows) c.self.view_is)
-    c.pass_on.ensures.passed _ _ _ in
+    c.pass_on.ensures _ _ _ in
     passing_shorter limit _ c.args.self.now _ _ _ c.passing.invariant.passing.sound passed
     c.in-Ok.is
 
@@ -47,9 +47,9 @@ passing-preserved g c =
     let deep : to_z w64 (of_z w64 c.next_depth-depth.result) ≡ c.passing.raw.depth =
     to_z-of_z w64 _ (record { sfits = c.next_depth-depth.type_inv }) ∙ c.next_depth-depth.ensures in
     let passed = passed_here limit _ _ _ _ _ _ (ap (λ (x : CursorView). x.follows) c.self.view_is)
-    c.pass_on.ensures.passed _ _ _ in
+    c.pass_on.ensures _ _ _ in
     record {
-      none = c.pass_on.ensures.none;
+      kept = c.passing.invariant.kept;
       passing =
           rw (deep, c.next_offset-offset.ensures)
           (passing_on limit _ c.args.self.now _ _ _ c.passing.invariant.passing passed c.in-Ok.is
@@ -59,9 +59,7 @@ passing-preserved g c =
 pub returns-clause-passed : goal.returns-clause-passed
 returns-clause-passed g c =
     let same = to_z-of_z w64 c.args.sought c.ranges.sought in
-    let follows : c.self.inside.follows ≡ c.args.self.now.follows =
-    ap (λ (x : CursorView). x.follows) c.self.view_is in
-    rw (c.stand-2.ensures, follows)
+    rw (c.stand-2.ensures, ap (λ (x : CursorView). x.follows) c.passing.invariant.kept)
     (passing_to g.R.Offset.ReaderOffset.limit c.args.sought c.args.self.now _
     (rw same at c.passing.invariant.passing)
     (rw same at c.is_before.ensures.same c.passing-test.false))

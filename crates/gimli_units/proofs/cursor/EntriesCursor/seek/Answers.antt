@@ -48,12 +48,20 @@ returns-in_err-read_next g c =
           (rw deep at w.in_ok-pass_to.ensures.passed))
       | else-is_before w ↦ rw w.self-is start
     ] in
+    let there : (length c.if-is_before.self.raw.rest.bytes ≡ 0 → ⊥)
+    → int_eq c.if-is_before.self.raw.depth c.args.depth ≡ true = elim c.if-is_before.branch [
+      | then-is_before+in_ok-pass_to w ↦
+          let to = rw deep at w.in_ok-pass_to.ensures.passed in rw w.self-is to.there
+      | else-is_before w ↦
+          let raw = ap (λ (x : CursorView). x.raw) c.self.view_is in
+          rw w.self-is (rw (deep, raw) at (c.is_before.ensures.same w.if-is_before.false))
+    ] in
     let r : c.from_residual-in_err-read_next.result ≡ Err c.in_err-read_next.field-0.0 = search
     rules in
     rw r
     (left_out limit c.args.depth offset c.args.self.now c.if-is_before.self c.read_next.result
     c.read_next.new.self k c.read_next.ensures.read c.in_err-read_next.field-0.0
-    c.in_err-read_next.was)
+    c.in_err-read_next.was there)
 
 pub returns-then-branch : goal.returns-then-branch
 returns-then-branch g c =
