@@ -5,7 +5,7 @@
 use gimli_base::Reader;
 use std::{env, io};
 use test_reads::write_read;
-use test_tables::{Call, Calls, Outcome, Program, try_tables};
+use test_tables::{Call, Calls, Outcome, Program, Text, try_tables};
 use test_walks::{write_refused, write_walk};
 
 fn main(rt: HostRuntime) -> io::Result<()> {
@@ -30,7 +30,7 @@ struct Vectors<'a> {
 }
 
 impl<'a> Program for Vectors<'a> {
-    fn answer<R: Reader + PartialEq>(&self, call: &Call<'_, R>, out: &mut Vec<u8>) -> Outcome {
+    fn answer<R: Reader + PartialEq>(&self, call: &Call<'_, R>, out: &mut Text) -> Outcome {
         match call.case.calls {
             Calls::Reads => write_read(call, out),
             Calls::Walks => write_walk(self.rt, self.folder, call, out),

@@ -10,8 +10,7 @@ use gimli_base::{
 };
 use gimli_units::Attribute;
 use std::alloc::Global;
-use std::io::Write;
-use test_tables::{Call, Outcome, Stop, parse_number, write_refusal};
+use test_tables::{Call, Outcome, Stop, Text, parse_number, write_refusal};
 
 /// A declared attribute.
 pub(crate) type Declared = AttributeSpecification;
@@ -41,24 +40,30 @@ pub(crate) fn declaration_of<R: Reader>(call: &Call<'_, R>) -> Option<Declared> 
 
 /// Writes what reading an attribute answers, and then what passing it does; or the debug text of what it
 /// answers, or the number of bytes that its form has.
-pub(crate) fn write_attribute<R: Reader>(call: &Call<'_, R>, out: &mut Vec<u8>) -> Outcome {
+pub(crate) fn write_attribute<R: Reader>(call: &Call<'_, R>, out: &mut Text) -> Outcome {
     let input = Input::of_attributes(call, 4)?;
     let Some(declared) = declaration_of(call) else {
         return Err(Stop::Lacks("no declaration"));
     };
-    let mut raw = input.raw();
     match call.name() {
-        "debug" => return write_debug(&raw.read_attribute(declared), out),
-        "size" => return declared.size(input.encoding).map(u64::from).show(out),
-        name => match read_by(call.alloc, &mut raw, declared, name) {
-            Ok(attribute) => write_shown(&attribute, declared, out)?,
-            Err(error) => write_refusal(out, error)?,
-        },
+        "debug" => write_debug(&input.read(declared), out),
+        "size" => declared.size(input.encoding).map(u64::from).show(out),
+        name => write_read_by(&input, declared, name, out),
     }
-    write!(out, " ")?;
-    write_next(&raw, out)?;
-    write!(out, "skip ")?;
-    write_skipped(&mut input.raw(), &input.reader, &[declared], out)
+    Ok(())
+}
+
+// Writes what reading an attribute by the call of a name answers, and then what passing it does.
+fn write_read_by<R: Reader>(input: &Input<R>, declared: Declared, name: &str, out: &mut Text) {
+    let mut raw = input.raw();
+    match read_by(out.alloc(), &mut raw, declared, name) {
+        Ok(attribute) => write_shown(&attribute, declared, out),
+        Err(error) => write_refusal(out, error),
+    }
+    write!(out, " ");
+    write_next(&raw, out);
+    write!(out, "skip ");
+    write_skipped(&mut input.raw(), &input.reader, &[declared], out);
 }
 
 /// Reads an attribute by the call of a name.
@@ -88,8 +93,8 @@ fn read_onto<R: Reader>(
 }
 
 /// Writes the offset of what is read next, and ends the line.
-pub(crate) fn write_next<R: Reader>(raw: &Raw<'_, R>, out: &mut Vec<u8>) -> Outcome {
-    Ok(writeln!(out, "next {}", raw.next_offset().0.into_u64())?)
+pub(crate) fn write_next<R: Reader>(raw: &Raw<'_, R>, out: &mut Text) {
+    writeln!(out, "next {}", raw.next_offset().0.into_u64());
 }
 
 /// Writes what passing attributes answers, a refusal of missing bytes without its place, which may be any
@@ -98,36 +103,36 @@ pub(crate) fn write_skipped<R: Reader>(
     raw: &mut Raw<'_, R>,
     input: &R,
     declared: &[Declared],
-    out: &mut Vec<u8>,
-) -> Outcome {
+    out: &mut Text,
+) {
     match raw.skip_attributes(declared) {
         Ok(()) => return write_next(raw, out),
         Err(Error::UnexpectedEof(place)) if input.lookup_offset_id(place).is_some() => {
-            write!(out, "refused 1")?;
+            write!(out, "refused 1");
         }
-        Err(error) => write_refusal(out, error)?,
+        Err(error) => write_refusal(out, error),
     }
-    write!(out, " ")?;
-    write_next(raw, out)
+    write!(out, " ");
+    write_next(raw, out);
 }
 
 // Writes the debug text of a value as its name makes it, or of a refusal.
-fn write_debug<R: Reader>(answer: &Result<Attribute<R>>, out: &mut Vec<u8>) -> Outcome {
-    Ok(match answer {
-        Ok(attribute) => write!(out, "{:?}", attribute.value())?,
-        Err(error) => write!(out, "{error:?}")?,
-    })
+fn write_debug<R: Reader>(answer: &Result<Attribute<R>>, out: &mut Text) {
+    match answer {
+        Ok(attribute) => write!(out, "{:?}", attribute.value()),
+        Err(error) => write!(out, "{error:?}"),
+    }
 }
 
 // Writes an attribute: the value that its form shows, that of its name where it is another, and the
 // conversions; and tells where its name or form is not the one that is declared.
-fn write_shown<R: Reader>(read: &Attribute<R>, declared: Declared, out: &mut Vec<u8>) -> Outcome {
+fn write_shown<R: Reader>(read: &Attribute<R>, declared: Declared, out: &mut Text) {
     let agrees = read.name() == declared.name() && read.form() == declared.form();
-    tell_unless(agrees, "another declaration", out)?;
-    let mut raw = Vec::new(*out.allocator());
-    write_value(&read.raw_value(), &mut raw)?;
-    let mut normal = Vec::new(*out.allocator());
-    write_value(&read.value(), &mut normal)?;
-    write_either(&raw, &normal, " value ", out)?;
-    write_conversions(read, out)
+    tell_unless(agrees, "another declaration", out);
+    let mut raw = Text::new(out.alloc());
+    write_value(&read.raw_value(), &mut raw);
+    let mut normal = Text::new(out.alloc());
+    write_value(&read.value(), &mut normal);
+    write_either(&raw, &normal, " value ", out);
+    write_conversions(read, out);
 }

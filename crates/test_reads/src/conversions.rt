@@ -4,8 +4,7 @@ use crate::shown::write_either;
 use gimli_base::{Expression, Reader, ReaderOffset};
 use gimli_units::Attribute;
 use std::alloc::Global;
-use std::io::Write;
-use test_tables::{Outcome, hex_of};
+use test_tables::{Text, hex_of};
 
 // The numbers of an attribute or of a value, each with the name of its conversion.
 macro_rules! numbers_of {
@@ -21,11 +20,11 @@ macro_rules! numbers_of {
 }
 
 /// Writes the conversions of an attribute that there are, and those of its value where they are others.
-pub(crate) fn write_conversions<R: Reader>(attribute: &Attribute<R>, out: &mut Vec<u8>) -> Outcome {
-    let (value, alloc) = (attribute.raw_value(), *out.allocator());
-    let own = shown(alloc, numbers_of!(attribute), attribute.exprloc_value())?;
-    let other = shown(alloc, numbers_of!(value), value.exprloc_value())?;
-    write_either(&own, &other, " but of the value ", out)
+pub(crate) fn write_conversions<R: Reader>(attribute: &Attribute<R>, out: &mut Text) {
+    let (value, alloc) = (attribute.raw_value(), out.alloc());
+    let own = shown(alloc, numbers_of!(attribute), attribute.exprloc_value());
+    let other = shown(alloc, numbers_of!(value), value.exprloc_value());
+    write_either(&own, &other, " but of the value ", out);
 }
 
 // The numbers and the expression that there are, each after its name.
@@ -33,16 +32,16 @@ fn shown<R: Reader>(
     alloc: Global,
     numbers: [(&'static str, Option<i128>); 5],
     expression: Option<Expression<R>>,
-) -> Outcome<Vec<u8>> {
-    let mut text = Vec::new(alloc);
+) -> Text {
+    let mut text = Text::new(alloc);
     for (name, number) in numbers {
         if let Some(number) = number {
-            write!(text, " {name} {number}")?;
+            write!(text, " {name} {number}");
         }
     }
     if let Some(expression) = expression {
-        write!(text, " exprloc ")?;
-        hex_of(&mut text, &expression.0, ":")?;
+        write!(text, " exprloc ");
+        hex_of(&mut text, &expression.0, ":");
     }
-    Ok(text)
+    text
 }

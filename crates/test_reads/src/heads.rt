@@ -4,14 +4,13 @@ use crate::inputs::{Input, Raw};
 use gimli_base::{Abbreviation, AttributeSpecification, Reader, ReaderOffset, Result};
 use gimli_units::DebuggingInformationEntry;
 use std::alloc::Global;
-use std::io::Write;
-use test_tables::{Call, Outcome, write_refusal};
+use test_tables::{Call, Outcome, Text, write_refusal};
 
 /// Writes the head of each entry up to one that is refused: its code, and after `>` where its sibling is; or
 /// `null`, or the refusal. Of `same_heads` they are not written, and `same` is the answer. Each head is read
 /// beside the whole entry, behind the entries before it, and by a reader of its own also where the bytes end in
 /// it or among as many after it as the last word says. What differs is told.
-pub(crate) fn write_heads<R: Reader>(call: &Call<'_, R>, out: &mut Vec<u8>) -> Outcome {
+pub(crate) fn write_heads<R: Reader>(call: &Call<'_, R>, out: &mut Text) -> Outcome {
     let input = Input::of_entries(call, call.encoding(1)?)?;
     let is_listed = call.name() == "heads";
     let behind = call.case.number(4).unwrap_or(0);
@@ -20,13 +19,13 @@ pub(crate) fn write_heads<R: Reader>(call: &Call<'_, R>, out: &mut Vec<u8>) -> O
     for _ in 0..u64::MAX {
         let (answer, length, _) = of_entry(&mut input.raw_of(&rest), call.alloc);
         if is_listed {
-            write_head(walk.whole.copy(), out)?;
+            write_head(walk.whole.copy(), out);
         }
         let most = rest.len().into_u64().min(length.saturating_add(behind));
         tell_differing(&input, &rest, most, out)?;
         let is_same = Walk::new(walk.whole.copy()).go_on(call.alloc);
         if !walk.go_on(call.alloc) || !is_same {
-            writeln!(out, "another head behind others")?;
+            writeln!(out, "another head behind others");
         }
         if answer.is_err() {
             break;
@@ -34,41 +33,48 @@ pub(crate) fn write_heads<R: Reader>(call: &Call<'_, R>, out: &mut Vec<u8>) -> O
         rest.skip(R::Offset::from_u64(length)?)?;
     }
     if !is_listed {
-        write!(out, "same")?;
+        write!(out, "same");
     }
     Ok(())
 }
 
 // Writes the head of the next entry.
-fn write_head<R: Reader>(mut raw: Raw<'_, R>, out: &mut Vec<u8>) -> Outcome {
+fn write_head<R: Reader>(mut raw: Raw<'_, R>, out: &mut Text) {
     match read_head(&mut raw, true) {
         Ok((Some(declared), sibling)) => {
-            write!(out, "{}", declared.code())?;
+            write!(out, "{}", declared.code());
             if let Some(sibling) = sibling {
-                write!(out, ">{sibling:x}")?;
+                write!(out, ">{sibling:x}");
             }
         }
-        Ok((None, _)) => write!(out, "null")?,
-        Err(error) => return Ok(write_refusal(out, error)?),
+        Ok((None, _)) => write!(out, "null"),
+        Err(error) => return write_refusal(out, error),
     }
-    Ok(write!(out, " ")?)
+    write!(out, " ");
 }
 
 // Tells the first number of bytes, all or up to the most, by which the heads of an entry are not those of the
 // whole one, if there is one.
-fn tell_differing<R: Reader>(input: &Input<R>, rest: &R, most: u64, out: &mut Vec<u8>) -> Outcome {
-    let (whole, alloc) = (input.raw_of(rest), *out.allocator());
+fn tell_differing<R: Reader>(input: &Input<R>, rest: &R, most: u64, out: &mut Text) -> Outcome {
+    let (whole, alloc) = (input.raw_of(rest), out.alloc());
     if !has_declaration(&whole) || !Walk::new(whole).go_on(alloc) {
-        return Ok(writeln!(out, "another head by {} bytes", rest.len().into_u64())?);
+        writeln!(out, "another head by {} bytes", rest.len().into_u64());
+        return Ok(());
     }
     for size in 0..=most {
-        let mut cut = rest.copy();
-        cut.truncate(R::Offset::from_u64(size)?)?;
-        if !Walk::new(input.raw_of(&cut)).go_on(alloc) {
-            return Ok(writeln!(out, "another head by {size} bytes")?);
+        if !Walk::new(input.raw_of(&front(rest, size)?)).go_on(alloc) {
+            writeln!(out, "another head by {size} bytes");
+            break;
         }
     }
     Ok(())
+}
+
+// The first bytes of a reader, as many as a number says.
+fn front<R: Reader>(bytes: &R, size: u64) -> Result<R> {
+    let mut front = bytes.copy();
+    front.truncate(R::Offset::from_u64(size)?)?;
+    Ok(front)
 }
 
 // Three readers of the same entries: of whole ones, of their heads, and of their heads with the sibling.

@@ -1,9 +1,10 @@
 //! The bytes of entries and of attributes, and readers of them.
 
 use gimli_base::{
-    Abbreviations, DebugAbbrev, DebugAbbrevOffset, Encoding, LittleEndian, Reader, ReaderOffset,
+    Abbreviations, AttributeSpecification, DebugAbbrev, DebugAbbrevOffset, Encoding, LittleEndian,
+    Reader, ReaderOffset, Result,
 };
-use gimli_units::{EntriesRaw, UnitOffset};
+use gimli_units::{Attribute, EntriesRaw, UnitOffset};
 use std::alloc::Global;
 use test_tables::{Call, Outcome};
 
@@ -49,5 +50,10 @@ impl<R: Reader> Input<R> {
     pub(crate) fn raw_of(&self, bytes: &R) -> Raw<'_, R> {
         let zero = UnitOffset(R::Offset::from_u8(0));
         EntriesRaw::new(bytes.copy(), self.encoding, &self.table, zero)
+    }
+
+    /// What reading the first attribute answers.
+    pub(crate) fn read(&self, declared: AttributeSpecification) -> Result<Attribute<R>> {
+        self.raw().read_attribute(declared)
     }
 }

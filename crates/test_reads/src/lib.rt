@@ -46,10 +46,10 @@ use crate::together::{write_passed, write_read_together};
 use crate::turns::write_turns;
 use crate::units::{write_header, write_info, write_info_at, write_types};
 use gimli_base::Reader;
-use test_tables::{Call, Outcome, Stop};
+use test_tables::{Call, Outcome, Stop, Text};
 
 /// Writes what a call of one read, value, entry or list answers.
-pub fn write_read<R: Reader + PartialEq>(call: &Call<'_, R>, out: &mut Vec<u8>) -> Outcome {
+pub fn write_read<R: Reader + PartialEq>(call: &Call<'_, R>, out: &mut Text) -> Outcome {
     match call.name() {
         "read" => write_reads(call, out),
         "sizes" => write_sizes(call, out),
@@ -76,7 +76,7 @@ pub fn write_read<R: Reader + PartialEq>(call: &Call<'_, R>, out: &mut Vec<u8>) 
 }
 
 // Writes what a call of abbreviations, entries, attributes, texts and lists answers.
-fn write_of_entry<R: Reader>(call: &Call<'_, R>, out: &mut Vec<u8>) -> Outcome {
+fn write_of_entry<R: Reader>(call: &Call<'_, R>, out: &mut Text) -> Outcome {
     match call.name() {
         "abbrev" => write_abbreviations(call, out),
         "abbreviations" => write_unit_table(call, out),

@@ -4,11 +4,10 @@ use crate::shown::format_of;
 use gimli_base::{
     DebugLocListsBase, DebugRngListsBase, DwarfFileType, Encoding, Reader, ReaderOffset,
 };
-use std::io::Write;
-use test_tables::{Call, Outcome};
+use test_tables::{Call, Outcome, Text};
 
 /// Writes the number of the offset of a number, made as one of so many bits.
-pub(crate) fn write_offset<R: Reader>(call: &Call<'_, R>, out: &mut Vec<u8>) -> Outcome {
+pub(crate) fn write_offset<R: Reader>(call: &Call<'_, R>, out: &mut Text) -> Outcome {
     let number = call.number(2)?;
     let offset = match call.case.word(1) {
         Some("8") => R::Offset::from_u8(number.min(0xff) as u8),
@@ -16,33 +15,40 @@ pub(crate) fn write_offset<R: Reader>(call: &Call<'_, R>, out: &mut Vec<u8>) -> 
         Some("32") => R::Offset::from_u32(number.min(0xffff_ffff) as u32),
         _ => R::Offset::from_u64(number)?,
     };
-    Ok(write!(out, "0x{:x}", offset.into_u64())?)
+    write!(out, "0x{:x}", offset.into_u64());
+    Ok(())
 }
 
 /// Writes the sum or the difference of two offsets, or how the first compares to the second.
-pub(crate) fn write_two_offsets<R: Reader>(call: &Call<'_, R>, out: &mut Vec<u8>) -> Outcome {
+pub(crate) fn write_two_offsets<R: Reader>(call: &Call<'_, R>, out: &mut Text) -> Outcome {
     let (first, second) = (call.offset_or_zero(1)?, call.offset_or_zero(2)?);
-    let answer = match call.name() {
-        "compare" => return Ok(write!(out, "{:?}", first.cmp(&second))?),
-        "add" => first.checked_add(second),
-        _ => first.checked_sub(second),
-    };
-    Ok(match answer {
-        Some(answer) => write!(out, "0x{:x}", answer.into_u64())?,
-        None => write!(out, "none")?,
-    })
+    match call.name() {
+        "compare" => write!(out, "{:?}", first.cmp(&second)),
+        "add" => write_found(first.checked_add(second), out),
+        _ => write_found(first.checked_sub(second), out),
+    }
+    Ok(())
+}
+
+// Writes an offset, if there is one.
+fn write_found<Offset: ReaderOffset>(offset: Option<Offset>, out: &mut Text) {
+    match offset {
+        Some(offset) => write!(out, "0x{:x}", offset.into_u64()),
+        None => write!(out, "none"),
+    }
 }
 
 /// Writes the number of bytes of a format's length field, and that of its offsets.
-pub(crate) fn write_format<R: Reader>(call: &Call<'_, R>, out: &mut Vec<u8>) -> Outcome {
+pub(crate) fn write_format<R: Reader>(call: &Call<'_, R>, out: &mut Text) -> Outcome {
     let format = format_of(call.number(1)?);
     let (length, word) = (format.initial_length_size(), format.word_size());
-    Ok(write!(out, "{length} {word}")?)
+    write!(out, "{length} {word}");
+    Ok(())
 }
 
 /// Writes the bases of range lists and of location lists in each version from 0 to 65535, and leaves out
 /// those that are the bases of the version before.
-pub(crate) fn write_bases<R: Reader>(call: &Call<'_, R>, out: &mut Vec<u8>) -> Outcome {
+pub(crate) fn write_bases<R: Reader>(call: &Call<'_, R>, out: &mut Text) -> Outcome {
     let file_type = match call.case.word(2) {
         Some("dwo") => DwarfFileType::Dwo,
         _ => DwarfFileType::Main,
@@ -57,7 +63,7 @@ pub(crate) fn write_bases<R: Reader>(call: &Call<'_, R>, out: &mut Vec<u8>) -> O
         };
         let bases = bases_of::<R>(encoding, file_type);
         if last != Some(bases) {
-            writeln!(out, "{version}: {} {}", bases.0, bases.1)?;
+            writeln!(out, "{version}: {} {}", bases.0, bases.1);
         }
         last = Some(bases);
     }

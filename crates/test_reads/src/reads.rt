@@ -3,31 +3,31 @@
 use crate::shown::{format_of, write_left};
 use gimli_base::Error::{UnsupportedAddressSize, UnsupportedOffsetSize};
 use gimli_base::{Reader, ReaderOffset, ReaderOffsetId};
-use std::io::Write;
-use test_tables::{Call, Outcome, Stop};
+use test_tables::{Call, Outcome, Stop, Text};
 
 // The name of a call, and its number, or 0 where it has none.
 type Step<'a> = (&'a str, u64);
 
 /// Writes what a reader answers to the calls of the words, each with its number in brackets, if it has one;
 /// and then the bytes that are left.
-pub(crate) fn write_reads<R: Reader>(call: &Call<'_, R>, out: &mut Vec<u8>) -> Outcome {
+pub(crate) fn write_reads<R: Reader>(call: &Call<'_, R>, out: &mut Text) -> Outcome {
     let mut reader = call.section(0)?;
     for word in call.case.words.iter().skip(1) {
         let (name, rest) = word.split_once("(").unwrap_or((word, ""));
         let number = rest.strip_suffix(")").unwrap_or("0").parse::<u64>();
         match write_step(&mut reader, (name, number.unwrap_or(0)), out) {
-            Ok(()) => writeln!(out)?,
-            Err(stop) => stop.write(out)?,
+            Ok(()) => writeln!(out),
+            Err(stop) => stop.write(out),
         }
     }
-    write!(out, "rest ")?;
-    write_left(&reader, out)
+    write!(out, "rest ");
+    write_left(&reader, out);
+    Ok(())
 }
 
 /// Writes what a call answers for each size from 0 to 255, and the place after it, and leaves out the sizes
 /// that it refuses as such, at the place where it began.
-pub(crate) fn write_sizes<R: Reader>(call: &Call<'_, R>, out: &mut Vec<u8>) -> Outcome {
+pub(crate) fn write_sizes<R: Reader>(call: &Call<'_, R>, out: &mut Text) -> Outcome {
     let reader = call.section(0)?;
     let name = call.case.word(1).unwrap_or("");
     for size in 0..=255_u8 {
@@ -37,10 +37,10 @@ pub(crate) fn write_sizes<R: Reader>(call: &Call<'_, R>, out: &mut Vec<u8>) -> O
         match answer {
             Err(Stop::Refused(UnsupportedAddressSize(own) | UnsupportedOffsetSize(own)))
                 if own == size && place == reader.offset_id().0 => {}
-            Ok(number) => writeln!(out, "{size} at {place} 0x{number:x}")?,
+            Ok(number) => writeln!(out, "{size} at {place} 0x{number:x}"),
             Err(stop) => {
-                write!(out, "{size} at {place} ")?;
-                stop.write(out)?;
+                write!(out, "{size} at {place} ");
+                stop.write(out);
             }
         }
     }
@@ -48,23 +48,26 @@ pub(crate) fn write_sizes<R: Reader>(call: &Call<'_, R>, out: &mut Vec<u8>) -> O
 }
 
 // Writes what a call gives: bytes, a length, a number of 16 bytes, or what the calls below give.
-fn write_step<R: Reader>(reader: &mut R, step: Step<'_>, out: &mut Vec<u8>) -> Outcome {
+fn write_step<R: Reader>(reader: &mut R, step: Step<'_>, out: &mut Text) -> Outcome {
     match step.0 {
-        "skip" | "truncate" | "piece" | "empty" | "skip_leb" => write_passed(reader, step, out),
+        "skip" | "truncate" | "piece" | "empty" | "skip_leb" => {
+            pass(reader, step)?;
+            write!(out, "ok");
+        }
         "split" => write_left(&reader.split(R::Offset::from_u64(step.1)?)?, out),
         "text" => write_left(&reader.read_null_terminated_slice()?, out),
         "length" => {
             let (length, format) = reader.read_initial_length()?;
-            Ok(write!(out, "0x{:x} {format:?}", length.into_u64())?)
+            write!(out, "0x{:x} {format:?}", length.into_u64());
         }
-        "u128" => Ok(write!(out, "0x{:x}", reader.read_u128()?)?),
-        _ => write_decimal(reader, step, out),
+        "u128" => write!(out, "0x{:x}", reader.read_u128()?),
+        _ => write_decimal(reader, step, out)?,
     }
+    Ok(())
 }
 
 // Passes bytes, or cuts them off: for `piece` what the reader splits off is read from then on.
-fn write_passed<R: Reader>(reader: &mut R, step: Step<'_>, out: &mut Vec<u8>) -> Outcome {
-    let (name, number) = step;
+fn pass<R: Reader>(reader: &mut R, (name, number): Step<'_>) -> Outcome {
     match name {
         "skip_leb" => reader.skip_leb128()?,
         "empty" => reader.empty(),
@@ -75,22 +78,23 @@ fn write_passed<R: Reader>(reader: &mut R, step: Step<'_>, out: &mut Vec<u8>) ->
         }
         _ => reader.skip(R::Offset::from_u64(number)?)?,
     }
-    Ok(write!(out, "ok")?)
+    Ok(())
 }
 
 // Writes a LEB128 number, where a byte stands or a place lies, or a number of fixed size in hexadecimal.
-fn write_decimal<R: Reader>(reader: &mut R, step: Step<'_>, out: &mut Vec<u8>) -> Outcome {
-    Ok(match step.0 {
-        "uleb" => write!(out, "{}", reader.read_uleb128()?)?,
-        "uleb16" => write!(out, "{}", reader.read_uleb128_u16()?)?,
-        "sleb" => write!(out, "{}", reader.read_sleb128()?)?,
-        "find" => write!(out, "{}", reader.find(step.1.min(0xff) as u8)?.into_u64())?,
+fn write_decimal<R: Reader>(reader: &mut R, step: Step<'_>, out: &mut Text) -> Outcome {
+    match step.0 {
+        "uleb" => write!(out, "{}", reader.read_uleb128()?),
+        "uleb16" => write!(out, "{}", reader.read_uleb128_u16()?),
+        "sleb" => write!(out, "{}", reader.read_sleb128()?),
+        "find" => write!(out, "{}", reader.find(step.1.min(0xff) as u8)?.into_u64()),
         "lookup" => match reader.lookup_offset_id(ReaderOffsetId(step.1)) {
-            Some(before) => write!(out, "{}", before.into_u64())?,
-            None => write!(out, "none")?,
+            Some(before) => write!(out, "{}", before.into_u64()),
+            None => write!(out, "none"),
         },
-        _ => write!(out, "0x{:x}", read_number(reader, step)?)?,
-    })
+        _ => write!(out, "0x{:x}", read_number(reader, step)?),
+    }
+    Ok(())
 }
 
 // Reads a number of a fixed size, of so many bytes where its name does not tell; of copied bytes the first is

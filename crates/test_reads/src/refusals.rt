@@ -1,8 +1,7 @@
 //! The refusals: their numbers, and their debug texts.
 
 use gimli_base::{DwForm, DwLle, DwRle, DwUt, Error, ReaderOffsetId};
-use std::io::Write;
-use test_tables::{Case, Outcome, Stop};
+use test_tables::{Case, Outcome, Stop, Text};
 
 // The refusal with a name, among those that carry nothing and those that carry a value.
 macro_rules! refusal_of {
@@ -16,11 +15,12 @@ macro_rules! refusal_of {
 }
 
 /// Writes the number and the debug text of the refusal with a name, which carries a number or nothing.
-pub(crate) fn write_error(case: &Case, out: &mut Vec<u8>) -> Outcome {
+pub(crate) fn write_error(case: &Case, out: &mut Text) -> Outcome {
     let name = case.word(1).unwrap_or("");
     let error = refusal_with(name, case.number(2).unwrap_or(0));
     let error = error.ok_or(Stop::Lacks("no such refusal"))?;
-    Ok(write!(out, "{} {error:?}", error.number())?)
+    write!(out, "{} {error:?}", error.number());
+    Ok(())
 }
 
 // The refusal with a name, which carries a number or nothing.

@@ -7,8 +7,7 @@ use gimli_headers::{DebugInfo, DebugTypes};
 use gimli_lists::{
     DebugAranges, DebugLoc, DebugLocLists, DebugRanges, DebugRngLists, LocationLists, RangeLists,
 };
-use std::io::Write;
-use test_tables::{Call, Outcome, Stop};
+use test_tables::{Call, Outcome, Stop, Text};
 
 /// The range lists of both sections, of which the first is that of versions before 5.
 pub(crate) fn range_lists<R: Reader>((old, new): (R, R)) -> RangeLists<R> {
@@ -22,11 +21,12 @@ pub(crate) fn location_lists<R: Reader>((old, new): (R, R)) -> LocationLists<R> 
 
 /// Writes the section, and the number of its bytes before a place, if it is one of the section's or of the
 /// pair's.
-pub(crate) fn write_place<R: Reader>(call: &Call<'_, R>, out: &mut Vec<u8>) -> Outcome {
-    Ok(match find_place(call, ReaderOffsetId(call.number(2)?))? {
-        Some((section, before)) => write!(out, "{section:?} {}", before.into_u64())?,
-        None => write!(out, "none")?,
-    })
+pub(crate) fn write_place<R: Reader>(call: &Call<'_, R>, out: &mut Text) -> Outcome {
+    match find_place(call, ReaderOffsetId(call.number(2)?))? {
+        Some((section, before)) => write!(out, "{section:?} {}", before.into_u64()),
+        None => write!(out, "none"),
+    }
+    Ok(())
 }
 
 // A section, and the number of its bytes before a place.
@@ -36,19 +36,19 @@ type Found<R> = Option<(SectionId, <R as Reader>::Offset)>;
 fn find_place<R: Reader>(call: &Call<'_, R>, place: ReaderOffsetId) -> Outcome<Found<R>> {
     let section = call.section(0)?;
     Ok(match call.case.word(1) {
-        Some("abbrev") => find(DebugAbbrev::from(section), place),
-        Some("addr") => find(DebugAddr::from(section), place),
-        Some("str") => find(DebugStr::from(section), place),
-        Some("info") => find(DebugInfo::from(section), place),
-        Some("types") => find(DebugTypes::from(section), place),
-        Some("aranges") => find(DebugAranges::from(section), place),
+        Some("abbrev") => find::<DebugAbbrev<R>, R>(section, place),
+        Some("addr") => find::<DebugAddr<R>, R>(section, place),
+        Some("str") => find::<DebugStr<R>, R>(section, place),
+        Some("info") => find::<DebugInfo<R>, R>(section, place),
+        Some("types") => find::<DebugTypes<R>, R>(section, place),
+        Some("aranges") => find::<DebugAranges<R>, R>(section, place),
         _ => find_in_lists(call, place)?,
     })
 }
 
-// Finds a place in a section.
-fn find<R: Reader, S: Section<R> + Drop>(section: S, place: ReaderOffsetId) -> Found<R> {
-    section.lookup_offset_id(place)
+// Finds a place in the section of a kind.
+fn find<S: Section<R> + Drop, R: Reader>(section: R, place: ReaderOffsetId) -> Found<R> {
+    S::from(section).lookup_offset_id(place)
 }
 
 // Finds a place in the pair of sections that have lists.

@@ -4,8 +4,7 @@ use crate::attributes::{Declared, declaration, parse_code, read_by, write_next, 
 use crate::inputs::{Input, Raw};
 use crate::values::{write_parts, write_value};
 use gimli_base::{DW_AT_sibling, DW_FORM_flag_present, Reader};
-use std::io::Write;
-use test_tables::{Call, Outcome, Stop, write_refusal};
+use test_tables::{Call, Outcome, Stop, Text, write_refusal};
 
 // The declaration of a word `NAME:FORM`.
 fn parse_pair(word: &str) -> Option<Declared> {
@@ -30,37 +29,38 @@ fn pairs_of<R: Reader>(call: &Call<'_, R>) -> Outcome<(Vec<Declared>, Vec<Declar
 
 /// Writes what passing attributes together answers, and after `then` what reading others does, one after
 /// the other.
-pub(crate) fn write_passed<R: Reader>(call: &Call<'_, R>, out: &mut Vec<u8>) -> Outcome {
+pub(crate) fn write_passed<R: Reader>(call: &Call<'_, R>, out: &mut Text) -> Outcome {
     let input = Input::of_attributes(call, 1)?;
     let (passed, then) = pairs_of(call)?;
     let mut raw = input.raw();
-    write_skipped(&mut raw, &input.reader, &passed, out)?;
+    write_skipped(&mut raw, &input.reader, &passed, out);
     if then.is_empty() {
         return Ok(());
     }
     for declared in &then {
-        write_step(&mut raw, *declared, out)?;
+        write_step(&mut raw, *declared, out);
     }
     let rest = if raw.is_empty() { "end" } else { "more" };
-    Ok(write!(out, "{rest} depth {}", raw.next_depth())?)
+    write!(out, "{rest} depth {}", raw.next_depth());
+    Ok(())
 }
 
 // Writes what reading an attribute answers, by one call of a copy and by the other.
-fn write_step<R: Reader>(raw: &mut Raw<'_, R>, declared: Declared, out: &mut Vec<u8>) -> Outcome {
-    let other = read_by(*out.allocator(), &mut raw.copy(), declared, "attribute");
-    let answer = read_by(*out.allocator(), raw, declared, "inline");
+fn write_step<R: Reader>(raw: &mut Raw<'_, R>, declared: Declared, out: &mut Text) {
+    let other = read_by(out.alloc(), &mut raw.copy(), declared, "attribute");
+    let answer = read_by(out.alloc(), raw, declared, "inline");
     match (answer, other) {
-        (Ok(attribute), Ok(_)) => write_value(&attribute.raw_value(), out)?,
-        (Err(error), Err(_)) => write_refusal(out, error)?,
-        _ => write!(out, "not the same")?,
+        (Ok(attribute), Ok(_)) => write_value(&attribute.raw_value(), out),
+        (Err(error), Err(_)) => write_refusal(out, error),
+        _ => write!(out, "not the same"),
     }
-    write!(out, " ")?;
-    write_next(raw, out)
+    write!(out, " ");
+    write_next(raw, out);
 }
 
 /// Writes what reading attributes together answers, in place of one that was there, and then all that are
 /// there.
-pub(crate) fn write_read_together<R: Reader>(call: &Call<'_, R>, out: &mut Vec<u8>) -> Outcome {
+pub(crate) fn write_read_together<R: Reader>(call: &Call<'_, R>, out: &mut Text) -> Outcome {
     let input = Input::of_attributes(call, 1)?;
     let (pairs, _) = pairs_of(call)?;
     let mut raw = input.raw();
@@ -68,12 +68,13 @@ pub(crate) fn write_read_together<R: Reader>(call: &Call<'_, R>, out: &mut Vec<u
     let before = Declared::new(DW_AT_sibling, DW_FORM_flag_present, None);
     raw.read_attributes(&[before], &mut attributes)?;
     if let Err(error) = raw.read_attributes(&pairs, &mut attributes) {
-        write_refusal(out, error)?;
-        write!(out, " ")?;
+        write_refusal(out, error);
+        write!(out, " ");
     }
     for attribute in &attributes {
-        write_parts(attribute, out)?;
-        writeln!(out)?;
+        write_parts(attribute, out);
+        writeln!(out);
     }
-    write_next(&raw, out)
+    write_next(&raw, out);
+    Ok(())
 }

@@ -2,8 +2,7 @@
 
 use gimli_base::{Reader, ReaderOffset};
 use gimli_units::{Attribute, AttributeValue};
-use std::io::Write;
-use test_tables::{Outcome, hex_of};
+use test_tables::{Text, hex_of};
 
 // The name of a value's variant and its number, for the variants that are listed after how their number is
 // made, or else the last.
@@ -17,34 +16,34 @@ macro_rules! number_of {
 }
 
 // Writes the name of a value that is bytes, and these.
-fn write_named<R: Reader>(name: &str, reader: &R, out: &mut Vec<u8>) -> Outcome {
-    write!(out, "{name} ")?;
-    hex_of(out, reader, ":")
+fn write_named<R: Reader>(name: &str, reader: &R, out: &mut Text) {
+    write!(out, "{name} ");
+    hex_of(out, reader, ":");
 }
 
 /// Writes a value: the name of its variant, and what it holds.
-pub(crate) fn write_value<R: Reader>(value: &AttributeValue<R>, out: &mut Vec<u8>) -> Outcome {
-    Ok(match value {
-        AttributeValue::Block(bytes) => write_named("Block", bytes, out)?,
-        AttributeValue::String(bytes) => write_named("String", bytes, out)?,
-        AttributeValue::Exprloc(expression) => write_named("Exprloc", &expression.0, out)?,
-        AttributeValue::Data16(number) => write!(out, "Data16 {number}")?,
-        AttributeValue::Sdata(number) => write!(out, "Sdata {number}")?,
-        AttributeValue::Flag(holds) => write!(out, "Flag {holds}")?,
+pub(crate) fn write_value<R: Reader>(value: &AttributeValue<R>, out: &mut Text) {
+    match value {
+        AttributeValue::Block(bytes) => write_named("Block", bytes, out),
+        AttributeValue::String(bytes) => write_named("String", bytes, out),
+        AttributeValue::Exprloc(expression) => write_named("Exprloc", &expression.0, out),
+        AttributeValue::Data16(number) => write!(out, "Data16 {number}"),
+        AttributeValue::Sdata(number) => write!(out, "Sdata {number}"),
+        AttributeValue::Flag(holds) => write!(out, "Flag {holds}"),
         AttributeValue::DebugAddrIndexOffset(index, offset) => {
-            write!(out, "DebugAddrIndexOffset {} {offset}", index.0.into_u64())?
+            write!(out, "DebugAddrIndexOffset {} {offset}", index.0.into_u64());
         }
         _ => {
             let (name, number) = number_of(value);
-            write!(out, "{name} {number}")?
+            write!(out, "{name} {number}");
         }
-    })
+    }
 }
 
 /// Writes an attribute: name, form, and the value that its form shows.
-pub(crate) fn write_parts<R: Reader>(attribute: &Attribute<R>, out: &mut Vec<u8>) -> Outcome {
-    write!(out, "{:x}:{:x} ", attribute.name().0, attribute.form().0)?;
-    write_value(&attribute.raw_value(), out)
+pub(crate) fn write_parts<R: Reader>(attribute: &Attribute<R>, out: &mut Text) {
+    write!(out, "{:x}:{:x} ", attribute.name().0, attribute.form().0);
+    write_value(&attribute.raw_value(), out);
 }
 
 // The name of a value's variant, and its number.

@@ -80,22 +80,44 @@ impl Case {
         })
     }
 
-    // The case of the words from an index on, with other bytes, whose answers are not known.
-    pub(crate) fn behind(&self, alloc: Global, index: usize, bytes: &[u8]) -> io::Result<Case> {
-        let mut words = Vec::new(alloc);
-        for word in self.words.iter().skip(index) {
-            words.push(String::from_str(alloc, word)?)?;
-        }
-        let section = Vec::from_slice(alloc, bytes)?;
-        Ok(Case {
-            calls: self.calls,
-            orders: self.orders,
-            words,
-            sections: vec![in alloc; section]?,
-            places: Vec::from_slice(alloc, &self.places)?,
+    // A case without words and bytes, whose answers are not known.
+    fn new(alloc: Global, calls: Calls) -> Case {
+        Case {
+            calls,
+            orders: &[RunTimeEndian::Little],
+            words: Vec::new(alloc),
+            sections: Vec::new(alloc),
+            places: Vec::new(alloc),
             wide: String::new(alloc),
             narrow: String::new(alloc),
-        })
+        }
+    }
+
+    // The case of the words from an index on, with other bytes, whose answers are not known.
+    pub(crate) fn behind(&self, alloc: Global, index: usize, bytes: &[u8]) -> io::Result<Case> {
+        let mut case = Case::new(alloc, self.calls);
+        case.orders = self.orders;
+        for word in self.words.iter().skip(index) {
+            case.words.push(String::from_str(alloc, word)?)?;
+        }
+        case.sections.push(Vec::from_slice(alloc, bytes)?)?;
+        case.places.extend_from_slice(&self.places)?;
+        Ok(case)
+    }
+
+    // Takes a word before the bytes: an order of bytes, a place, or a word of the call.
+    fn take_word(&mut self, alloc: Global, word: &str) -> Option<()> {
+        match word {
+            "big" if self.words.is_empty() => self.orders = &[RunTimeEndian::Big],
+            "each" if self.words.is_empty() => {
+                self.orders = &[RunTimeEndian::Little, RunTimeEndian::Big];
+            }
+            _ => match word.strip_prefix("@") {
+                Some(place) => self.places.push(place.parse::<u64>().ok()?).ok()?,
+                None => self.words.push(String::from_str(alloc, word).ok()?).ok()?,
+            },
+        }
+        Some(())
     }
 
     /// The bytes of the section at an index.
@@ -118,31 +140,15 @@ pub fn parse_number(word: &str) -> Option<u64> {
 pub(crate) fn parse_case(alloc: Global, names: &Names, calls: Calls, line: &str) -> Option<Case> {
     let (call, answer) = line.split_once(" =")?;
     let (wide, narrow) = answer.split_once(" | ").unwrap_or((answer, answer));
+    let mut case = Case::new(alloc, calls);
+    case.wide = String::from_str(alloc, wide.trim()).ok()?;
+    case.narrow = String::from_str(alloc, narrow.trim()).ok()?;
     let mut parts = call.split(" :");
-    let mut words = Vec::new(alloc);
-    let mut places = Vec::new(alloc);
-    let mut orders: &[RunTimeEndian] = &[RunTimeEndian::Little];
     for word in parts.next()?.split_ascii_whitespace() {
-        match word {
-            "big" if words.is_empty() => orders = &[RunTimeEndian::Big],
-            "each" if words.is_empty() => orders = &[RunTimeEndian::Little, RunTimeEndian::Big],
-            _ => match word.strip_prefix("@") {
-                Some(place) => places.push(place.parse::<u64>().ok()?).ok()?,
-                None => words.push(String::from_str(alloc, word).ok()?).ok()?,
-            },
-        }
+        case.take_word(alloc, word)?;
     }
-    let mut sections = Vec::new(alloc);
     for part in parts {
-        sections.push(names.parse(part)?).ok()?;
+        case.sections.push(names.parse(part)?).ok()?;
     }
-    Some(Case {
-        calls,
-        orders,
-        words,
-        sections,
-        places,
-        wide: String::from_str(alloc, wide.trim()).ok()?,
-        narrow: String::from_str(alloc, narrow.trim()).ok()?,
-    })
+    Some(case)
 }

@@ -11,6 +11,7 @@ mod shown;
 mod stop;
 mod sweeps;
 mod table;
+mod text;
 
 pub use crate::answers::is_answer;
 pub use crate::call::Call;
@@ -20,3 +21,4 @@ pub use crate::refusal::write_refusal;
 pub use crate::shown::{hex_of, write_hex};
 pub use crate::stop::{Outcome, Stop};
 pub use crate::table::try_tables;
+pub use crate::text::Text;

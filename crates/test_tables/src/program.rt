@@ -3,16 +3,17 @@
 use crate::call::Call;
 use crate::case::Case;
 use crate::stop::{Outcome, Stop};
+use crate::text::Text;
 use gimli_base::{
     BigEndian, EndianSlice, Endianity, LittleEndian, Reader, RunTimeEndian, WholeSlice,
 };
 use std::alloc::Global;
-use std::io::{self, Write};
+use std::io;
 
 /// What answers the cases.
 pub trait Program {
     /// Writes what the call of a case answers over readers of one kind.
-    fn answer<R: Reader + PartialEq>(&self, call: &Call<'_, R>, out: &mut Vec<u8>) -> Outcome;
+    fn answer<R: Reader + PartialEq>(&self, call: &Call<'_, R>, out: &mut Text) -> Outcome;
 }
 
 // A program, and a kind of readers: whether offsets have 64 bits, or else 32, and the byte order.
@@ -62,15 +63,15 @@ fn narrow(alloc: Global, case: &Case, endian: RunTimeEndian) -> Outcome<Narrow<'
 impl<'a, P: Program> Trial<'a, P> {
     // What the call of a case answers.
     pub(crate) fn answer(&self, case: &Case) -> io::Result<Vec<u8>> {
-        let mut found = Vec::new(self.alloc);
+        let mut found = Text::new(self.alloc);
         if let Err(stop) = self.write(case, &mut found) {
-            stop.write(&mut found)?;
+            stop.write(&mut found);
         }
-        Ok(found)
+        Ok(found.finish()?)
     }
 
     // Writes what the call of a case answers, up to why it ends.
-    fn write(&self, case: &Case, out: &mut Vec<u8>) -> Outcome {
+    fn write(&self, case: &Case, out: &mut Text) -> Outcome {
         let (program, alloc) = (self.program, self.alloc);
         match (self.is_wide, self.endian) {
             (true, RunTimeEndian::Little) => program.answer(&wide(alloc, case, LittleEndian)?, out),

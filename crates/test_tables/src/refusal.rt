@@ -1,13 +1,12 @@
 //! Refusals as a table writes them.
 
+use crate::text::Text;
 use gimli_base::Error;
-use std::io::{self, Write};
 
 /// Writes a refusal: `refused`, its number, and what it carries, if it carries something: a place, a
 /// version, an offset, a size or a code in decimal digits.
-pub fn write_refusal<W: Write>(out: &mut W, error: Error) -> io::Result<()> {
-    let number = error.number();
-    write!(out, "refused {number}")?;
+pub fn write_refusal(out: &mut Text, error: Error) {
+    write!(out, "refused {}", error.number());
     let part = match error {
         Error::UnexpectedEof(place) => place.0,
         Error::UnknownVersion(part)
@@ -21,7 +20,7 @@ pub fn write_refusal<W: Write>(out: &mut W, error: Error) -> io::Result<()> {
         Error::UnknownForm(code) => u64::from(code.0),
         Error::UnknownRangeListsEntry(code) => u64::from(code.0),
         Error::UnknownLocListsEntry(code) => u64::from(code.0),
-        _ => return Ok(()),
+        _ => return,
     };
-    write!(out, " {part}")
+    write!(out, " {part}");
 }

@@ -1,19 +1,17 @@
 //! Why an answer ends.
 
 use crate::refusal::write_refusal;
+use crate::text::Text;
 use gimli_base::Error;
 use std::alloc::{AllocError, AllocFailed};
-use std::io::{self, Write};
 
-/// Why an answer ends before all of it is written.
+/// Why an answer ends before all of it is written, which is the last of the answer.
 #[derive(Debug, Drop)]
 pub enum Stop {
-    /// A refusal, which is the last of the answer.
+    /// A refusal.
     Refused(Error),
-    /// What the call needs and the case does not give, which is the last of the answer too.
+    /// What the call needs and the case does not give.
     Lacks(&'static str),
-    /// The answer was not kept.
-    Unwritten(io::Error),
 }
 
 /// What a part of a call gives, or why its answer ends.
@@ -22,12 +20,6 @@ pub type Outcome<T = ()> = Result<T, Stop>;
 impl From<Error> for Stop {
     fn from(error: Error) -> Stop {
         Stop::Refused(error)
-    }
-}
-
-impl From<io::Error> for Stop {
-    fn from(error: io::Error) -> Stop {
-        Stop::Unwritten(error)
     }
 }
 
@@ -45,14 +37,13 @@ impl<T: Drop> From<AllocFailed<T>> for Stop {
 
 impl Stop {
     /// Writes the last of an answer.
-    pub fn write(self, out: &mut Vec<u8>) -> io::Result<()> {
+    pub fn write(self, out: &mut Text) {
         match self {
             Stop::Refused(error) => {
-                write_refusal(out, error)?;
-                writeln!(out)
+                write_refusal(out, error);
+                writeln!(out);
             }
             Stop::Lacks(what) => writeln!(out, "{what}"),
-            Stop::Unwritten(error) => Err(error),
         }
     }
 }

@@ -4,34 +4,47 @@ use crate::answers::is_answer;
 use crate::bytes::Names;
 use crate::case::{Calls, Case, parse_case};
 use crate::program::{Program, Trial};
+use crate::text::Text;
 use std::alloc::Global;
-use std::io::{self, BufWriter, Write};
+use std::io::{self, Write};
 use std::{env, fs};
 
 /// Tries each table that a word names: writes the rows that are answered otherwise, and the counts. The
 /// words that do not end in `.txt` are files that rows name.
 pub fn try_tables<P: Program>(rt: &HostRuntime, program: &P) -> io::Result<()> {
-    let mut out = BufWriter::new(rt.alloc(), rt.stdout())?;
+    let mut stdout = rt.stdout();
     for name in env::args(rt)?.skip(1) {
-        if !name.as_str().ends_with(".txt") {
-            continue;
+        if name.as_str().ends_with(".txt") {
+            let text = fs::read_to_string(rt, &name)?;
+            let told = try_table(rt.alloc(), program, &name, &text)?;
+            stdout.write_all(&told)?;
         }
-        let text = fs::read_to_string(rt, &name)?;
-        let mut table = Table {
-            alloc: rt.alloc(),
-            program,
-            calls: Calls::Reads,
-            names: Names::new(rt.alloc()),
-            cases: 0,
-            differ: 0,
-        };
-        for line in text.lines() {
-            table.try_line(line, &mut out)?;
-        }
-        let (cases, differ) = (table.cases, table.differ);
-        writeln!(out, "{name}: {cases} cases, {differ} differ")?;
     }
-    out.flush()
+    stdout.flush()
+}
+
+// Tries a table. Answers the rows that are answered otherwise, and the counts.
+fn try_table<P: Program>(
+    alloc: Global,
+    program: &P,
+    name: &str,
+    text: &str,
+) -> io::Result<Vec<u8>> {
+    let mut table = Table {
+        alloc,
+        program,
+        calls: Calls::Reads,
+        names: Names::new(alloc),
+        cases: 0,
+        differ: 0,
+    };
+    let mut out = Text::new(alloc);
+    for line in text.lines() {
+        table.try_line(line, &mut out)?;
+    }
+    let (cases, differ) = (table.cases, table.differ);
+    writeln!(out, "{name}: {cases} cases, {differ} differ");
+    Ok(out.finish()?)
 }
 
 // A table, the names that its lines gave, how many cases were tried, and how many answers differ.
@@ -55,7 +68,7 @@ fn parse_over(line: &str) -> Option<(u8, u8, &str)> {
 impl<'a, P: Program> Table<'a, P> {
     // Tries the rows of a line, if it is neither empty nor a comment, and names neither bytes nor whose calls
     // follow.
-    fn try_line<W: Write>(&mut self, line: &str, out: &mut W) -> io::Result<()> {
+    fn try_line(&mut self, line: &str, out: &mut Text) -> io::Result<()> {
         if line.is_empty() || line.starts_with("#") || self.names.take_line(line).is_some() {
             return Ok(());
         }
@@ -70,7 +83,7 @@ impl<'a, P: Program> Table<'a, P> {
     }
 
     // Tries a row for each byte, which stands for `{hex}` in two digits, and for `{dec}` in decimal ones.
-    fn try_rows<W: Write>(&mut self, over: (u8, u8, &str), out: &mut W) -> io::Result<()> {
+    fn try_rows(&mut self, over: (u8, u8, &str), out: &mut Text) -> io::Result<()> {
         let (first, last, row) = over;
         for byte in first..=last {
             let hex = format!(in self.alloc; "{byte:02x}")?;
@@ -83,17 +96,18 @@ impl<'a, P: Program> Table<'a, P> {
     }
 
     // Tries a row.
-    fn try_row<W: Write>(&mut self, row: &str, out: &mut W) -> io::Result<()> {
+    fn try_row(&mut self, row: &str, out: &mut Text) -> io::Result<()> {
         self.cases = self.cases.saturating_add(1);
         let Some(case) = parse_case(self.alloc, &self.names, self.calls, row) else {
             self.differ = self.differ.saturating_add(1);
-            return writeln!(out, "no case: {row}");
+            writeln!(out, "no case: {row}");
+            return Ok(());
         };
         self.try_case(row, &case, out)
     }
 
     // Tries a case over both readers, in each of its byte orders.
-    fn try_case<W: Write>(&mut self, row: &str, case: &Case, out: &mut W) -> io::Result<()> {
+    fn try_case(&mut self, row: &str, case: &Case, out: &mut Text) -> io::Result<()> {
         for endian in case.orders {
             for is_wide in [true, false] {
                 let trial = Trial {
@@ -113,7 +127,7 @@ impl<'a, P: Program> Table<'a, P> {
 
 impl<'a, P: Program> Trial<'a, P> {
     // Whether a case is answered otherwise than it wants, and then writes the row with the answer.
-    fn differs<W: Write>(&self, row: &str, case: &Case, out: &mut W) -> io::Result<bool> {
+    fn differs(&self, row: &str, case: &Case, out: &mut Text) -> io::Result<bool> {
         let found = self.find(case)?;
         let found = str::from_utf8(&found).unwrap_or("no text");
         let wanted = match case.calls {
@@ -124,7 +138,7 @@ impl<'a, P: Program> Trial<'a, P> {
         };
         let differs = !is_answer(wanted, found);
         if differs {
-            writeln!(out, "{row}\n  answered: {found}")?;
+            writeln!(out, "{row}\n  answered: {found}");
         }
         Ok(differs)
     }

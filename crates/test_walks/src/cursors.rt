@@ -5,7 +5,7 @@ use crate::steps::{Told, write_fault};
 use gimli_base::{Reader, ReaderOffset, Result};
 use gimli_units::EntriesCursor;
 use std::alloc::{Allocator, Global};
-use std::io::{self, Write};
+use test_tables::Text;
 
 type Cursor<'table, R> = EntriesCursor<'table, R, Global>;
 
@@ -27,49 +27,49 @@ pub(crate) fn take_step<R: Reader, A: Allocator + Copy>(
 /// cursor stands.
 pub(crate) fn write_stand<R: Reader, A: Allocator + Copy>(
     cursor: &EntriesCursor<'_, R, A>,
-    out: &mut Vec<u8>,
-) -> io::Result<()> {
-    write_found(cursor.current(), true, out)?;
+    out: &mut Text,
+) {
+    write_found(cursor.current(), true, out);
     let last = (cursor.offset().0.into_u64(), cursor.depth());
     let next = (cursor.next_offset().0.into_u64(), cursor.next_depth());
-    write_places(last, next, out)
+    write_places(last, next, out);
 }
 
 impl<'table, R: Reader> Told for Cursor<'table, R> {
-    fn write_start(&self, out: &mut Vec<u8>) -> io::Result<()> {
+    fn write_start(&self, out: &mut Text) {
         let word = if self.follows() { "follows" } else { "plain" };
-        write!(out, "{word}")?;
-        write_stand(self, out)
+        write!(out, "{word}");
+        write_stand(self, out);
     }
 
-    fn write_step(&mut self, letter: u8, as_text: bool, out: &mut Vec<u8>) -> io::Result<bool> {
+    fn write_step(&mut self, letter: u8, as_text: bool, out: &mut Text) -> bool {
         let outcome = take_step(self, letter);
         match outcome {
-            Ok(_) => write_outcome(outcome, out)?,
-            Err(error) => write_fault(error, as_text, out)?,
+            Ok(_) => write_outcome(outcome, out),
+            Err(error) => write_fault(error, as_text, out),
         }
         if as_text {
-            write_text_stand(self, out)?;
+            write_text_stand(self, out);
         } else {
-            write_stand(self, out)?;
+            write_stand(self, out);
         }
-        Ok(outcome.is_err())
+        outcome.is_err()
     }
 
-    fn write_shown(&self, as_text: bool, out: &mut Vec<u8>) -> io::Result<()> {
+    fn write_shown(&self, as_text: bool, out: &mut Text) {
         if as_text {
-            write_next((self.next_offset().0.into_u64(), self.next_depth()), out)?;
+            write_next((self.next_offset().0.into_u64(), self.next_depth()), out);
         }
-        write!(out, " reads {}", self.reads())
+        write!(out, " reads {}", self.reads());
     }
 }
 
 // Writes where a cursor stands as the text of a walk does.
-fn write_text_stand<R: Reader>(cursor: &Cursor<'_, R>, out: &mut Vec<u8>) -> io::Result<()> {
+fn write_text_stand<R: Reader>(cursor: &Cursor<'_, R>, out: &mut Text) {
     let (tag, flag) = match cursor.current() {
         Some(entry) => (entry.tag().0, u8::from(entry.has_children())),
         None => (0, 0),
     };
     let (offset, depth) = (cursor.offset().0.into_u64(), cursor.depth());
-    write!(out, " {offset:x} {depth} {tag:x} {flag}")
+    write!(out, " {offset:x} {depth} {tag:x} {flag}");
 }

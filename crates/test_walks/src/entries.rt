@@ -3,11 +3,10 @@
 use gimli_base::{Reader, ReaderOffset, Result};
 use gimli_units::DebuggingInformationEntry;
 use std::alloc::Allocator;
-use std::io::{self, Write};
-use test_tables::write_refusal;
+use test_tables::{Text, write_refusal};
 
 /// Writes whether a step found something, or its refusal.
-pub(crate) fn write_outcome(outcome: Result<bool>, out: &mut Vec<u8>) -> io::Result<()> {
+pub(crate) fn write_outcome(outcome: Result<bool>, out: &mut Text) {
     match outcome {
         Ok(true) => write!(out, "yes"),
         Ok(false) => write!(out, "no"),
@@ -18,41 +17,40 @@ pub(crate) fn write_outcome(outcome: Result<bool>, out: &mut Vec<u8>) -> io::Res
 /// Writes an entry: its offset, depth, tag and children flag.
 pub(crate) fn write_entry<R: Reader, A: Allocator>(
     entry: &DebuggingInformationEntry<R, A>,
-    out: &mut Vec<u8>,
-) -> io::Result<()> {
+    out: &mut Text,
+) {
     let offset = entry.offset().0.into_u64();
     let (depth, tag) = (entry.depth(), entry.tag().0);
     let flag = u8::from(entry.has_children());
-    write!(out, "{offset:x} {depth} {tag:x} {flag}")
+    write!(out, "{offset:x} {depth} {tag:x} {flag}");
 }
 
 /// Writes an entry after a space, if there is one, and where it is counted the number of its attributes.
 pub(crate) fn write_found<R: Reader, A: Allocator>(
     entry: Option<&DebuggingInformationEntry<R, A>>,
     is_counted: bool,
-    out: &mut Vec<u8>,
-) -> io::Result<()> {
+    out: &mut Text,
+) {
     if let Some(entry) = entry {
-        write!(out, " ")?;
-        write_entry(entry, out)?;
+        write!(out, " ");
+        write_entry(entry, out);
         if is_counted {
-            write!(out, " {}", entry.attrs().len())?;
+            write!(out, " {}", entry.attrs().len());
         }
     }
-    Ok(())
 }
 
 /// Where something stands in a unit: its offset and its depth.
 pub(crate) type Place = (u64, isize);
 
 /// Writes the places of what was read last, and of what is read next.
-pub(crate) fn write_places(last: Place, next: Place, out: &mut Vec<u8>) -> io::Result<()> {
+pub(crate) fn write_places(last: Place, next: Place, out: &mut Text) {
     let (offset, depth) = last;
-    write!(out, " at {offset:x} {depth}")?;
-    write_next(next, out)
+    write!(out, " at {offset:x} {depth}");
+    write_next(next, out);
 }
 
 /// Writes the place of what is read next.
-pub(crate) fn write_next((offset, depth): Place, out: &mut Vec<u8>) -> io::Result<()> {
-    write!(out, " > {offset:x} {depth}")
+pub(crate) fn write_next((offset, depth): Place, out: &mut Text) {
+    write!(out, " > {offset:x} {depth}");
 }

@@ -7,13 +7,13 @@ use gimli_base::{
 use gimli_lists::{DebugLoc, DebugLocLists, DebugRanges, DebugRngLists, LocationLists, RangeLists};
 use gimli_walk::{run_locations, run_ranges};
 use std::alloc::Allocator;
-use test_tables::{Call, Outcome};
+use test_tables::{Call, Outcome, Text};
 
 /// Writes each range or location of a list, and each refusal where it comes.
 pub(crate) fn write_list<R: Reader, A: Allocator + Copy>(
     call: &Call<'_, R>,
     heap: A,
-    out: &mut Vec<u8>,
+    out: &mut Text,
 ) -> Outcome {
     let encoding = call.sized_encoding(1)?;
     let base = call.case.number(4).unwrap_or(0);
@@ -25,12 +25,14 @@ pub(crate) fn write_list<R: Reader, A: Allocator + Copy>(
         let lists = RangeLists::new(DebugRanges::from(section), DebugRngLists::from(same));
         let at = RangeListsOffset(offset);
         let run = run_ranges(heap, &lists, at, encoding, base, &addr, addr_base)?;
-        return write_run(&run, out);
+        write_run(&run, out);
+        return Ok(());
     }
     // whether the section is that of a split file
     let dwo = call.name() == "locations_dwo";
     let lists = LocationLists::new(DebugLoc::from(section), DebugLocLists::from(same));
     let at = LocationListsOffset(offset);
     let run = run_locations(heap, &lists, at, encoding, base, &addr, addr_base, dwo)?;
-    write_run(&run, out)
+    write_run(&run, out);
+    Ok(())
 }

@@ -2,8 +2,7 @@
 
 use gimli_base::{Error, Reader};
 use gimli_walk::{CursorStep, TreeStep};
-use std::io::{self, Write};
-use test_tables::{Call, Outcome, write_refusal};
+use test_tables::{Call, Outcome, Text, write_refusal};
 
 /// The steps that letters name.
 #[derive(Drop)]
@@ -36,20 +35,21 @@ pub(crate) fn steps_at<R: Reader>(call: &Call<'_, R>, index: usize) -> Outcome<S
 /// A walk that is told step by step, as its text or as a run holds it.
 pub(crate) trait Told: Drop {
     /// Writes how the walk begins.
-    fn write_start(&self, out: &mut Vec<u8>) -> io::Result<()>;
+    fn write_start(&self, out: &mut Text);
 
     /// Takes the step of a letter, and writes what its text says of it, or what a run holds. Answers whether
     /// it was refused. A letter that names no step finds nothing.
-    fn write_step(&mut self, letter: u8, as_text: bool, out: &mut Vec<u8>) -> io::Result<bool>;
+    fn write_step(&mut self, letter: u8, as_text: bool, out: &mut Text) -> bool;
 
     /// Writes what a reader shows besides: the number of reads, and what is read next where that is not told.
-    fn write_shown(&self, as_text: bool, out: &mut Vec<u8>) -> io::Result<()>;
+    fn write_shown(&self, as_text: bool, out: &mut Text);
 }
 
 /// Writes a refusal as the text of a walk does, or with all that it carries.
-pub(crate) fn write_fault(error: Error, as_text: bool, out: &mut Vec<u8>) -> io::Result<()> {
+pub(crate) fn write_fault(error: Error, as_text: bool, out: &mut Text) {
     if as_text {
-        return write!(out, "error {}", error.number());
+        write!(out, "error {}", error.number());
+    } else {
+        write_refusal(out, error);
     }
-    write_refusal(out, error)
 }

@@ -5,7 +5,7 @@ use gimli_base::Reader;
 use gimli_walk::{Mode, WriteFault, dump_text, dump_to_vec, find_text, run_words, walk_text};
 use std::alloc::{AllocError, Allocator, Global};
 use std::io::Write;
-use test_tables::{Call, Case, Outcome};
+use test_tables::{Call, Case, Outcome, Text};
 
 // The mode of a walk that a word names.
 fn mode_of<'steps>(name: &str, steps: &'steps Steps) -> Mode<'steps> {
@@ -41,14 +41,15 @@ pub(crate) fn write_text<R: Reader, A: Allocator + Copy, W: Write>(
 pub(crate) fn write_dump<R: Reader, A: Allocator + Copy>(
     call: &Call<'_, R>,
     heap: A,
-    out: &mut Vec<u8>,
+    out: &mut Text,
 ) -> Outcome {
     let info = call.case.section(0).unwrap_or(&[]);
     let abbrev = call.case.section(1).unwrap_or(&[]);
     let mut text = Vec::from_slice(heap, b"held\n")?;
     let status = dump_to_vec(heap, info, abbrev, &mut text);
-    out.write_all(&text)?;
-    Ok(writeln!(out, "status {}", status?)?)
+    out.push_bytes(&text);
+    writeln!(out, "status {}", status?);
+    Ok(())
 }
 
 // A word of the program: `""` stands for one without letters, and `_` for a space.
@@ -90,8 +91,8 @@ fn write_words<R: Reader, A: Allocator + Copy>(
     let mut err = Vec::new(alloc);
     let status = run_words(heap, &words, &read, out, &mut err);
     if !err.is_empty() {
-        out.write_all(b"stderr ")?;
-        out.write_all(&err)?;
+        out.extend_from_slice(b"stderr ")?;
+        out.extend_from_slice(&err)?;
     }
     Ok(status)
 }
@@ -102,15 +103,17 @@ pub(crate) fn write_with_status<R: Reader, A: Allocator + Copy>(
     call: &Call<'_, R>,
     heap: A,
     index: usize,
-    out: &mut Vec<u8>,
+    out: &mut Text,
 ) -> Outcome {
+    let mut text = Vec::new(call.alloc);
     let status = match call.name() {
-        "words" => Ok(write_words(call, heap, out)?),
-        _ => write_text(call, heap, index, out)?,
+        "words" => Ok(write_words(call, heap, &mut text)?),
+        _ => write_text(call, heap, index, &mut text)?,
     };
+    out.push_bytes(&text);
     match status {
-        Ok(status) => writeln!(out, "status {status}")?,
-        Err(WriteFault) => writeln!(out, "no status")?,
+        Ok(status) => writeln!(out, "status {status}"),
+        Err(WriteFault) => writeln!(out, "no status"),
     }
     Ok(())
 }

@@ -5,7 +5,7 @@ use crate::steps::{Told, write_fault};
 use gimli_base::{Reader, Result};
 use gimli_units::EntriesTreeWalker;
 use std::alloc::{Allocator, Global};
-use std::io::{self, Write};
+use test_tables::Text;
 
 type Walker<'table, R> = EntriesTreeWalker<'table, R, Global>;
 
@@ -43,24 +43,24 @@ fn word_of_step<R: Reader>(walker: &mut Walker<'_, R>, letter: u8) -> Result<Opt
 }
 
 impl<'table, R: Reader> Told for Walker<'table, R> {
-    fn write_start(&self, out: &mut Vec<u8>) -> io::Result<()> {
-        write!(out, "begins")
+    fn write_start(&self, out: &mut Text) {
+        write!(out, "begins");
     }
 
-    fn write_step(&mut self, letter: u8, as_text: bool, out: &mut Vec<u8>) -> io::Result<bool> {
+    fn write_step(&mut self, letter: u8, as_text: bool, out: &mut Text) -> bool {
         let word = word_of_step(self, letter);
         match word {
-            Ok(Some(word)) => write!(out, "{word}")?,
+            Ok(Some(word)) => write!(out, "{word}"),
             Ok(None) => {
-                write!(out, "node")?;
-                write_found(self.entry(), !as_text, out)?;
+                write!(out, "node");
+                write_found(self.entry(), !as_text, out);
             }
-            Err(error) => write_fault(error, as_text, out)?,
+            Err(error) => write_fault(error, as_text, out),
         }
-        Ok(word.is_err())
+        word.is_err()
     }
 
-    fn write_shown(&self, _: bool, out: &mut Vec<u8>) -> io::Result<()> {
-        write!(out, " > reads {}", self.reads())
+    fn write_shown(&self, _: bool, out: &mut Text) {
+        write!(out, " > reads {}", self.reads());
     }
 }

@@ -10,7 +10,7 @@ use gimli_units::{
 };
 use gimli_walk::{CursorAnswer, Run, TreeAnswer, run_cursor, run_cursor_plain, run_tree};
 use std::alloc::Allocator;
-use test_tables::{Call, Outcome, Stop};
+use test_tables::{Call, Outcome, Stop, Text};
 
 /// The first unit of the first section, with its table of the second, and what a call says of it.
 #[derive(Drop)]
@@ -88,11 +88,12 @@ impl<R: Reader, A: Allocator + Copy> Stage<R, A> {
     }
 
     /// Writes what the run that a call names holds.
-    pub(crate) fn write_run_of(&self, name: &str, heap: A, out: &mut Vec<u8>) -> Outcome {
+    pub(crate) fn write_run_of(&self, name: &str, heap: A, out: &mut Text) -> Outcome {
         match name {
             "tree_at" | "run_tree" => write_run(&self.run_tree(heap)?, out),
             "cursor_at" | "run_cursor" => write_run(&self.run_cursor(heap, true)?, out),
             _ => write_run(&self.run_cursor(heap, false)?, out),
         }
+        Ok(())
     }
 }

@@ -10,14 +10,14 @@ use crate::walks::entries::{write_entries, write_entry_at, write_raw};
 use crate::walks::files::try_file;
 use crate::walks::steps::{write_walk_at, write_walked};
 use gimli_base::Reader;
-use test_tables::{Call, Outcome};
+use test_tables::{Call, Outcome, Text};
 
 /// Writes what a call of walks answers, where the files that rows name lie in a folder.
 pub fn write_walk<R: Reader>(
     rt: &HostRuntime,
     folder: &str,
     call: &Call<'_, R>,
-    out: &mut Vec<u8>,
+    out: &mut Text,
 ) -> Outcome {
     match call.name() {
         "file" => try_file(rt, folder, call.case, out),

@@ -8,7 +8,7 @@ use gimli_base::{Abbreviations, Reader, ReaderOffset, Result};
 use gimli_units::{
     Attribute, AttributeValue, DebuggingInformationEntry, EntriesCursor, EntriesRaw,
 };
-use std::io::{self, Write};
+use test_tables::Text;
 
 /// A cursor, and the allocator that a clone of it is made with.
 #[derive(Drop)]
@@ -27,9 +27,9 @@ impl<'table, 'h, R: Reader> Walk for Cursor<'table, 'h, R> {
         Ok(true)
     }
 
-    fn show(&self, out: &mut Vec<u8>) -> io::Result<()> {
-        write_stand(&self.cursor, out)?;
-        write!(out, " reads {}", self.cursor.reads())
+    fn show(&self, out: &mut Text) {
+        write_stand(&self.cursor, out);
+        write!(out, " reads {}", self.cursor.reads());
     }
 }
 
@@ -70,28 +70,27 @@ impl<'table, 'h, R: Reader> Walk for Raw<'table, 'h, R> {
         }
     }
 
-    fn show(&self, out: &mut Vec<u8>) -> io::Result<()> {
+    fn show(&self, out: &mut Text) {
         let entry = &self.entry;
         let read = if entry.is_null() { None } else { Some(entry) };
-        write_found(read, true, out)?;
+        write_found(read, true, out);
         let last = (entry.offset().0.into_u64(), entry.depth());
         let next = (self.raw.next_offset().0.into_u64(), self.raw.next_depth());
-        write_places(last, next, out)?;
-        write_values(entry.attrs(), out)
+        write_places(last, next, out);
+        write_values(entry.attrs(), out);
     }
 }
 
 /// Writes the values of attributes of one byte, and of references.
-pub(crate) fn write_values<R: Reader>(of: &[Attribute<R>], out: &mut Vec<u8>) -> io::Result<()> {
-    write!(out, " has")?;
+pub(crate) fn write_values<R: Reader>(of: &[Attribute<R>], out: &mut Text) {
+    write!(out, " has");
     for attribute in of {
         let value = attribute.raw_value();
         match &value {
-            AttributeValue::Data1(byte) => write!(out, " {byte:x}")?,
-            AttributeValue::UnitRef(offset) => write!(out, " to {:x}", offset.0.into_u64())?,
-            AttributeValue::String(text) => write!(out, " text {}", text.len().into_u64())?,
-            _ => write!(out, " other")?,
+            AttributeValue::Data1(byte) => write!(out, " {byte:x}"),
+            AttributeValue::UnitRef(offset) => write!(out, " to {:x}", offset.0.into_u64()),
+            AttributeValue::String(text) => write!(out, " text {}", text.len().into_u64()),
+            _ => write!(out, " other"),
         }
     }
-    Ok(())
 }

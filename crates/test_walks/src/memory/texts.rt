@@ -3,16 +3,16 @@
 use crate::texts::{write_text, write_with_status};
 use gimli_base::Reader;
 use gimli_walk::WriteFault;
-use std::io::Write;
-use test_tables::{Call, Outcome, is_answer};
+use test_tables::{Call, Outcome, Text, is_answer};
 
 /// Writes a text into each slice that is too short for it, and into one that is not, and writes what differs.
-pub(crate) fn write_short<R: Reader>(call: &Call<'_, R>, out: &mut Vec<u8>) -> Outcome {
-    let mut whole = Vec::new(call.alloc);
+pub(crate) fn write_short<R: Reader>(call: &Call<'_, R>, out: &mut Text) -> Outcome {
+    let mut whole = Text::new(call.alloc);
     write_with_status(call, call.alloc, 1, &mut whole)?;
+    let whole = whole.finish()?;
     let whole = str::from_utf8(&whole).unwrap_or("no text");
     if !is_answer(call.wanted, whole) {
-        write!(out, "{whole}")?;
+        write!(out, "{whole}");
     }
     let mut text = Vec::new(call.alloc);
     let status = write_text(call, call.alloc, 1, &mut text)?;
@@ -31,7 +31,7 @@ fn write_into<R: Reader>(
     text: &[u8],
     size: usize,
     wanted: Result<u8, WriteFault>,
-    out: &mut Vec<u8>,
+    out: &mut Text,
 ) -> Outcome {
     let mut space = Vec::from_slice(call.alloc, text)?;
     space.fill(0xff);
@@ -42,7 +42,7 @@ fn write_into<R: Reader>(
     let written = size.saturating_sub(left.len());
     let is_front = space.get(..written) == text.get(..written);
     if answer != wanted || !is_front {
-        writeln!(out, "{size} bytes: {answer:?}")?;
+        writeln!(out, "{size} bytes: {answer:?}");
     }
     Ok(())
 }

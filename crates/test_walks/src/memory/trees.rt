@@ -6,8 +6,7 @@ use crate::memory::walks::Walk;
 use crate::trees::take_step;
 use gimli_base::{Reader, ReaderOffset, Result};
 use gimli_units::{EntriesTree, EntriesTreeIter, EntriesTreeWalker};
-use std::io::{self, Write};
-use test_tables::write_refusal;
+use test_tables::{Text, write_refusal};
 
 /// A tree, and the allocator that a clone of it is made with.
 #[derive(Drop)]
@@ -30,13 +29,13 @@ impl<'table, 'h, R: Reader> Walk for Tree<'table, 'h, R> {
         Ok(true)
     }
 
-    fn show(&self, out: &mut Vec<u8>) -> io::Result<()> {
+    fn show(&self, out: &mut Text) {
         let entry = self.tree.entry();
         let read = if entry.is_null() { None } else { Some(entry) };
-        write_found(read, true, out)?;
+        write_found(read, true, out);
         let (offset, depth) = (entry.offset().0.into_u64(), entry.depth());
         let (next, reads) = (self.tree.next_depth(), self.tree.reads());
-        write!(out, " at {offset:x} {depth} > {next} reads {reads}")
+        write!(out, " at {offset:x} {depth} > {next} reads {reads}");
     }
 }
 
@@ -45,64 +44,54 @@ impl<'table, 'h, R: Reader> Walk for EntriesTreeWalker<'table, R, Heap<'h>> {
         take_step(self, letter)
     }
 
-    fn show(&self, out: &mut Vec<u8>) -> io::Result<()> {
-        write_found(self.entry(), true, out)?;
+    fn show(&self, out: &mut Text) {
+        write_found(self.entry(), true, out);
         let (lists, reads) = (self.list_count(), self.reads());
-        write!(out, " in {lists} reads {reads}")
+        write!(out, " in {lists} reads {reads}");
     }
 }
 
 // Writes the next child of a list, which it lends, or that there is none, or a refusal. Answers whether there
 // was a child.
-fn write_child<R: Reader>(
-    list: &mut EntriesTreeIter<'_, '_, R, Heap<'_>>,
-    out: &mut Vec<u8>,
-) -> io::Result<bool> {
+fn write_child<R: Reader>(list: &mut EntriesTreeIter<'_, '_, R, Heap<'_>>, out: &mut Text) -> bool {
     let child = list.next();
     match &child {
         Ok(Some(node)) => {
-            write!(out, "yes")?;
-            write_found(Some(node.entry()), true, out)?;
+            write!(out, "yes");
+            write_found(Some(node.entry()), true, out);
         }
-        Ok(None) => write!(out, "no")?,
-        Err(error) => write_refusal(out, *error)?,
+        Ok(None) => write!(out, "no"),
+        Err(error) => write_refusal(out, *error),
     }
-    writeln!(out)?;
-    Ok(matches!(child, Ok(Some(_))))
+    writeln!(out);
+    matches!(child, Ok(Some(_)))
 }
 
 // Writes the children of a list. After the last, and after a refusal, it has no child any more.
-fn write_children<R: Reader>(
-    list: &mut EntriesTreeIter<'_, '_, R, Heap<'_>>,
-    out: &mut Vec<u8>,
-) -> io::Result<()> {
+fn write_children<R: Reader>(list: &mut EntriesTreeIter<'_, '_, R, Heap<'_>>, out: &mut Text) {
     for _ in 0..u64::MAX {
-        if !write_child(list, out)? {
+        if !write_child(list, out) {
             break;
         }
     }
     if !matches!(list.next(), Ok(None)) {
-        writeln!(out, "goes on")?;
+        writeln!(out, "goes on");
     }
-    Ok(())
 }
 
 /// Writes the root of a tree and its children, as the tree lends them.
-pub(crate) fn write_lent<R: Reader>(
-    tree: &mut EntriesTree<'_, R, Heap<'_>>,
-    out: &mut Vec<u8>,
-) -> io::Result<()> {
+pub(crate) fn write_lent<R: Reader>(tree: &mut EntriesTree<'_, R, Heap<'_>>, out: &mut Text) {
     match tree.root() {
         Ok(root) => {
-            write!(out, "root")?;
-            write_found(Some(root.entry()), true, out)?;
-            writeln!(out)?;
+            write!(out, "root");
+            write_found(Some(root.entry()), true, out);
+            writeln!(out);
             let mut list = root.children();
-            write_children(&mut list, out)
+            write_children(&mut list, out);
         }
         Err(error) => {
-            write_refusal(out, error)?;
-            writeln!(out)
+            write_refusal(out, error);
+            writeln!(out);
         }
     }
 }

@@ -4,8 +4,7 @@ use crate::memory::wanted::Wanted;
 use failing::{Failing, Refusal};
 use gimli_base::Reader;
 use std::alloc::Global;
-use std::io::Write;
-use test_tables::{Call, Outcome};
+use test_tables::{Call, Outcome, Text};
 
 /// The allocator of what is tried.
 pub(crate) type Heap<'h> = &'h Failing<Global>;
@@ -26,7 +25,7 @@ const MANY: u64 = 1000;
 
 /// Makes a call with each of its requests refused in turn, alone and with all after it, and writes what
 /// differs.
-pub(crate) fn try_each<R: Reader>(call: &Call<'_, R>, out: &mut Vec<u8>) -> Outcome {
+pub(crate) fn try_each<R: Reader>(call: &Call<'_, R>, out: &mut Text) -> Outcome {
     let wanted = Wanted::new(call.alloc, call.wanted, call.name())?;
     for number in 1..MANY {
         let alone = Trial::new(call, number, Refusal::Nth(number)).judge(&wanted, out)?;
@@ -35,7 +34,8 @@ pub(crate) fn try_each<R: Reader>(call: &Call<'_, R>, out: &mut Vec<u8>) -> Outc
             return Ok(());
         }
     }
-    Ok(writeln!(out, "  no end of its requests")?)
+    writeln!(out, "  no end of its requests");
+    Ok(())
 }
 
 impl<'s, 'c, R: Reader> Trial<'s, 'c, R> {
@@ -53,11 +53,11 @@ impl<'s, 'c, R: Reader> Trial<'s, 'c, R> {
     // What the call answers, where the request of a number is the first to be refused.
     fn answer(&mut self, number: u64) -> Outcome<Vec<u8>> {
         self.number = number;
-        let mut found = Vec::new(self.call.alloc);
+        let mut found = Text::new(self.call.alloc);
         if let Err(stop) = self.write(&mut found) {
-            stop.write(&mut found)?;
+            stop.write(&mut found);
         }
-        Ok(found)
+        Ok(found.finish()?)
     }
 
     // What the call answers when it is made again after a number of requests.
@@ -71,7 +71,7 @@ impl<'s, 'c, R: Reader> Trial<'s, 'c, R> {
 
     // Makes the call, and where a request was refused makes it again. Writes what it answered, and what it
     // answered again, where that is not what is wanted. Answers whether one was refused.
-    fn judge(&mut self, wanted: &Wanted<'_>, out: &mut Vec<u8>) -> Outcome<bool> {
+    fn judge(&mut self, wanted: &Wanted<'_>, out: &mut Text) -> Outcome<bool> {
         let (number, refusal) = (self.number, self.refusal);
         let alone = refusal == Refusal::Nth(number);
         if alone && !wanted.alone {
@@ -94,7 +94,7 @@ impl<'s, 'c, R: Reader> Trial<'s, 'c, R> {
             writeln!(
                 out,
                 "{refusal:?}, {asked} requests:\n{found}again:\n{again}"
-            )?;
+            );
         }
         Ok(number <= asked)
     }

@@ -3,7 +3,7 @@
 use crate::entries::write_outcome;
 use crate::memory::trial::Heap;
 use gimli_base::{Error, Result};
-use std::io::{self, Write};
+use test_tables::Text;
 
 /// An allocator that refuses, the number of the first request that it refuses, and the letters of the steps.
 pub(crate) type Given<'h> = (Heap<'h>, u64, Option<&'h str>);
@@ -14,22 +14,22 @@ pub(crate) trait Walk {
     fn take(&mut self, letter: u8) -> Result<bool>;
 
     /// Writes where the walk stands.
-    fn show(&self, out: &mut Vec<u8>) -> io::Result<()>;
+    fn show(&self, out: &mut Text);
 }
 
 // Takes steps up to the first that memory was refused for, and writes a line for each. Answers the letters
 // from that one on, or none where none was refused.
-fn take_all<'a, T: Walk>(walk: &mut T, word: &'a [u8], out: &mut Vec<u8>) -> io::Result<&'a [u8]> {
+fn take_all<'a, T: Walk>(walk: &mut T, word: &'a [u8], out: &mut Text) -> &'a [u8] {
     for (at, letter) in word.iter().enumerate() {
         let outcome = walk.take(*letter);
-        write_outcome(outcome, out)?;
-        walk.show(out)?;
-        writeln!(out)?;
+        write_outcome(outcome, out);
+        walk.show(out);
+        writeln!(out);
         if outcome == Err(Error::OutOfMemory) {
-            return Ok(word.get(at..).unwrap_or(b""));
+            return word.get(at..).unwrap_or(b"");
         }
     }
-    Ok(b"")
+    b""
 }
 
 // The steps that find nothing after one that memory was refused for, since it ends the walk or all lists.
@@ -44,38 +44,33 @@ fn ended_by(letter: u8) -> &'static [u8] {
 /// Takes the steps of a walk, and writes a line for each. After a refusal of memory steps follow that find
 /// nothing and ask for none, after which a walk that is not ended takes the same step again and goes on, one
 /// that begins with the root begins anew, and any other stays where it stands.
-pub(crate) fn write_walk<T: Walk>(
-    (heap, number, word): Given<'_>,
-    walk: &mut T,
-    out: &mut Vec<u8>,
-) -> io::Result<()> {
+pub(crate) fn write_walk<T: Walk>((heap, number, word): Given<'_>, walk: &mut T, out: &mut Text) {
     let letters = word.unwrap_or("").as_bytes();
-    let left = take_all(walk, letters, out)?;
+    let left = take_all(walk, letters, out);
     let [letter, ..] = left else {
-        return Ok(());
+        return;
     };
     let ended = ended_by(*letter);
     if heap.requests() != number {
-        writeln!(out, "asked on")?;
+        writeln!(out, "asked on");
     }
-    let mut stood = Vec::new(*out.allocator());
-    walk.show(&mut stood)?;
+    let mut stood = Text::new(out.alloc());
+    walk.show(&mut stood);
     for step in ended {
         if walk.take(*step) != Ok(false) {
-            writeln!(out, "goes on")?;
+            writeln!(out, "goes on");
         }
     }
-    let mut stands = Vec::new(*out.allocator());
-    walk.show(&mut stands)?;
+    let mut stands = Text::new(out.alloc());
+    walk.show(&mut stands);
     if heap.requests() != number {
-        writeln!(out, "asks on")?;
+        writeln!(out, "asks on");
     }
     if ended.is_empty() {
-        take_all(walk, left, out)?;
+        take_all(walk, left, out);
     } else if letters.starts_with(b"r") {
-        take_all(walk, letters, out)?;
-    } else if stood.as_slice() != stands.as_slice() {
-        writeln!(out, "moves")?;
+        take_all(walk, letters, out);
+    } else if !stood.is_same(&stands) {
+        writeln!(out, "moves");
     }
-    Ok(())
 }
