@@ -17,7 +17,8 @@ returns-in-Some g c =
     none_of c.place_of_sibling.result (c.is_none.ensures ∙ ap not c.if-is_none.true) in
     let back : None ≡ c.place_of_sibling.result = sym none in
     let is = back ∙ c.place_of_sibling.ensures in
-    let passed = c.in-Some.ensures.there.passed ∙ sym (stand_passed limit c.args.encoding some all formed stand v) in
+    let passed = c.in-Some.ensures.there.passed
+    ∙ sym (stand_passed limit c.args.encoding some all formed stand v) in
     rw c.pass_bytes.ensures
     (no_reference _ _ _ _ _ _ is passed
     ∙ stand_led limit c.args.encoding some all formed stand v)

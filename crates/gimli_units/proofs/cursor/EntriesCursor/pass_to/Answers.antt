@@ -14,7 +14,8 @@ stand-requires g c =
     let follows : c.self.inside.follows ≡ c.args.self.now.follows =
     ap (λ (x : CursorView). x.follows) c.self.view_is in
     let passed = passed_here limit _ _ _ _ _ _ follows c.pass_on.ensures _ _ _ in
-    rw (ap (λ (x : CursorView). x.follows) c.passing.invariant.kept, deep, c.next_offset-offset.ensures)
+    let kept = ap (λ (x : CursorView). x.follows) c.passing.invariant.kept in
+    rw (kept, deep, c.next_offset-offset.ensures)
     (sound_pass limit _ _ _ _ c.passing.invariant.passing.sound passed)
 
 pub returns-in-Err-clause-refused : goal.returns-in-Err-clause-refused
@@ -28,7 +29,8 @@ returns-in-Err-clause-refused g c =
     (g.R.Offset.ReaderOffset.number c.passing.offset.0) (to_z w64 c.passing.depth-bits)
     c.passing.reads in
     let same = to_z-of_z w64 c.args.sought c.ranges.sought in
-    rw (c.stand.ensures, ap (λ (x : CursorView). x.follows) c.passing.invariant.kept, deep, c.next_offset-offset.ensures)
+    let kept = ap (λ (x : CursorView). x.follows) c.passing.invariant.kept in
+    rw (c.stand.ensures, kept, deep, c.next_offset-offset.ensures)
     (passing_out limit c.args.sought c.args.self.now _ c.pass_on.result _
     (rw same at c.passing.invariant.passing) (rw same at passed) c.in-Err.refusal
     c.in-Err.is)
