@@ -12,8 +12,7 @@ mod WordBytes
 pub mod AbbreviationReads
 pub mod AbbreviationTable
 pub mod AbbreviationMap
-pub mod SizeSums
-pub mod MovingTurns
+pub mod StepTurns
 pub mod TableTurns
 pub mod Later
 pub mod Taken

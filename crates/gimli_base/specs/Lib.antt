@@ -9,7 +9,6 @@ pub mod Items
 pub mod Abbreviations
 pub mod Table
 pub mod Width
-pub mod Sizes
-pub mod Moving
+pub mod Steps
 pub mod Address
 pub mod ListsBase

@@ -2,10 +2,8 @@
 
 ghost use Rattle.std.proofs.Common.{ap};
 ghost use Rattle.std.specs.Prelude.{ℕ, ◌≡◌, ◌≢◌, ◌==◌, [], is_some, if◌then◌else◌, Some, None};
-ghost use Rattle.std.specs.Prelude.{Option, OnOk, IfErr, IsSome, unwrap_or, pos, List, ◌++◌, ◌∷◌};
-ghost use Rattle.std.specs.Prelude.{take, nat_le, IfOk, IfSome, length, ◌<◌, ◌≤◌, ◌-◌, ◌^◌};
-ghost use Rattle.std.specs.Prelude.{true, false, ◌||◌, ◌&&◌, not};
-ghost use Rattle.std.specs.Prelude.{cond};
+ghost use Rattle.std.specs.Prelude.{Option, OnOk, IfOk, IfErr, IfSome, IsSome, unwrap_or, pos};
+ghost use Rattle.std.specs.Prelude.{true, false, cond};
 ghost use Rattle.std.specs.Option.{option_copied};
 ghost use Rattle.std.specs.Ordering.{nat_cmp};
 ghost use Rattle.std.specs.Map.{lookup};
@@ -29,21 +27,20 @@ ghost use Rattle.gimli_base.specs.Abbreviations.{
 };
 ghost use Rattle.gimli_base.specs.Width.{width_of, form_size, attributes_size};
 ghost use Rattle.std.specs.List.{All};
-ghost use Rattle.gimli_base.specs.Moving.{takes, is_named, moving_from, StandsFor};
-ghost use Rattle.gimli_base.specs.Sizes.{AreSizesOf, AreSizesOfFew, fixed_of, others_of};
+ghost use Rattle.gimli_base.specs.Steps.{AreSteps};
 ghost use Rattle.gimli_base.specs.Table.{Table, codes_of};
-ghost use Rattle.gimli_base.specs.Items.{Items, ItemsSoFar, all_items};
 ghost use Rattle.gimli_base.specs.Offset.{answer_of};
 ghost use Rattle.gimli_base.specs.Reading.{read_of, answer_leaving, map_read, UnlessMemory};
 
-use crate::sizes::Sizes;
+use crate::attributes::Attributes;
+use crate::step::Step;
 use crate::width::Width;
 use crate::{
-    DW_AT_null, DW_AT_sibling, DW_CHILDREN_no, DW_CHILDREN_yes, DW_FORM_flag_present,
-    DW_FORM_implicit_const, DW_FORM_null, DW_TAG_null, DebugAbbrevOffset, DwAt, DwForm, DwTag,
-    Encoding, EndianSlice, Endianity, Error, Reader, Result, Section, SectionId,
+    DW_AT_null, DW_CHILDREN_no, DW_CHILDREN_yes, DW_FORM_implicit_const, DW_FORM_null, DW_TAG_null,
+    DebugAbbrevOffset, DwAt, DwForm, DwTag, Encoding, EndianSlice, Endianity, Error, Reader,
+    Result, Section, SectionId,
 };
-use std::alloc::{AllocError, Allocator};
+use std::alloc::Allocator;
 use std::collections::BTreeMap;
 use std::fmt::{self, Debug};
 use std::marker::Model;
@@ -142,57 +139,20 @@ impl AttributeSpecification {
     }
 }
 
-// A declared attribute, and what its width adds to the sums of its declaration: both come of one
-// look at the form.
-#[derive(Clone, Copy)]
-struct Counted {
-    specification: AttributeSpecification,
-    fixed: u32,
-    others: u64,
-}
-
-impl Model for Counted {
-    ghost Value = { Specification };
-
-    ghost view = { λ c. c.specification };
-
-    ghost inverse = { λ s.
-        record {
-          specification = s;
-          fixed = fixed_of (width_of s.form.0);
-          others = others_of (width_of s.form.0);
-        } };
-
-    ghost invariant = { λ c. (c.fixed ≡ fixed_of (width_of c.specification.form.0))
-        × (c.others ≡ others_of (width_of c.specification.form.0)) };
-}
-
-impl Counted {
-    // A declared attribute; a number stands exactly with the form implicit_const.
+impl AttributeSpecification {
+    /// How many bytes the form's value takes.
     #[inline(always)]
-    fn new(name: DwAt, form: DwForm, implicit_const_value: Option<i64>) -> Self
-        requires { IsWellFormed
-            (record { name = name; form = form; constant = implicit_const_value }) }
-        ensures { result ≡ record { name = name; form = form; constant = implicit_const_value } }
+    pub(crate) fn width(&self) -> Width
+        ensures { result ≡ width_of self.now.form.0 }
     {
-        let share = Width::share(form);
-        Counted {
-            specification: AttributeSpecification {
-                name,
-                form,
-                width: share.width,
-                constant: implicit_const_value.unwrap_or(0),
-            },
-            fixed: share.fixed,
-            others: share.others,
-        }
+        self.width
     }
 
-    // The next declared attribute, or none where two zeros end the list; where it is refused, the
-    // input is left anywhere.
+    /// The next declared attribute, or none where two zeros end the list; where it is refused, the
+    /// input is left anywhere.
     #[inline(always)]
     #[tactic(auto, unfolding(crate::specs::Abbreviations::specification_at))]
-    fn parse<R: Reader>(input: &mut R) -> Result<Option<Counted>>
+    pub(crate) fn parse<R: Reader>(input: &mut R) -> Result<Option<AttributeSpecification>>
         ensures { read_of result (R.view input.new) ≡ specification_at (R.view input.old) }
     {
         let name = DwAt(input.read_uleb128_u16()?);
@@ -203,269 +163,10 @@ impl Counted {
             (_, DW_FORM_null) => Err(Error::AttributeFormZero),
             (_, DW_FORM_implicit_const) => {
                 let value = input.read_sleb128()?;
-                Ok(Some(Counted::new(name, form, Some(value))))
+                Ok(Some(AttributeSpecification::new(name, form, Some(value))))
             }
-            _ => Ok(Some(Counted::new(name, form, None))),
+            _ => Ok(Some(AttributeSpecification::new(name, form, None))),
         }
-    }
-}
-
-// How many attributes stand in a declaration itself: the 12 in the view of `Attributes`.
-const FEW: usize = 12;
-
-// `count` from here on: all are in the list.
-const LISTED: usize = FEW + 1;
-
-// Up to how many attributes the bytes of all are known, since each count has 16 bits.
-const MOST: usize = 65_535;
-
-// One more attribute in a list, and in the sums of its widths, which are right up to `MOST`
-// attributes; where memory is refused, both are left anywhere.
-#[inline(always)]
-fn push_listed<A: Allocator>(
-    list: &mut Vec<AttributeSpecification, A>,
-    sizes: &mut Sizes,
-    counted: Counted,
-) -> std::result::Result<(), AllocError>
-    requires { AreSizesOfFew sizes.old list.old.items }
-    ensures pushed { OnOk result (list.new.items ≡ list.old.items ++ counted ∷ []) }
-    ensures counted { OnOk result (AreSizesOfFew sizes.new list.new.items) }
-{
-    sizes.push_wrapping(counted.fixed, counted.others);
-    list.push(counted.specification)?;
-    Ok(())
-}
-
-// Adds an attribute to a list whose widths have these sums, and after it the declared ones up to
-// two zeros, and answers the sums of all; where they are refused, the input and the list are left
-// anywhere.
-//
-// It reads by a copy of the input and keeps sums of its own, so that both stay in registers, and
-// looks only at the end whether the sums hold.
-#[inline(always)]
-fn parse_listed<R: Reader, A: Allocator>(
-    list: &mut Vec<AttributeSpecification, A>,
-    before: Sizes,
-    first: Counted,
-    input: &mut R,
-) -> Result<Sizes>
-    requires { AreSizesOf before list.old.items }
-    ensures counted { IfOk result (λ sizes. AreSizesOf sizes list.new.items) }
-    ensures read { (all : Items Specification)
-        → ItemsSoFar specification_at all (list.old.items ++ first ∷ []) (R.view input.old)
-        → UnlessMemory result
-        (read_of (answer_leaving list.new.items result) (R.view input.new) ≡ all_items all) }
-{
-    let mut sizes = before;
-    let mut rest = input.copy();
-    push_listed(list, &mut sizes, first)?;
-    while let Some(counted) = Counted::parse(&mut rest)? {
-        push_listed(list, &mut sizes, counted)?;
-    }
-    if list.len() > MOST {
-        sizes.forget();
-    }
-    *input = rest;
-    Ok(sizes)
-}
-
-// Whether passing an entry has to look at an attribute: it has another form than flag_present and
-// implicit_const, or it is the first that has the name of a reference to a sibling.
-#[inline(always)]
-fn moves(specification: &AttributeSpecification, is_found: bool) -> bool
-    ensures { result ≡ (takes specification.now || (not is_found && is_named specification.now)) }
-{
-    match specification.form {
-        DW_FORM_flag_present | DW_FORM_implicit_const => {
-            !is_found && specification.name == DW_AT_sibling
-        }
-        _ => true,
-    }
-}
-
-// Puts those of a list that move in place, and answers how many they are, or none where there is no
-// room for them.
-#[inline(never)]
-fn put_moving(
-    few: &mut [AttributeSpecification; FEW],
-    list: &[AttributeSpecification],
-) -> Option<usize>
-    ensures { IfSome result (λ n. (n ≤ 12) × (take n few.new ≡ moving_from false list.now)) }
-{
-    let mut count = 0;
-    let mut is_found = false;
-    'listed: for specification in list {
-        let is_moving = moves(specification, is_found);
-        is_found |= specification.name() == DW_AT_sibling;
-        if !is_moving {
-            continue;
-        }
-        if count == FEW {
-            return None;
-        }
-        few[count] = *specification;
-        count += 1;
-    }
-    Some(count)
-}
-
-// The attributes of a declaration: up to `FEW` in place, since to ask for memory takes longer than
-// to read a declaration, and more in a list of their own. Of those in the list the ones that move
-// stand in place as well, if there is room for them: passing an entry looks at these alone.
-#[derive(Drop)]
-struct Attributes<A: Allocator> {
-    // of all of them
-    sizes: Sizes,
-    // up to `FEW`: how many stand in place, which are all; `LISTED` and n more: all are in the
-    // list, and the n of them that move stand in place; above that: all are in the list alone
-    count: u32,
-    few: [AttributeSpecification; FEW],
-    more: Vec<AttributeSpecification, A>,
-}
-
-impl<A: Allocator> Model for Attributes<A> {
-    ghost Value = { List Specification };
-
-    ghost view = { λ a. if nat_le a.count 12 then take a.count a.few else a.more.items };
-
-    ghost invariant = { λ a.
-        AreSizesOf a.sizes (if nat_le a.count 12 then take a.count a.few else a.more.items)
-        × (13 ≤ a.count → a.count ≤ 25
-        → take (a.count - 13) a.few ≡ moving_from false a.more.items) };
-}
-
-impl<A: Allocator> Debug for Attributes<A> {
-    fn fmt<W: fmt::Write>(&self, f: &mut fmt::Formatter<W>) -> fmt::Result {
-        self.as_slice().fmt(f)
-    }
-}
-
-impl<A: Allocator> Attributes<A> {
-    // No attributes.
-    #[inline(always)]
-    fn new(alloc: A) -> Self
-        ensures { result ≡ [] }
-    {
-        let none = AttributeSpecification::new(DW_AT_null, DW_FORM_null, None);
-        Attributes {
-            sizes: Sizes::new(),
-            count: 0,
-            few: [none; FEW],
-            more: Vec::new(alloc),
-        }
-    }
-
-    // The attributes, in their order.
-    #[inline]
-    fn as_slice(&self) -> &[AttributeSpecification]
-        ensures { result.now ≡ self.now }
-    {
-        let count = self.count as usize;
-        if count <= FEW {
-            &self.few[..count]
-        } else {
-            &self.more
-        }
-    }
-
-    // Those that move, if they stand in place, else all.
-    #[inline]
-    fn moving(&self) -> &[AttributeSpecification]
-        ensures { StandsFor result.now self.now }
-    {
-        let count = self.count as usize;
-        if LISTED <= count && count <= LISTED + FEW {
-            &self.few[..count - LISTED]
-        } else {
-            self.as_slice()
-        }
-    }
-
-    // The bytes of all together under an encoding, where they are known.
-    #[inline(always)]
-    fn size(&self, encoding: Encoding) -> Option<u64>
-        ensures exact { IfSome result (λ n. attributes_size encoding self.now ≡ Some n) }
-        ensures known { length self.now < 2 ^ 16 → result ≡ attributes_size encoding self.now }
-        ensures formed { All IsWellFormed self.now }
-    {
-        self.sizes.size(encoding)
-    }
-
-    // One more attribute, in place. Answers false where none has room there, and then adds nothing.
-    #[inline(always)]
-    fn push(&mut self, counted: Counted) -> bool
-        ensures pushed { result ≡ true → self.new ≡ self.old ++ counted ∷ [] }
-        ensures kept { result ≡ false → self.new ≡ self.old }
-    {
-        let count = self.count as usize;
-        if count < FEW {
-            self.few[count] = counted.specification;
-            self.count += 1;
-            self.sizes.push(counted.fixed, counted.others);
-            return true;
-        }
-        false
-    }
-
-    // Adds an attribute to the list, and after it the declared ones up to two zeros; where they are
-    // refused, the input and the attributes are left anywhere. It takes the parts of the first, since
-    // a specification that is passed as a whole lies in memory wherever it may be passed.
-    #[inline(never)]
-    fn parse_apart<R: Reader>(
-        &mut self,
-        name: DwAt,
-        form: DwForm,
-        implicit_const_value: Option<i64>,
-        input: &mut R,
-    ) -> Result<()>
-        requires { IsWellFormed
-            (record { name = name; form = form; constant = implicit_const_value }) }
-        ensures { let first : Specification =
-            record { name = name; form = form; constant = implicit_const_value } in
-            (all : Items Specification)
-            → ItemsSoFar specification_at all (self.old ++ first ∷ []) (R.view input.old)
-            → UnlessMemory result
-            (read_of (answer_leaving self.new result) (R.view input.new) ≡ all_items all) }
-    {
-        let count = self.count as usize;
-        if count <= FEW {
-            self.more.clear();
-            self.more.extend_from_slice(&self.few[..count])?;
-        }
-        let before = self.sizes;
-        // (so that none are left where a read is refused)
-        self.count = 0;
-        self.sizes = Sizes::new();
-        let first = Counted::new(name, form, implicit_const_value);
-        self.sizes = parse_listed(&mut self.more, before, first, input)?;
-        let moving = put_moving(&mut self.few, &self.more).unwrap_or(FEW + 1);
-        self.count = (LISTED + moving) as u32;
-        Ok(())
-    }
-
-    // Adds the declared attributes up to two zeros to none; where they are refused, the input and
-    // the attributes are left anywhere.
-    //
-    // Those in the list are read by a call, which gets a reader of its own, so that this one stays
-    // in registers.
-    #[inline(always)]
-    fn parse<R: Reader>(&mut self, input: &mut R) -> Result<()>
-        requires { self.old ≡ [] }
-        ensures { UnlessMemory result
-            (read_of (answer_leaving self.new result) (R.view input.new)
-            ≡ specifications_at (R.view input.old)) }
-    {
-        while let Some(specification) = Counted::parse(input)? {
-            if !self.push(specification) {
-                let first = specification.specification;
-                let (name, form) = (first.name(), first.form());
-                let mut rest = input.copy();
-                self.parse_apart(name, form, first.implicit_const_value(), &mut rest)?;
-                *input = rest;
-                return Ok(());
-            }
-        }
-        Ok(())
     }
 }
 
@@ -488,10 +189,11 @@ impl<A: Allocator> Model for Abbreviation<A> {
           code = a.code;
           tag = a.tag;
           has_children = a.has_children;
-          attributes = a.attributes;
+          attributes = a.attributes.specifications;
         } };
 
-    ghost invariant = { λ a. a.tag.0 ≢ 0 };
+    ghost invariant = { λ a. (a.tag.0 ≢ 0)
+        × AreSteps false a.attributes.steps a.attributes.specifications };
 }
 
 impl<A: Allocator> Abbreviation<A> {
@@ -525,31 +227,39 @@ impl<A: Allocator> Abbreviation<A> {
     pub fn attributes(&self) -> &[AttributeSpecification]
         ensures { result.now ≡ self.now.attributes }
     {
-        self.attributes.as_slice()
+        self.attributes.specifications()
     }
 
-    /// The attributes that passing an entry has to look at: all, or those that have another form
-    /// than flag_present and implicit_const, and the first of the name `DW_AT_sibling`. Reading one
-    /// of the others takes no bytes and is never refused.
-    #[inline]
-    pub fn moving_attributes(&self) -> &[AttributeSpecification]
-        ensures { StandsFor result.now self.now.attributes }
-    {
-        self.attributes.moving()
-    }
-
-    /// The number of bytes that the attributes' values take together under an encoding, where no
-    /// value has to be looked at (DWARF 5, 7.5.6). Of up to 65,535 attributes it is known wherever
-    /// each one's `size` is.
-    #[inline]
-    pub fn attributes_size(&self, encoding: Encoding) -> Option<u64>
+    /// The bytes of all values together under an encoding, where no value tells. It is known of
+    /// values in one step, and of those in two, if that between them is of a known size.
+    #[inline(always)]
+    pub fn size(&self, encoding: Encoding) -> Option<u64>
         ensures exact { IfSome result (λ n.
             attributes_size encoding self.now.attributes ≡ Some n) }
-        ensures known { length self.now.attributes < 2 ^ 16
-            → result ≡ attributes_size encoding self.now.attributes }
-        ensures formed { All IsWellFormed self.now.attributes }
+        ensures well_formed { IfSome result (λ _. All IsWellFormed self.now.attributes) }
     {
-        self.attributes.size(encoding)
+        let (first, others) = self.steps().split_first()?;
+        let Some((last, more)) = others.split_first() else {
+            return Some(first.size(encoding));
+        };
+        if !more.is_empty() {
+            return None;
+        }
+        let (value, _) = self.attributes()[first.values as usize..].split_first()?;
+        // (it says that the form implicit_const has a number)
+        let _ = value.implicit_const_value();
+        let size = u64::from(value.size(encoding)?);
+        let up_to_last = first.size(encoding).checked_add(size)?;
+        let sum = up_to_last.checked_add(last.size(encoding))?;
+        Some(sum)
+    }
+
+    /// The steps by which the values of the entries are passed, in their order.
+    #[inline]
+    pub fn steps(&self) -> &[Step]
+        ensures { AreSteps false result.now self.now.attributes }
+    {
+        self.attributes.steps()
     }
 }
 
@@ -557,17 +267,24 @@ impl<A: Allocator> Abbreviation<A> {
 // after none; where they are refused, the input and the attributes are left anywhere.
 #[inline(always)]
 #[tactic(auto, unfolding(crate::specs::Abbreviations::declared_at, crate::specs::Abbreviations::is_headed, crate::specs::Abbreviations::tag_at, crate::specs::Abbreviations::children_at))]
-fn parse_declared<R: Reader, A: Allocator>(
+fn parse_declared<R: Reader, A: Allocator + Copy>(
     input: &mut R,
     attributes: &mut Attributes<A>,
 ) -> Result<(DwTag, bool)>
-    requires { attributes.old ≡ [] }
+    requires { attributes.old ≡ record { specifications = []; steps = [] } }
     ensures declared { UnlessMemory result
         ((code : ℕ) → map_read
         (λ r.
-        record { code = code; tag = r.0; has_children = r.1; attributes = attributes.new })
+        record {
+          code = code;
+          tag = r.0;
+          has_children = r.1;
+          attributes = attributes.new.specifications;
+        })
         (read_of result (R.view input.new))
         ≡ declared_at code (R.view input.old)) }
+    ensures steps { OnOk result
+        (AreSteps false attributes.new.steps attributes.new.specifications) }
     ensures tag { IfOk result (λ r. r.0.0 ≢ 0) }
     ensures headed { OnOk result (is_headed (R.view input.old) ≡ true) }
     ensures without_memory { is_headed (R.view input.old) ≡ false →

@@ -5,6 +5,7 @@
 mod abbrev;
 mod addr;
 mod address;
+mod attributes;
 mod common;
 mod constants;
 mod endian_slice;
@@ -15,7 +16,7 @@ mod leb128;
 mod offset;
 mod reader;
 mod section;
-mod sizes;
+mod step;
 mod str;
 mod whole_slice;
 mod width;
@@ -42,6 +43,7 @@ pub use expression::Expression;
 pub use offset::ReaderOffset;
 pub use reader::Reader;
 pub use section::Section;
+pub use step::Step;
 pub use str::DebugStr;
 pub use whole_slice::WholeSlice;
 

@@ -2,7 +2,6 @@
 
 ghost use Rattle.std.specs.Prelude.{◌≡◌};
 ghost use Rattle.gimli_base.specs.Width.{width_of, size_in, form_size};
-ghost use Rattle.gimli_base.specs.Sizes.{share_of};
 
 use crate::constants::forms::{
     DW_FORM_GNU_ref_alt, DW_FORM_GNU_strp_alt, DW_FORM_addr, DW_FORM_addrx1, DW_FORM_addrx2,
@@ -12,7 +11,6 @@ use crate::constants::forms::{
     DW_FORM_ref2, DW_FORM_ref4, DW_FORM_ref8, DW_FORM_sec_offset, DW_FORM_strp, DW_FORM_strp_sup,
     DW_FORM_strx1, DW_FORM_strx2, DW_FORM_strx3, DW_FORM_strx4,
 };
-use crate::sizes::Share;
 use crate::{DwForm, Encoding};
 
 /// How many bytes the value of a form takes, where that is known before it is read (DWARF 5,
@@ -35,31 +33,23 @@ pub(crate) enum Width {
 
 impl Width {
     /// The width of a form.
+    //
+    // It is laid into its caller, where tables tell the widths of low codes.
     #[inline(always)]
     pub(crate) fn of(form: DwForm) -> Width
         ensures { result ≡ width_of form.0 }
     {
-        Width::share(form).width
-    }
-
-    /// The width of a form, and what it adds to sums of widths.
-    //
-    // It is laid into its caller, where tables tell the forms of low codes.
-    #[inline(always)]
-    pub(crate) fn share(form: DwForm) -> Share
-        ensures { result ≡ share_of (width_of form.0) }
-    {
         if form.0 < 128 {
             Width::look_up(form)
         } else {
-            Width::look_up_apart(form)
+            Width::look_up_vendor(form)
         }
     }
 
-    // The same, by a call.
+    // The same of a form of a vendor, by a call.
     #[inline(never)]
-    fn look_up_apart(form: DwForm) -> Share
-        ensures { result ≡ share_of (width_of form.0) }
+    fn look_up_vendor(form: DwForm) -> Width
+        ensures { result ≡ width_of form.0 }
     {
         Width::look_up(form)
     }
@@ -67,28 +57,28 @@ impl Width {
     // The same, in one list of all forms.
     #[inline(always)]
     #[tactic(auto, unfolding(crate::specs::Width::width_of))]
-    fn look_up(form: DwForm) -> Share
-        ensures { result ≡ share_of (width_of form.0) }
+    fn look_up(form: DwForm) -> Width
+        ensures { result ≡ width_of form.0 }
     {
         match form {
-            DW_FORM_flag_present | DW_FORM_implicit_const => Share::bytes(0),
+            DW_FORM_flag_present | DW_FORM_implicit_const => Width::Fixed(0),
             DW_FORM_data1 | DW_FORM_flag | DW_FORM_ref1 | DW_FORM_strx1 | DW_FORM_addrx1 =>
-                Share::bytes(1),
-            DW_FORM_data2 | DW_FORM_ref2 | DW_FORM_strx2 | DW_FORM_addrx2 => Share::bytes(2),
-            DW_FORM_strx3 | DW_FORM_addrx3 => Share::bytes(3),
+                Width::Fixed(1),
+            DW_FORM_data2 | DW_FORM_ref2 | DW_FORM_strx2 | DW_FORM_addrx2 => Width::Fixed(2),
+            DW_FORM_strx3 | DW_FORM_addrx3 => Width::Fixed(3),
             DW_FORM_data4 | DW_FORM_ref4 | DW_FORM_ref_sup4 | DW_FORM_strx4 | DW_FORM_addrx4 =>
-                Share::bytes(4),
-            DW_FORM_data8 | DW_FORM_ref8 | DW_FORM_ref_sig8 | DW_FORM_ref_sup8 => Share::bytes(8),
-            DW_FORM_data16 => Share::bytes(16),
-            DW_FORM_addr => Share::of(Width::Address),
+                Width::Fixed(4),
+            DW_FORM_data8 | DW_FORM_ref8 | DW_FORM_ref_sig8 | DW_FORM_ref_sup8 => Width::Fixed(8),
+            DW_FORM_data16 => Width::Fixed(16),
+            DW_FORM_addr => Width::Address,
             DW_FORM_strp
             | DW_FORM_sec_offset
             | DW_FORM_strp_sup
             | DW_FORM_line_strp
             | DW_FORM_GNU_ref_alt
-            | DW_FORM_GNU_strp_alt => Share::of(Width::Word),
-            DW_FORM_ref_addr => Share::of(Width::Reference),
-            _ => Share::of(Width::Unknown),
+            | DW_FORM_GNU_strp_alt => Width::Word,
+            DW_FORM_ref_addr => Width::Reference,
+            _ => Width::Unknown,
         }
     }
 

@@ -24,10 +24,8 @@ mod SkipTurns
 mod SizedReads
 pub mod ReadTurns
 mod SumReads
-mod RunReads
-mod RunTurns
 mod SiblingReads
-mod MovingReads
+mod StepReads
 pub mod WalkerSteps
 pub mod RowSteps
 pub mod RowChain

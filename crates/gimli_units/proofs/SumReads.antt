@@ -1,13 +1,12 @@
 -- Attributes of known sizes are passed together, where all their bytes are there.
 use Rattle.std.specs.Prelude.{◌≡◌, ℕ, ◌+◌, ◌-◌, ◌<◌, ◌≤◌, length, List, [], ◌∷◌, All}
-use Rattle.std.specs.Prelude.{Option, Some, None, Result, Ok, Err, true}
+use Rattle.std.specs.Prelude.{Option, Some, None, Result, Ok, Err}
 use Rattle.std.specs.List.{AllByRecursion}
 use Rattle.std.proofs.Common.{refl, sym, ap, ◌∙◌, arith, length-drop}
 use Rattle.std.proofs.lemmas.List.Elements.{All-drop, recursion_from_All}
 use Rattle.gimli_base.specs.declared.common.Encoding.{Encoding}
 use Rattle.gimli_base.specs.View.{View, cut}
 use Rattle.gimli_base.specs.declared.error.Error.{Error}
-use Rattle.std.specs.Result.{is_ok}
 use Rattle.gimli_base.specs.Reading.{◌>>=◌, read_of, skip_at}
 use Rattle.gimli_base.specs.Width.{form_size, known_sum, attributes_size}
 use Rattle.gimli_base.specs.Abbreviations.{Specification, IsWellFormed}
@@ -65,19 +64,13 @@ module _ (limit : ℕ) (e : Encoding) (any : (n : ℕ) → ReadsAny limit e n) w
       → left_by (attributes_at limit e ss v) ≡ Ok (tt, cut n v)
   attributes_together ss well = together ss (recursion_from_All IsWellFormed ss well)
 
--- bytes that are there were passed
-pub skipped : (r : Result (Unit {0}) Error) (w v : View) (n : ℕ) → is_ok r ≡ true
-    → read_of r w ≡ skip_at n v → n ≤ length v.bytes → w ≡ cut n v
-skipped (Ok u) w v n h is le =
+-- bytes that are there are passed
+pub skipped_there : (r : Result (Unit {0}) Error) (w v : View) (n : ℕ) → read_of r w ≡ skip_at n v
+    → n ≤ length v.bytes → w ≡ cut n v
+skipped_there (Ok u) w v n is le =
     let both : ◌≡◌ {A = Passed} (Ok (u, w)) (Ok (tt, cut n v)) = is ∙ skip_ok n v le in
     let pair : ◌≡◌ {A = Unit {0} × View} (u, w) (tt, cut n v) = cc in
     ap (λ (p : Unit {0} × View). p.1) pair
-skipped (Err e) w v n h is le = absurd (cc)
-
--- where a number of 8 bytes and less is never refused, none of any size is
-pub any_below : (limit : ℕ) (e : Encoding) (above : ℕ) → ((n : ℕ) → n < above → ReadsAny limit e n)
-    → 256 ≤ above → (m : ℕ) → ReadsAny limit e m
-any_below limit e above h le m = record {
-  sized = (h 0 (omega (arith, le))).sized;
-  fits = λ few. (h m (omega (arith, le, few))).fits few;
-}
+skipped_there (Err e) w v n is le =
+    let x : ◌≡◌ {A = Passed} (Err e) (Ok (tt, cut n v)) = is ∙ skip_ok n v le in
+    absurd (cc)

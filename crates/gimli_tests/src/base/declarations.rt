@@ -46,18 +46,31 @@ fn sum_of(declared: &Abbreviation<Global>, encoding: Encoding) -> Option<u64> {
     Some(sum)
 }
 
-// Tries the declaration of a table, whose attributes have so many times these bytes together. Of more than
-// 65,535 attributes the bytes need not be known.
+// The same by its steps and the values between them.
+fn sum_by_steps(declared: &Abbreviation<Global>, encoding: Encoding) -> Option<u64> {
+    let mut sum = 0u64;
+    let mut left = declared.attributes();
+    for step in declared.steps() {
+        sum = sum.saturating_add(step.size(encoding));
+        let Some((value, rest)) = left.get(step.values as usize..)?.split_first() else {
+            return Some(sum);
+        };
+        sum = sum.saturating_add(u64::from(value.size(encoding)?));
+        left = rest;
+    }
+    None
+}
+
+// Tries the declaration of a table, whose attributes have so many times these bytes together.
 fn tries_sizes(rt: &impl Abort, table: &Table, widths: Widths, times: u32) {
     let declared = table.get(1).expect(rt, "declared");
-    let may_be_unknown = declared.attributes().len() > 65_535;
     for ((format, version, address_size), width) in ENCODINGS.into_iter().zip(widths) {
         let mut given = encoding(version, address_size);
         given.format = format;
         let size = width.map(|width| width.saturating_mul(u64::from(times)));
-        let answer = declared.attributes_size(given);
-        assert!(rt; answer == size || may_be_unknown && answer.is_none());
         assert_eq!(rt; sum_of(declared, given), size);
+        assert_eq!(rt; sum_by_steps(declared, given), size);
+        assert!(rt; declared.size(given) == size || declared.steps().len() > 2);
     }
 }
 

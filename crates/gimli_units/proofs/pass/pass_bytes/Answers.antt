@@ -1,6 +1,6 @@
 use Rattle.std.proofs.Common.{◌≡◌}
 use Rattle.gimli_units.proofs.SizedReads.{offset_is}
-use Rattle.gimli_units.proofs.RunReads.{skipped_there}
+use Rattle.gimli_units.proofs.SumReads.{skipped_there}
 use Rattle.gimli_units.proofs.pass.pass_bytes.Goals as goal
 
 pub returns-in-Ok : goal.returns-in-Ok

@@ -1,0 +1,175 @@
+-- The steps of attributes, as these are declared one after the other.
+use Rattle.std.proofs.Common.{◌≡◌, ℕ, List, [], ◌∷◌, ◌++◌, length, take, drop, refl, sym, ap}
+use Rattle.std.proofs.Common.{◌+◌, ◌-◌, ◌∙◌, arith, Bool, false, Option, Some, None}
+use Rattle.std.proofs.Common.{length-append, length-drop}
+use Rattle.std.specs.Prelude.{◌||◌}
+use Rattle.std.proofs.lemmas.List.{append_assoc, append-nil, take_all, drop_all, take-append-le}
+use Rattle.std.proofs.lemmas.List.{drop-append-le, take-append-drop}
+use Rattle.std.specs.List.{All}
+use Rattle.std.proofs.lemmas.List.Elements.{All-append, All-cons, All-nil}
+use Rattle.gimli_base.specs.declared.common.Encoding.{Encoding}
+use Rattle.gimli_base.specs.declared.step.Step.{Step}
+use Rattle.gimli_base.specs.Abbreviations.{Specification, IsWellFormed}
+use Rattle.gimli_base.specs.Width.{attributes_size, form_size, known_sum}
+use Rattle.gimli_base.specs.Steps.{AreSteps, AfterStep, IsRun, AddsValue, is_sibling, empty_step}
+use Rattle.gimli_base.specs.Steps.{step_size}
+
+known_sum_assoc : (l m n : Option ℕ) → known_sum (known_sum l m) n ≡ known_sum l (known_sum m n)
+known_sum_assoc (Some l) (Some m) (Some n) = ap Some (omega arith)
+known_sum_assoc (Some l) (Some m) None = refl
+known_sum_assoc (Some l) None n = refl
+known_sum_assoc None m n = refl
+
+zero_first : (m : Option ℕ) → known_sum m (Some 0) ≡ known_sum (Some 0) m
+zero_first (Some m) = ap Some (omega arith)
+zero_first None = refl
+
+-- the bytes of attributes and one more
+size-push : (e : Encoding) (ss : List Specification) (x : Specification)
+    → attributes_size e (ss ++ x ∷ []) ≡ known_sum (attributes_size e ss) (form_size e x.form.0)
+size-push e [] x = zero_first (form_size e x.form.0)
+size-push e (s ∷ ss) x =
+    ap (known_sum (form_size e s.form.0)) (size-push e ss x)
+    ∙ sym (known_sum_assoc (form_size e s.form.0) (attributes_size e ss) (form_size e x.form.0))
+
+-- these attributes are those of closed steps, and of a run that is still open
+pub record StepsSoFar (closed : List Step) (run : Step) (seen : Bool) (ss : List Specification)
+    : Type 0 where
+  pub open_ones : List Specification
+  pub is_run : IsRun seen run open_ones
+  pub closes : (steps : List Step) (more : List Specification)
+      → AreSteps seen steps (open_ones ++ more) → AreSteps false (closed ++ steps) (ss ++ more)
+
+no_run : (seen : Bool) → IsRun seen empty_step []
+no_run seen = record {
+  counted = refl;
+  well_formed = All-nil IsWellFormed;
+  size = λ e. ap Some (omega arith);
+  no_sibling = λ _. All-nil (λ x. is_sibling x ≡ false);
+}
+
+pub steps_begin : StepsSoFar [] empty_step false []
+steps_begin = record {
+  open_ones = [];
+  is_run = no_run false;
+  closes = λ steps more h. h;
+}
+
+module _ (closed : List Step) (run : Step) (seen : Bool) (ss : List Specification)
+    (so_far : StepsSoFar closed run seen ss) where
+  abbrev o : List Specification
+  o = so_far.open_ones
+
+  -- the run ends before these attributes
+  ends : (steps : List Step) (more : List Specification)
+      → AfterStep (λ x rest. AreSteps (seen || is_sibling x) steps rest) steps more
+      → AreSteps false (closed ++ run ∷ steps) (ss ++ more)
+  ends steps more h =
+      let here : run.values ≡ length o = so_far.is_run.counted in
+      let first : take run.values (o ++ more) ≡ o =
+      take-append-le run.values o more (omega (arith, here))
+      ∙ take_all run.values o (omega (arith, here)) in
+      let rest : drop run.values (o ++ more) ≡ more =
+      drop-append-le run.values o more (omega (arith, here))
+      ∙ ap (λ l. l ++ more) (drop_all run.values o (omega (arith, here))) in
+      so_far.closes (run ∷ steps) more (rw (first, rest) (so_far.is_run, h))
+
+  pub steps_end : AreSteps false (closed ++ run ∷ []) ss
+  steps_end = rw (append-nil ss) at (ends [] [] refl)
+
+  module _ (x : Specification) where
+    assoc : (more : List Specification) → (ss ++ x ∷ []) ++ more ≡ ss ++ x ∷ more
+    assoc more = append_assoc ss (x ∷ []) more
+
+    -- one more attribute ends the run
+    pub steps_close : StepsSoFar (closed ++ run ∷ []) empty_step (seen || is_sibling x)
+        (ss ++ x ∷ [])
+    steps_close = record {
+      open_ones = [];
+      is_run = no_run (seen || is_sibling x);
+      closes = λ steps more h. rw (assoc more, append_assoc closed (run ∷ []) steps)
+          (ends steps (x ∷ more) h);
+    }
+
+    -- one more attribute is of the run
+    pub steps_run : (longer : Step) → AddsValue seen x run longer
+        → StepsSoFar closed longer seen (ss ++ x ∷ [])
+    steps_run longer is = record {
+      open_ones = o ++ x ∷ [];
+      is_run = record {
+        counted = omega (arith, is.counted, so_far.is_run.counted, length-append o (x ∷ []));
+        well_formed = All-append IsWellFormed o (x ∷ []) so_far.is_run.well_formed
+            (All-cons IsWellFormed x [] is.well_formed (All-nil IsWellFormed));
+        size = λ e.
+            size-push e o x
+            ∙ ap (λ n. known_sum n (form_size e x.form.0)) (so_far.is_run.size e)
+            ∙ sym (is.size e);
+        no_sibling = λ none. All-append (λ y. is_sibling y ≡ false) o (x ∷ [])
+            (so_far.is_run.no_sibling none)
+            (All-cons (λ y. is_sibling y ≡ false) x [] (is.no_sibling none)
+            (All-nil (λ y. is_sibling y ≡ false)));
+      };
+      closes = λ steps more h. rw (assoc more)
+          (so_far.closes steps (x ∷ more) (rw (append_assoc o (x ∷ []) more) at h));
+    }
+
+-- the bytes of attributes and of others after them
+size-append : (e : Encoding) (xs ys : List Specification)
+    → attributes_size e (xs ++ ys) ≡ known_sum (attributes_size e xs) (attributes_size e ys)
+size-append e [] ys = zero_left (attributes_size e ys)
+  where
+    zero_left : (m : Option ℕ) → m ≡ known_sum (Some 0) m
+    zero_left (Some m) = ap Some (omega arith)
+    zero_left None = refl
+size-append e (x ∷ xs) ys =
+    ap (known_sum (form_size e x.form.0)) (size-append e xs ys)
+    ∙ sym (known_sum_assoc (form_size e x.form.0) (attributes_size e xs) (attributes_size e ys))
+
+-- attributes have so many bytes
+pub record IsSized (e : Encoding) (n : ℕ) (xs : List Specification) : Type 0 where
+  pub size : attributes_size e xs ≡ Some n
+  pub well_formed : All IsWellFormed xs
+
+-- what one step passes
+pub one_step : (e : Encoding) (seen : Bool) (s : Step) (ss : List Specification)
+    → AreSteps seen (s ∷ []) ss → IsSized e (step_size e s) ss
+one_step e seen s ss h = cases (drop s.values ss) refl h.1
+  where
+    cases : (rest : List Specification) → drop s.values ss ≡ rest
+        → AfterStep (λ x more. AreSteps (seen || is_sibling x) [] more) [] rest
+        → IsSized e (step_size e s) ss
+    cases [] is k =
+        let all : take s.values ss ≡ ss =
+        sym (append-nil (take s.values ss))
+        ∙ ap (λ l. take s.values ss ++ l) (sym is)
+        ∙ take-append-drop s.values ss in
+        record { size = rw all at (h.0.size e); well_formed = rw all at h.0.well_formed }
+    cases (x ∷ more) is k = absurd k
+
+-- what two steps pass with the value between them
+pub two_steps : (e : Encoding) (seen : Bool) (s t : Step) (ss : List Specification)
+    (x : Specification) (rest : List Specification) (n : ℕ)
+    → AreSteps seen (s ∷ t ∷ []) ss
+    → take (length ss - s.values) (drop s.values ss) ≡ x ∷ rest → IsWellFormed x
+    → Some n ≡ form_size e x.form.0 → IsSized e (step_size e s + n + step_size e t) ss
+two_steps e seen s t ss x rest n h there formed known =
+    let is : drop s.values ss ≡ x ∷ rest =
+    sym (take_all (length ss - s.values) (drop s.values ss)
+    (omega (arith, length-drop s.values ss)))
+    ∙ there in
+    let run : List Specification = take s.values ss in
+    let last : IsSized e (step_size e t) rest =
+    one_step e (seen || is_sibling x) t rest (rw is at h.1) in
+    let all : run ++ x ∷ rest ≡ ss =
+    ap (λ l. run ++ l) (sym is) ∙ take-append-drop s.values ss in
+    let sum : attributes_size e (run ++ x ∷ rest) ≡ Some (step_size e s + n + step_size e t) =
+    size-append e run (x ∷ rest)
+    ∙ ap (λ m. known_sum m (attributes_size e (x ∷ rest))) (h.0.size e)
+    ∙ ap (λ m. known_sum (Some (step_size e s)) (known_sum m (attributes_size e rest))) (sym known)
+    ∙ ap (λ m. known_sum (Some (step_size e s)) (known_sum (Some n) m)) last.size
+    ∙ ap Some (omega arith) in
+    record {
+      size = rw all at sum;
+      well_formed = rw all at (All-append IsWellFormed run (x ∷ rest) h.0.well_formed
+          (All-cons IsWellFormed x rest formed last.well_formed));
+    }

@@ -1,0 +1,217 @@
+//! The attributes of a declaration, and the steps by which their values are passed.
+
+ghost use Rattle.std.specs.Prelude.{◌≡◌, ◌++◌, ◌∷◌, [], List, take, nat_le, if◌then◌else◌, OnOk};
+ghost use Rattle.std.specs.Prelude.{false};
+ghost use Rattle.gimli_base.specs.Abbreviations.{Specification, specifications_at};
+ghost use Rattle.gimli_base.specs.Reading.{read_of, answer_leaving, UnlessMemory};
+ghost use Rattle.gimli_base.specs.Steps.{AreSteps};
+ghost use Rattle.gimli_base.specs.declared.step.Step.{Step};
+
+use crate::abbrev::AttributeSpecification;
+use crate::step::Step;
+use crate::{DW_AT_null, DW_AT_sibling, DW_FORM_null, Reader, Result};
+use std::alloc::{AllocError, Allocator};
+use std::fmt::{self, Debug};
+use std::marker::Model;
+
+// Puts those in place into a list of their own; where memory is refused, that is left anywhere.
+#[inline(never)]
+fn spill<T: Copy, A: Allocator>(
+    few: &[T],
+    more: &mut Vec<T, A>,
+) -> std::result::Result<(), AllocError>
+    ensures { OnOk result (more.new.items ≡ few.now) }
+{
+    more.clear();
+    more.extend_from_slice(few)?;
+    Ok(())
+}
+
+// The attributes of a declaration: up to twelve in place, since to ask for memory takes longer than
+// to read a declaration, and more in a list of their own.
+#[derive(Drop)]
+struct Specifications<A: Allocator> {
+    // how many stand in place, if all do
+    count: usize,
+    few: [AttributeSpecification; 12],
+    // all of them, where `count` is more than there are places
+    more: Vec<AttributeSpecification, A>,
+}
+
+impl<A: Allocator> Model for Specifications<A> {
+    ghost Value = { List Specification };
+
+    ghost view = { λ l. if nat_le l.count 12 then take l.count l.few else l.more.items };
+}
+
+impl<A: Allocator> Specifications<A> {
+    // None of them.
+    #[inline(always)]
+    fn new(alloc: A) -> Self
+        ensures { result ≡ [] }
+    {
+        Specifications {
+            count: 0,
+            few: [AttributeSpecification::new(DW_AT_null, DW_FORM_null, None); 12],
+            more: Vec::new(alloc),
+        }
+    }
+
+    // All of them, in their order.
+    #[inline]
+    fn as_slice(&self) -> &[AttributeSpecification]
+        ensures { result.now ≡ self.now }
+    {
+        if self.count <= 12 {
+            &self.few[..self.count]
+        } else {
+            &self.more
+        }
+    }
+
+    // Adds one; where memory is refused, they are left anywhere.
+    #[inline(always)]
+    fn push(&mut self, specification: AttributeSpecification) -> std::result::Result<(), AllocError>
+        ensures { OnOk result (self.new ≡ self.old ++ specification ∷ []) }
+    {
+        if self.count < 12 {
+            self.few[self.count] = specification;
+            self.count += 1;
+            return Ok(());
+        }
+        if self.count == 12 {
+            spill(&self.few, &mut self.more)?;
+            self.count = 13;
+        }
+        self.more.push(specification)?;
+        Ok(())
+    }
+}
+
+// The steps of a declaration, likewise: thirteen in place, since each of twelve attributes ends a
+// step at most, and after the last of them comes one step more.
+#[derive(Drop)]
+struct Steps<A: Allocator> {
+    // how many stand in place, if all do
+    count: usize,
+    few: [Step; 13],
+    // all of them, where `count` is more than there are places
+    more: Vec<Step, A>,
+}
+
+impl<A: Allocator> Model for Steps<A> {
+    ghost Value = { List Step };
+
+    ghost view = { λ l. if nat_le l.count 13 then take l.count l.few else l.more.items };
+}
+
+impl<A: Allocator> Steps<A> {
+    // None of them.
+    #[inline(always)]
+    fn new(alloc: A) -> Self
+        ensures { result ≡ [] }
+    {
+        Steps {
+            count: 0,
+            few: [Step::none(); 13],
+            more: Vec::new(alloc),
+        }
+    }
+
+    // All of them, in their order.
+    #[inline]
+    fn as_slice(&self) -> &[Step]
+        ensures { result.now ≡ self.now }
+    {
+        if self.count <= 13 {
+            &self.few[..self.count]
+        } else {
+            &self.more
+        }
+    }
+
+    // Adds one; where memory is refused, they are left anywhere.
+    #[inline(always)]
+    fn push(&mut self, step: Step) -> std::result::Result<(), AllocError>
+        ensures { OnOk result (self.new ≡ self.old ++ step ∷ []) }
+    {
+        if self.count < 13 {
+            self.few[self.count] = step;
+            self.count += 1;
+            return Ok(());
+        }
+        if self.count == 13 {
+            spill(&self.few, &mut self.more)?;
+            self.count = 14;
+        }
+        self.more.push(step)?;
+        Ok(())
+    }
+}
+
+/// The attributes of a declaration, and the steps by which their values are passed.
+#[derive(Drop)]
+pub(crate) struct Attributes<A: Allocator> {
+    specifications: Specifications<A>,
+    steps: Steps<A>,
+}
+
+impl<A: Allocator> Debug for Attributes<A> {
+    fn fmt<W: fmt::Write>(&self, f: &mut fmt::Formatter<W>) -> fmt::Result {
+        self.specifications().fmt(f)
+    }
+}
+
+impl<A: Allocator> Attributes<A> {
+    /// The attributes, in their order.
+    #[inline]
+    pub(crate) fn specifications(&self) -> &[AttributeSpecification]
+        ensures { result.now ≡ self.now.specifications }
+    {
+        self.specifications.as_slice()
+    }
+
+    /// The steps, in their order.
+    #[inline]
+    pub(crate) fn steps(&self) -> &[Step]
+        ensures { result.now ≡ self.now.steps }
+    {
+        self.steps.as_slice()
+    }
+}
+
+impl<A: Allocator + Copy> Attributes<A> {
+    /// No attributes, and no steps yet.
+    #[inline(always)]
+    pub(crate) fn new(alloc: A) -> Self
+        ensures { result ≡ record { specifications = []; steps = [] } }
+    {
+        Attributes {
+            specifications: Specifications::new(alloc),
+            steps: Steps::new(alloc),
+        }
+    }
+
+    /// Adds the declared attributes up to two zeros to none, and their steps; where they are
+    /// refused, the input and the attributes are left anywhere.
+    #[inline(always)]
+    pub(crate) fn parse<R: Reader>(&mut self, input: &mut R) -> Result<()>
+        requires { self.old ≡ record { specifications = []; steps = [] } }
+        ensures read { UnlessMemory result
+            (read_of (answer_leaving self.new.specifications result) (R.view input.new)
+            ≡ specifications_at (R.view input.old)) }
+        ensures steps { OnOk result (AreSteps false self.new.steps self.new.specifications) }
+    {
+        let mut run = Step::none();
+        let mut is_seen = false;
+        while let Some(specification) = AttributeSpecification::parse(input)? {
+            if !run.push(&specification, is_seen) {
+                self.steps.push(run)?;
+                run = Step::none();
+                is_seen |= specification.name() == DW_AT_sibling;
+            }
+            self.specifications.push(specification)?;
+        }
+        Ok(self.steps.push(run)?)
+    }
+}

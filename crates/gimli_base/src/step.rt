@@ -1,0 +1,97 @@
+//! The steps by which the values of an entry are passed.
+
+ghost use Rattle.std.specs.Prelude.{◌≡◌, true, false};
+ghost use Rattle.gimli_base.specs.Steps.{AddsValue, empty_step, step_size};
+
+use crate::width::Width;
+use crate::{AttributeSpecification, DW_AT_sibling, Encoding};
+
+/// A step of passing the values of an entry: so many of them, whose sizes their forms tell (DWARF
+/// 5, 7.5.6), are passed together. Then the entry ends, or one value is looked at.
+///
+/// Their bytes are counted by kinds, as only an encoding tells how many an address has.
+#[derive(Clone, Copy, Debug, PartialEq, Eq)]
+pub struct Step {
+    /// How many values are passed together.
+    pub values: u32,
+    /// The bytes of those whose size no encoding changes.
+    pub bytes: u8,
+    /// How many have the size of an address.
+    pub addresses: u8,
+    /// How many have the size of an offset.
+    pub offsets: u8,
+    /// How many have the size of an address in version 2, else of an offset.
+    pub ref_addrs: u8,
+}
+
+impl Step {
+    // No values.
+    pub(crate) fn none() -> Step
+        ensures { result ≡ empty_step }
+    {
+        Step {
+            values: 0,
+            bytes: 0,
+            addresses: 0,
+            offsets: 0,
+            ref_addrs: 0,
+        }
+    }
+
+    // Adds the value of an attribute, if its form tells its size and there is room for it, and if
+    // it is not the first DW_AT_sibling, of which one was seen before or not; answers whether it
+    // did, and else the step stays.
+    #[inline(always)]
+    pub(crate) fn push(&mut self, specification: &AttributeSpecification, is_seen: bool) -> bool
+        ensures pushed { result ≡ true → AddsValue is_seen specification.now self.old self.new }
+        ensures kept { result ≡ false → self.new ≡ self.old }
+    {
+        if specification.name() == DW_AT_sibling && !is_seen {
+            return false;
+        }
+        if self.values == u32::MAX {
+            return false;
+        }
+        // (it says that the form implicit_const has a number)
+        let _ = specification.implicit_const_value();
+        let width = specification.width();
+        if let Width::Fixed(size) = width {
+            if size > 255 - self.bytes {
+                return false;
+            }
+            self.bytes += size;
+            self.values += 1;
+            return true;
+        }
+        match width {
+            Width::Address if self.addresses < 255 => self.addresses += 1,
+            Width::Word if self.offsets < 255 => self.offsets += 1,
+            Width::Reference if self.ref_addrs < 255 => self.ref_addrs += 1,
+            _ => return false,
+        }
+        self.values += 1;
+        true
+    }
+
+    /// How many bytes the values have together under an encoding.
+    #[inline(always)]
+    pub fn size(&self, encoding: Encoding) -> u64
+        ensures { result ≡ step_size encoding self.now }
+    {
+        let address = u64::from(encoding.address_size);
+        let offset = u64::from(encoding.format.word_size());
+        let sum = u64::from(self.bytes)
+            + u64::from(self.addresses) * address
+            + u64::from(self.offsets) * offset;
+        // (few declarations have any)
+        if self.ref_addrs == 0 {
+            return sum;
+        }
+        let ref_addr = if encoding.version == 2 {
+            address
+        } else {
+            offset
+        };
+        sum + u64::from(self.ref_addrs) * ref_addr
+    }
+}
