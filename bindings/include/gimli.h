@@ -223,11 +223,22 @@ typedef struct {
     uint8_t has_children; /* 0, or any other where it has some */
 } gimli_declaration_t;
 
+/* So many values that are passed together, as their forms tell their sizes: the bytes of those of a
+   fixed size, and how many have the size of an address, of an offset, and of DW_FORM_ref_addr. */
+typedef struct {
+    uint32_t values;
+    uint8_t bytes;
+    uint8_t addresses;
+    uint8_t offsets;
+    uint8_t ref_addrs;
+} gimli_step_t;
+
 /* A declared attribute. */
 typedef struct {
     int64_t constant; /* the number of DW_FORM_implicit_const; of any other form it is ignored, and may be any */
     uint16_t name;
     uint16_t form;
+    gimli_step_t step; /* of its value and of those after it, as gimli_table writes it; all zeros, who writes it himself */
 } gimli_specification_t;
 
 /* A table of abbreviations: the declarations of the codes 1, 2, .. in this order, and their
@@ -336,7 +347,10 @@ uint32_t gimli_table(const gimli_sections_t *sections, uint64_t offset, gimli_de
 
 /* The same as gimli_rows and as gimli_entries by a table, in place of that of the unit. `units` is
    read, and the table. Where gimli_table answered END for the unit's `abbreviations`, and `declared`
-   and `specified` are what it counted, the answers are the same unless memory is refused. REFUSED is
+   and `specified` are what it counted, the answers are the same unless memory is refused. Of a table
+   that the caller made they are what it declares; gimli_rows_by goes by the steps of its attributes
+   too, and where one is wrong, which no zeros are, it may tell other rows or refuse them; also then
+   `count` is at most `room`, and with MORE and some room the place is a later one. REFUSED is
    of the unit or of the place's offset alone; gimli_rows_by asks for no memory, and gimli_entries_by
    for that of a row's attributes. */
 uint32_t gimli_rows_by(const gimli_sections_t *sections, uint64_t unit, const gimli_table_t *table, gimli_place_t *place,
@@ -496,7 +510,7 @@ static inline uint32_t gimli_locations_given(const gimli_sections_t *sections, c
 typedef char gimli_sizes_t[sizeof(size_t) == 8 && sizeof(gimli_bytes_t) == 16 && sizeof(gimli_sections_t) == 136
                            && sizeof(gimli_unit_t) == 56 && sizeof(gimli_place_t) == 16 && sizeof(gimli_row_t) == 24
                            && sizeof(gimli_entry_t) == 40 && sizeof(gimli_attr_t) == 24 && sizeof(gimli_filled_t) == 24
-                           && sizeof(gimli_declaration_t) == 32 && sizeof(gimli_specification_t) == 16
+                           && sizeof(gimli_declaration_t) == 32 && sizeof(gimli_specification_t) == 24
                            && sizeof(gimli_table_t) == 32 && sizeof(gimli_counted_t) == 16
                            && sizeof(gimli_bases_t) == 40 && sizeof(gimli_range_t) == 16 && sizeof(gimli_location_t) == 32
                            ? 1 : -1];

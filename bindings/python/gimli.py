@@ -72,8 +72,13 @@ class Declaration(Structure):
     _fields_ = [("code", c_uint64), ("first", c_size_t), ("attributes", c_size_t), ("tag", c_uint16), ("has_children", c_uint8)]
 
 
+class Step(Structure):
+    """So many values that are passed together, as `Dwarf.table` reads it; who makes a table leaves it at zeros."""
+    _fields_ = [("values", c_uint32), ("bytes", c_uint8), ("addresses", c_uint8), ("offsets", c_uint8), ("ref_addrs", c_uint8)]
+
+
 class Specification(Structure):
-    _fields_ = [("constant", c_int64), ("name", c_uint16), ("form", c_uint16)]
+    _fields_ = [("constant", c_int64), ("name", c_uint16), ("form", c_uint16), ("step", Step)]
 
 
 class Table(Structure):
@@ -113,7 +118,7 @@ class Location(Structure):
 # The sizes that the library takes these types to have, as at the end of gimli.h.
 assert [ctypes.sizeof(it) for it in (Bytes, Sections, Unit, Place, Row, Entry, Attr, Filled, Declaration, Specification, Table,
                                     Counted, Bases, Range, Location)] \
-    == [16, 136, 56, 16, 24, 40, 24, 24, 32, 16, 32, 16, 40, 16, 32]
+    == [16, 136, 56, 16, 24, 40, 24, 24, 32, 24, 32, 16, 40, 16, 32]
 
 # The kinds of values, as gimli names them; those that only names give do not occur.
 KINDS = {1: "Addr", 2: "Block", 3: "Data1", 4: "Data2", 5: "Data4", 6: "Data8", 7: "Data16", 8: "Sdata", 9: "Udata",

@@ -134,10 +134,21 @@ struct Declaration {
 
 #[repr(C)]
 #[derive(Clone, Copy, Debug, Default)]
+struct Step {
+    values: u32,
+    bytes: u8,
+    addresses: u8,
+    offsets: u8,
+    ref_addrs: u8,
+}
+
+#[repr(C)]
+#[derive(Clone, Copy, Debug, Default)]
 struct Specification {
     constant: i64,
     name: u16,
     form: u16,
+    step: Step,
 }
 
 /// A table, as two pointers and lengths.
@@ -222,7 +233,7 @@ impl fmt::Debug for Abbreviations {
 
 // The sizes that the header says too.
 const _: () = {
-    assert!(size_of::<Declaration>() == 32 && size_of::<Specification>() == 16);
+    assert!(size_of::<Declaration>() == 32 && size_of::<Specification>() == 24);
     assert!(size_of::<Table>() == 32 && size_of::<Counted>() == 16);
     assert!(size_of::<Bytes>() == 16 && size_of::<Sections<'_>>() == 136);
     assert!(size_of::<Unit>() == 56 && size_of::<Place>() == 16 && size_of::<Row>() == 24);

@@ -1,18 +1,19 @@
 -- The steps of attributes, as these are declared one after the other.
 use Rattle.std.proofs.Common.{◌≡◌, ℕ, List, [], ◌∷◌, ◌++◌, length, take, drop, refl, sym, ap}
-use Rattle.std.proofs.Common.{◌+◌, ◌-◌, ◌∙◌, arith, Bool, false, Option, Some, None}
+use Rattle.std.proofs.Common.{◌+◌, ◌-◌, ◌*◌, ◌≤◌, ◌∙◌, arith, Bool, true, false, Option, Some, None}
 use Rattle.std.proofs.Common.{length-append, length-drop}
-use Rattle.std.specs.Prelude.{◌||◌}
+use Rattle.std.proofs.Math.Nat.{add-mul}
+use Rattle.std.specs.Prelude.{◌||◌, ◌==◌, if◌then◌else◌, IfSome}
 use Rattle.std.proofs.lemmas.List.{append_assoc, append-nil, take_all, drop_all, take-append-le}
 use Rattle.std.proofs.lemmas.List.{drop-append-le, take-append-drop}
-use Rattle.std.specs.List.{All}
 use Rattle.std.proofs.lemmas.List.Elements.{All-append, All-cons, All-nil}
 use Rattle.gimli_base.specs.declared.common.Encoding.{Encoding}
 use Rattle.gimli_base.specs.declared.step.Step.{Step}
 use Rattle.gimli_base.specs.Abbreviations.{Specification, IsWellFormed}
+use Rattle.gimli_base.specs.Reading.{word_size_of}
 use Rattle.gimli_base.specs.Width.{attributes_size, form_size, known_sum}
 use Rattle.gimli_base.specs.Steps.{AreSteps, AfterStep, IsRun, AddsValue, is_sibling, empty_step}
-use Rattle.gimli_base.specs.Steps.{step_size}
+use Rattle.gimli_base.specs.Steps.{step_size, Joins}
 
 known_sum_assoc : (l m n : Option ℕ) → known_sum (known_sum l m) n ≡ known_sum l (known_sum m n)
 known_sum_assoc (Some l) (Some m) (Some n) = ap Some (omega arith)
@@ -113,63 +114,106 @@ module _ (closed : List Step) (run : Step) (seen : Bool) (ss : List Specificatio
           (so_far.closes steps (x ∷ more) (rw (append_assoc o (x ∷ []) more) at h));
     }
 
+zero_left : (m : Option ℕ) → m ≡ known_sum (Some 0) m
+zero_left (Some m) = ap Some (omega arith)
+zero_left None = refl
+
 -- the bytes of attributes and of others after them
 size-append : (e : Encoding) (xs ys : List Specification)
     → attributes_size e (xs ++ ys) ≡ known_sum (attributes_size e xs) (attributes_size e ys)
 size-append e [] ys = zero_left (attributes_size e ys)
-  where
-    zero_left : (m : Option ℕ) → m ≡ known_sum (Some 0) m
-    zero_left (Some m) = ap Some (omega arith)
-    zero_left None = refl
 size-append e (x ∷ xs) ys =
     ap (known_sum (form_size e x.form.0)) (size-append e xs ys)
     ∙ sym (known_sum_assoc (form_size e x.form.0) (attributes_size e xs) (attributes_size e ys))
 
--- attributes have so many bytes
-pub record IsSized (e : Encoding) (n : ℕ) (xs : List Specification) : Type 0 where
-  pub size : attributes_size e xs ≡ Some n
-  pub well_formed : All IsWellFormed xs
+-- the bytes of some attributes are summed, and these are left
+pub record SizesLeft (e : Encoding) (all left : List Specification) (sum : ℕ) : Type 0 where
+  pub same : attributes_size e all ≡ known_sum (Some sum) (attributes_size e left)
+  pub few : sum + 255 * length left ≤ 255 * length all
+
+-- a step with a value more, and the values of another step
+pub joined : (s : Step) (x : Specification) (u p : Step) → AddsValue true x s p → (t : Step)
+    → t.values ≡ p.values + u.values → t.bytes ≡ p.bytes + u.bytes
+    → t.addresses ≡ p.addresses + u.addresses → t.offsets ≡ p.offsets + u.offsets
+    → t.ref_addrs ≡ p.ref_addrs + u.ref_addrs → Joins s x u t
+joined s x u p added t values bytes addresses offsets ref_addrs =
+    record {
+      counted = omega (arith, values, added.counted);
+      well_formed = added.well_formed;
+      size = λ e.
+          let a = e.address_size in
+          let o = word_size_of e.format in
+          let r = if e.version == 2 then a else o in
+          let sum : step_size e t ≡ step_size e p + step_size e u =
+          rw (bytes, addresses, offsets, ref_addrs) (omega (
+            arith,
+            add-mul p.addresses u.addresses a,
+            add-mul p.offsets u.offsets o,
+            add-mul p.ref_addrs u.ref_addrs r,
+          )) in
+          ap Some sum ∙ ap (λ m. known_sum m (Some (step_size e u))) (added.size e);
+    }
+
+-- a run that no attribute is sought in
+all_seen : (seen : Bool) (s : Step) (ss : List Specification) → IsRun seen s ss → IsRun true s ss
+all_seen seen s ss h = record {
+  counted = h.counted;
+  well_formed = h.well_formed;
+  size = h.size;
+  no_sibling = λ no. absurd (cc);
+}
 
 -- what one step passes
-pub one_step : (e : Encoding) (seen : Bool) (s : Step) (ss : List Specification)
-    → AreSteps seen (s ∷ []) ss → IsSized e (step_size e s) ss
-one_step e seen s ss h = cases (drop s.values ss) refl h.1
+pub one_step : (seen : Bool) (s : Step) (ss : List Specification) → AreSteps seen (s ∷ []) ss
+    → IsRun true s ss
+one_step seen s ss h = cases (drop s.values ss) refl h.1
   where
     cases : (rest : List Specification) → drop s.values ss ≡ rest
-        → AfterStep (λ x more. AreSteps (seen || is_sibling x) [] more) [] rest
-        → IsSized e (step_size e s) ss
+        → AfterStep (λ x more. AreSteps (seen || is_sibling x) [] more) [] rest → IsRun true s ss
     cases [] is k =
         let all : take s.values ss ≡ ss =
         sym (append-nil (take s.values ss))
         ∙ ap (λ l. take s.values ss ++ l) (sym is)
         ∙ take-append-drop s.values ss in
-        record { size = rw all at (h.0.size e); well_formed = rw all at h.0.well_formed }
+        all_seen seen s ss (rw all at h.0)
     cases (x ∷ more) is k = absurd k
 
 -- what two steps pass with the value between them
-pub two_steps : (e : Encoding) (seen : Bool) (s t : Step) (ss : List Specification)
-    (x : Specification) (rest : List Specification) (n : ℕ)
-    → AreSteps seen (s ∷ t ∷ []) ss
-    → take (length ss - s.values) (drop s.values ss) ≡ x ∷ rest → IsWellFormed x
-    → Some n ≡ form_size e x.form.0 → IsSized e (step_size e s + n + step_size e t) ss
-two_steps e seen s t ss x rest n h there formed known =
+two_steps : (seen : Bool) (s u t : Step) (ss : List Specification) (x : Specification)
+    (rest : List Specification) → AreSteps seen (s ∷ u ∷ []) ss
+    → take (length ss - s.values) (drop s.values ss) ≡ x ∷ rest → Joins s x u t → IsRun true t ss
+two_steps seen s u t ss x rest h there joins =
     let is : drop s.values ss ≡ x ∷ rest =
     sym (take_all (length ss - s.values) (drop s.values ss)
     (omega (arith, length-drop s.values ss)))
     ∙ there in
     let run : List Specification = take s.values ss in
-    let last : IsSized e (step_size e t) rest =
-    one_step e (seen || is_sibling x) t rest (rw is at h.1) in
+    let last : IsRun true u rest = one_step (seen || is_sibling x) u rest (rw is at h.1) in
     let all : run ++ x ∷ rest ≡ ss =
     ap (λ l. run ++ l) (sym is) ∙ take-append-drop s.values ss in
-    let sum : attributes_size e (run ++ x ∷ rest) ≡ Some (step_size e s + n + step_size e t) =
-    size-append e run (x ∷ rest)
+    let first : s.values ≡ length run = h.0.counted in
+    let count : t.values ≡ length (run ++ x ∷ rest) =
+    omega (arith, joins.counted, first, last.counted, length-append run (x ∷ rest)) in
+    let sum : (e : Encoding) → attributes_size e (run ++ x ∷ rest) ≡ Some (step_size e t) =
+    λ e. size-append e run (x ∷ rest)
     ∙ ap (λ m. known_sum m (attributes_size e (x ∷ rest))) (h.0.size e)
-    ∙ ap (λ m. known_sum (Some (step_size e s)) (known_sum m (attributes_size e rest))) (sym known)
-    ∙ ap (λ m. known_sum (Some (step_size e s)) (known_sum (Some n) m)) last.size
-    ∙ ap Some (omega arith) in
+    ∙ ap (λ m. known_sum (Some (step_size e s)) (known_sum (form_size e x.form.0) m))
+    (last.size e)
+    ∙ sym
+    (known_sum_assoc (Some (step_size e s)) (form_size e x.form.0) (Some (step_size e u)))
+    ∙ sym (joins.size e) in
     record {
-      size = rw all at sum;
+      counted = rw all at count;
       well_formed = rw all at (All-append IsWellFormed run (x ∷ rest) h.0.well_formed
-          (All-cons IsWellFormed x rest formed last.well_formed));
+          (All-cons IsWellFormed x rest joins.well_formed last.well_formed));
+      size = λ e. rw all at (sum e);
+      no_sibling = λ no. absurd (cc);
     }
+
+-- the same, where these are joined
+pub joined_run : (seen : Bool) (s u : Step) (ss : List Specification) (x : Specification)
+    (rest : List Specification) → AreSteps seen (s ∷ u ∷ []) ss
+    → take (length ss - s.values) (drop s.values ss) ≡ x ∷ rest → (t : Option Step)
+    → IfSome t (λ t. Joins s x u t) → IfSome t (λ t. IsRun true t ss)
+joined_run seen s u ss x rest h there (Some t) joins = two_steps seen s u t ss x rest h there joins
+joined_run seen s u ss x rest h there None joins = tt

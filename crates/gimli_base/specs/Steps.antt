@@ -55,3 +55,11 @@ pub record AddsValue (seen : Bool) (x : Specification) (s t : Step) : Type 0 whe
   pub size : (e : Encoding)
       → Some (step_size e t) ≡ known_sum (Some (step_size e s)) (form_size e x.form.0)
   pub no_sibling : seen ≡ false → is_sibling x ≡ false
+
+-- and t is s, the value of x, and u together
+pub record Joins (s : Step) (x : Specification) (u t : Step) : Type 0 where
+  pub counted : t.values ≡ s.values + 1 + u.values
+  pub well_formed : IsWellFormed x
+  pub size : (e : Encoding)
+      → Some (step_size e t)
+      ≡ known_sum (known_sum (Some (step_size e s)) (form_size e x.form.0)) (Some (step_size e u))

@@ -3,7 +3,7 @@
 ghost use Rattle.std.proofs.Common.{ap};
 ghost use Rattle.std.specs.Prelude.{ℕ, ◌≡◌, ◌≢◌, ◌==◌, [], is_some, if◌then◌else◌, Some, None};
 ghost use Rattle.std.specs.Prelude.{Option, OnOk, IfOk, IfErr, IfSome, IsSome, unwrap_or, pos};
-ghost use Rattle.std.specs.Prelude.{true, false, cond};
+ghost use Rattle.std.specs.Prelude.{true, false, cond, length, ◌<◌, ◌^◌};
 ghost use Rattle.std.specs.Option.{option_copied};
 ghost use Rattle.std.specs.Ordering.{nat_cmp};
 ghost use Rattle.std.specs.Map.{lookup};
@@ -26,8 +26,7 @@ ghost use Rattle.gimli_base.specs.Abbreviations.{
   table_takes_memory_at,
 };
 ghost use Rattle.gimli_base.specs.Width.{width_of, form_size, attributes_size};
-ghost use Rattle.std.specs.List.{All};
-ghost use Rattle.gimli_base.specs.Steps.{AreSteps};
+ghost use Rattle.gimli_base.specs.Steps.{AreSteps, IsRun};
 ghost use Rattle.gimli_base.specs.Table.{Table, codes_of};
 ghost use Rattle.gimli_base.specs.Offset.{answer_of};
 ghost use Rattle.gimli_base.specs.Reading.{read_of, answer_leaving, map_read, UnlessMemory};
@@ -170,6 +169,21 @@ impl AttributeSpecification {
     }
 }
 
+// The bytes of the values of attributes under an encoding, where the form of each tells its size.
+fn sum_of_sizes(specifications: &[AttributeSpecification], encoding: Encoding) -> Option<u64>
+    ensures exact { IfSome result (λ n. attributes_size encoding specifications.now ≡ Some n) }
+    ensures known { length specifications.now < 2 ^ 32
+        → result ≡ attributes_size encoding specifications.now }
+{
+    let mut sum: u64 = 0;
+    let mut left = specifications;
+    'sizes: while let Some((specification, others)) = left.split_first() {
+        sum = sum.checked_add(u64::from(specification.size(encoding)?))?;
+        left = others;
+    }
+    Some(sum)
+}
+
 /// The declaration of an abbreviation: a code, and the tag, the children flag and the attributes of
 /// its entries.
 #[derive(Drop)]
@@ -193,7 +207,8 @@ impl<A: Allocator> Model for Abbreviation<A> {
         } };
 
     ghost invariant = { λ a. (a.tag.0 ≢ 0)
-        × AreSteps false a.attributes.steps a.attributes.specifications };
+        × AreSteps false a.attributes.steps a.attributes.specifications
+        × IfSome a.attributes.whole (λ s. IsRun true s a.attributes.specifications) };
 }
 
 impl<A: Allocator> Abbreviation<A> {
@@ -230,28 +245,27 @@ impl<A: Allocator> Abbreviation<A> {
         self.attributes.specifications()
     }
 
-    /// The bytes of all values together under an encoding, where no value tells. It is known of
-    /// values in one step, and of those in two, if that between them is of a known size.
-    #[inline(always)]
-    pub fn size(&self, encoding: Encoding) -> Option<u64>
+    /// The bytes of all values together under an encoding, where the form of each tells its size
+    /// (DWARF 5, 7.5.6). Of 2^32 attributes and more it may be none.
+    pub fn attributes_size(&self, encoding: Encoding) -> Option<u64>
         ensures exact { IfSome result (λ n.
             attributes_size encoding self.now.attributes ≡ Some n) }
-        ensures well_formed { IfSome result (λ _. All IsWellFormed self.now.attributes) }
+        ensures known { length self.now.attributes < 2 ^ 32
+            → result ≡ attributes_size encoding self.now.attributes }
     {
-        let (first, others) = self.steps().split_first()?;
-        let Some((last, more)) = others.split_first() else {
-            return Some(first.size(encoding));
-        };
-        if !more.is_empty() {
-            return None;
+        if let Some(step) = self.whole_step() {
+            return Some(step.size(encoding));
         }
-        let (value, _) = self.attributes()[first.values as usize..].split_first()?;
-        // (it says that the form implicit_const has a number)
-        let _ = value.implicit_const_value();
-        let size = u64::from(value.size(encoding)?);
-        let up_to_last = first.size(encoding).checked_add(size)?;
-        let sum = up_to_last.checked_add(last.size(encoding))?;
-        Some(sum)
+        sum_of_sizes(self.attributes(), encoding)
+    }
+
+    /// All values as one step, if the declaration keeps one: where it has one step, and where two,
+    /// if with the value between them they have room in one.
+    #[inline(always)]
+    pub fn whole_step(&self) -> Option<&Step>
+        ensures { IfSome (option_copied result) (λ s. IsRun true s self.now.attributes) }
+    {
+        self.attributes.whole()
     }
 
     /// The steps by which the values of the entries are passed, in their order.
@@ -271,7 +285,7 @@ fn parse_declared<R: Reader, A: Allocator + Copy>(
     input: &mut R,
     attributes: &mut Attributes<A>,
 ) -> Result<(DwTag, bool)>
-    requires { attributes.old ≡ record { specifications = []; steps = [] } }
+    requires { attributes.old ≡ record { specifications = []; steps = []; whole = None } }
     ensures declared { UnlessMemory result
         ((code : ℕ) → map_read
         (λ r.
@@ -285,6 +299,8 @@ fn parse_declared<R: Reader, A: Allocator + Copy>(
         ≡ declared_at code (R.view input.old)) }
     ensures steps { OnOk result
         (AreSteps false attributes.new.steps attributes.new.specifications) }
+    ensures whole { OnOk result
+        (IfSome attributes.new.whole (λ s. IsRun true s attributes.new.specifications)) }
     ensures tag { IfOk result (λ r. r.0.0 ≢ 0) }
     ensures headed { OnOk result (is_headed (R.view input.old) ≡ true) }
     ensures without_memory { is_headed (R.view input.old) ≡ false →

@@ -1,10 +1,11 @@
 //! The attributes of a declaration, and the steps by which their values are passed.
 
 ghost use Rattle.std.specs.Prelude.{◌≡◌, ◌++◌, ◌∷◌, [], List, take, nat_le, if◌then◌else◌, OnOk};
-ghost use Rattle.std.specs.Prelude.{false};
+ghost use Rattle.std.specs.Prelude.{IfSome, false, true, None};
 ghost use Rattle.gimli_base.specs.Abbreviations.{Specification, specifications_at};
 ghost use Rattle.gimli_base.specs.Reading.{read_of, answer_leaving, UnlessMemory};
-ghost use Rattle.gimli_base.specs.Steps.{AreSteps};
+ghost use Rattle.gimli_base.specs.Steps.{AreSteps, IsRun};
+ghost use Rattle.std.specs.Option.{option_copied};
 ghost use Rattle.gimli_base.specs.declared.step.Step.{Step};
 
 use crate::abbrev::AttributeSpecification;
@@ -113,7 +114,7 @@ impl<A: Allocator> Steps<A> {
     {
         Steps {
             count: 0,
-            few: [Step::none(); 13],
+            few: [Step::new(); 13],
             more: Vec::new(alloc),
         }
     }
@@ -154,6 +155,8 @@ impl<A: Allocator> Steps<A> {
 pub(crate) struct Attributes<A: Allocator> {
     specifications: Specifications<A>,
     steps: Steps<A>,
+    // all values as one step, where that is kept
+    whole: Option<Step>,
 }
 
 impl<A: Allocator> Debug for Attributes<A> {
@@ -178,17 +181,44 @@ impl<A: Allocator> Attributes<A> {
     {
         self.steps.as_slice()
     }
+
+    /// All values as one step, where that is kept.
+    #[inline(always)]
+    pub(crate) fn whole(&self) -> Option<&Step>
+        ensures { option_copied result ≡ self.now.whole }
+    {
+        self.whole.as_ref()
+    }
+}
+
+// All values as one step: that which they have, or both, where the first DW_AT_sibling alone stands
+// between two.
+#[inline]
+fn whole_of(specifications: &[AttributeSpecification], steps: &[Step]) -> Option<Step>
+    requires { AreSteps false steps.now specifications.now }
+    ensures { IfSome result (λ s. IsRun true s specifications.now) }
+{
+    let (first, others) = steps.split_first()?;
+    let Some((last, more)) = others.split_first() else {
+        return Some(*first);
+    };
+    if !more.is_empty() {
+        return None;
+    }
+    let (value, _) = specifications[first.values as usize..].split_first()?;
+    first.join(value, last)
 }
 
 impl<A: Allocator + Copy> Attributes<A> {
     /// No attributes, and no steps yet.
     #[inline(always)]
     pub(crate) fn new(alloc: A) -> Self
-        ensures { result ≡ record { specifications = []; steps = [] } }
+        ensures { result ≡ record { specifications = []; steps = []; whole = None } }
     {
         Attributes {
             specifications: Specifications::new(alloc),
             steps: Steps::new(alloc),
+            whole: None,
         }
     }
 
@@ -196,22 +226,27 @@ impl<A: Allocator + Copy> Attributes<A> {
     /// refused, the input and the attributes are left anywhere.
     #[inline(always)]
     pub(crate) fn parse<R: Reader>(&mut self, input: &mut R) -> Result<()>
-        requires { self.old ≡ record { specifications = []; steps = [] } }
+        requires { self.old ≡ record { specifications = []; steps = []; whole = None } }
         ensures read { UnlessMemory result
             (read_of (answer_leaving self.new.specifications result) (R.view input.new)
             ≡ specifications_at (R.view input.old)) }
         ensures steps { OnOk result (AreSteps false self.new.steps self.new.specifications) }
+        ensures whole { OnOk result
+            (IfSome self.new.whole (λ s. IsRun true s self.new.specifications)) }
     {
-        let mut run = Step::none();
+        let mut run = Step::new();
         let mut is_seen = false;
         while let Some(specification) = AttributeSpecification::parse(input)? {
             if !run.push(&specification, is_seen) {
-                self.steps.push(run)?;
-                run = Step::none();
+                let ended = run;
+                run = Step::new();
+                self.steps.push(ended)?;
                 is_seen |= specification.name() == DW_AT_sibling;
             }
             self.specifications.push(specification)?;
         }
-        Ok(self.steps.push(run)?)
+        self.steps.push(run)?;
+        self.whole = whole_of(self.specifications(), self.steps());
+        Ok(())
     }
 }

@@ -1,7 +1,7 @@
 //! The steps by which the values of an entry are passed.
 
-ghost use Rattle.std.specs.Prelude.{◌≡◌, true, false};
-ghost use Rattle.gimli_base.specs.Steps.{AddsValue, empty_step, step_size};
+ghost use Rattle.std.specs.Prelude.{◌≡◌, IfSome, true, false};
+ghost use Rattle.gimli_base.specs.Steps.{AddsValue, Joins, empty_step, step_size};
 
 use crate::width::Width;
 use crate::{AttributeSpecification, DW_AT_sibling, Encoding};
@@ -10,6 +10,7 @@ use crate::{AttributeSpecification, DW_AT_sibling, Encoding};
 /// 5, 7.5.6), are passed together. Then the entry ends, or one value is looked at.
 ///
 /// Their bytes are counted by kinds, as only an encoding tells how many an address has.
+#[repr(C)]
 #[derive(Clone, Copy, Debug, PartialEq, Eq)]
 pub struct Step {
     /// How many values are passed together.
@@ -25,8 +26,9 @@ pub struct Step {
 }
 
 impl Step {
-    // No values.
-    pub(crate) fn none() -> Step
+    /// No values.
+    #[inline]
+    pub fn new() -> Step
         ensures { result ≡ empty_step }
     {
         Step {
@@ -38,11 +40,11 @@ impl Step {
         }
     }
 
-    // Adds the value of an attribute, if its form tells its size and there is room for it, and if
-    // it is not the first DW_AT_sibling, of which one was seen before or not; answers whether it
-    // did, and else the step stays.
+    /// Adds the value of an attribute, if its form tells its size and there is room for it, and if
+    /// it is not the first DW_AT_sibling, of which one was seen before or not; answers whether it
+    /// did, and else the step stays.
     #[inline(always)]
-    pub(crate) fn push(&mut self, specification: &AttributeSpecification, is_seen: bool) -> bool
+    pub fn push(&mut self, specification: &AttributeSpecification, is_seen: bool) -> bool
         ensures pushed { result ≡ true → AddsValue is_seen specification.now self.old self.new }
         ensures kept { result ≡ false → self.new ≡ self.old }
     {
@@ -71,6 +73,24 @@ impl Step {
         }
         self.values += 1;
         true
+    }
+
+    // These values, that of an attribute after them, and those of another step, if its form tells
+    // its size and there is room for all.
+    pub(crate) fn join(&self, specification: &AttributeSpecification, last: &Step) -> Option<Step>
+        ensures { IfSome result (λ s. Joins self.now specification.now last.now s) }
+    {
+        let mut sum = *self;
+        if !sum.push(specification, true) {
+            return None;
+        }
+        Some(Step {
+            values: sum.values.checked_add(last.values)?,
+            bytes: sum.bytes.checked_add(last.bytes)?,
+            addresses: sum.addresses.checked_add(last.addresses)?,
+            offsets: sum.offsets.checked_add(last.offsets)?,
+            ref_addrs: sum.ref_addrs.checked_add(last.ref_addrs)?,
+        })
     }
 
     /// How many bytes the values have together under an encoding.

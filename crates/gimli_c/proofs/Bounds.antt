@@ -14,7 +14,7 @@ use Rattle.gimli_base.specs.Table.{Table, codes_of}
 use Rattle.gimli_units.specs.UnitRows.{unit_rows_from}
 use Rattle.gimli_units.specs.Entry.{entry_at}
 use Rattle.gimli_units.specs.RawPlace.{RawPlace}
-use Rattle.gimli_units.specs.Rows.{no_row}
+use Rattle.gimli_units.specs.Rows.{Ahead, no_row}
 use Rattle.gimli_units.proofs.RowSteps.{ahead_ended}
 use Rattle.gimli_units.specs.Unit.{UnitView, whole_length, header_size, in_bounds, range_from}
 use Rattle.gimli_units.specs.Unit.{entries_in, entries_from}
@@ -22,6 +22,7 @@ use Rattle.gimli_c.specs.declared.rows.GimliRow.{GimliRow}
 use Rattle.gimli_c.specs.declared.rows.GimliPlace.{GimliPlace}
 use Rattle.gimli_c.specs.Status.{end, too_deep, refusal_status, memory_refused}
 use Rattle.gimli_c.specs.Fronts.{ahead_of, unit_ahead, declared_ahead, Filled, ToldRows}
+use Rattle.gimli_c.specs.Fronts.{ToldRowsIf}
 use Rattle.gimli_c.proofs.Front.{first_at}
 
 -- the reader of a place that is in bounds
@@ -139,19 +140,38 @@ module _ (limit : ℕ) (u : UnitView) (t : Table) (place : GimliPlace) (old : Li
         })
 
     -- elsewhere the rows of the reader are told
-    pub told_filled : (p : RawPlace) (behind : GimliPlace) (new : List GimliRow) (n status : ℕ)
-        → Ok p ≡ entries_from u t (Some place.offset) → unsigned_abs place.depth
+    pub told_filled : (P : Type 0) (p : RawPlace) (behind : GimliPlace) (new : List GimliRow)
+        (n status : ℕ) → Ok p ≡ entries_from u t (Some place.offset) → unsigned_abs place.depth
         + (whole_length u - place.offset) < 2 ^ 63
-        → Filled (ahead_of limit place.depth p) old behind new n status
-        → ToldRows (unit_ahead limit u (codes_of t) place) place old behind new n status
-    told_filled p behind new n status is shallow f =
+        → (P → Filled (ahead_of limit place.depth p) old behind new n status)
+        → ToldRowsIf P (unit_ahead limit u (codes_of t) place) place old behind new n status
+    told_filled P p behind new n status is shallow f =
         let test : (place.offset == whole_length u) ≡ false = ne_eqb _ _ apart in
         let yes = read_bounds u t place.offset p is in
         let range : nat_lt (unsigned_abs place.depth + (whole_length u - place.offset)) (2 ^ 63)
         ≡ true = lt-ltb _ _ shallow in
         let zero_more : place.depth +ℤ pos 0 ≡ place.depth = omega (arith, ints) in
-        let f' = rw (yes.1) at f in
-        rw (test, yes.0, range) (rw zero_more at f')
+        rw (test, yes.0, range) (λ given. let f' = rw (yes.1) at (f given) in rw zero_more at f')
+
+-- what is told is told under any premise, and under one that holds
+pub told_any : (P : Type 0) (r : Result Ahead ℕ) (from : GimliPlace) (old : List GimliRow)
+    (place : GimliPlace) (new : List GimliRow) (n status : ℕ)
+    → ToldRows r from old place new n status → ToldRowsIf P r from old place new n status
+told_any P (Ok ahead) from old place new n status h = λ _. h
+told_any P (Err stop) from old place new n status h = h
+
+pub told_given : (P : Type 0) (r : Result Ahead ℕ) (from : GimliPlace) (old : List GimliRow)
+    (place : GimliPlace) (new : List GimliRow) (n status : ℕ)
+    → ToldRowsIf P r from old place new n status → P → ToldRows r from old place new n status
+told_given P (Ok ahead) from old place new n status h given = h given
+told_given P (Err stop) from old place new n status h given = h
+
+pub told_under : (P Q : Type 0) (r : Result Ahead ℕ) (from : GimliPlace) (old : List GimliRow)
+    (place : GimliPlace) (new : List GimliRow) (n status : ℕ)
+    → ToldRowsIf P r from old place new n status → (Q → P)
+    → ToldRowsIf Q r from old place new n status
+told_under P Q (Ok ahead) from old place new n status h other = λ given. h (other given)
+told_under P Q (Err stop) from old place new n status h other = h
 
 -- where memory is refused, no row is written
 module _ (limit : ℕ) (u : UnitView) (place : GimliPlace) (old : List GimliRow) where

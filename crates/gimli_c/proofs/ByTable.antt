@@ -1,14 +1,13 @@
 -- Entries that are read by a table in a caller's buffers.
-use Rattle.std.proofs.Common.{◌≡◌, ◌≢◌, ℕ, zero, suc, ◌+◌, ◌-◌, ◌<◌, ◌≤◌, ◌==◌}
+use Rattle.std.proofs.Common.{◌≡◌, ◌≢◌, ℕ, zero, suc, ◌-◌, ◌<◌, ◌≤◌, ◌==◌}
 use Rattle.std.proofs.Common.{Bool, true, false, if◌then◌else◌}
 use Rattle.std.proofs.Common.{◌&&◌, not, cond, nat_lt, ℤ, pos, List, [], ◌∷◌, map, length}
 use Rattle.std.proofs.Common.{get_or, Option, Some, None, Result, Ok, Err, refl, sym, ap, ◌∙◌, arith}
-use Rattle.std.proofs.Common.{length-drop, take, drop}
-use Rattle.std.specs.Prelude.{slice_get, All}
+use Rattle.std.proofs.Common.{length-drop}
+use Rattle.std.specs.Prelude.{slice_get}
 use Rattle.std.specs.Option.{option_map}
 use Rattle.std.proofs.lemmas.Bool.{ne_eqb, ltb-true}
-use Rattle.std.proofs.lemmas.List.{length-map, get_or-map, take-map, drop-map, drop-take, drop-drop}
-use Rattle.std.proofs.lemmas.List.{length-take}
+use Rattle.std.proofs.lemmas.List.{length-map, get_or-map}
 use Rattle.std.proofs.lemmas.Option.{slice_get-map, slice_get_past}
 use Rattle.gimli_base.specs.declared.common.Encoding.{Encoding}
 use Rattle.gimli_base.specs.declared.error.Error.{Error}
@@ -16,8 +15,7 @@ use Rattle.gimli_base.specs.declared.error.Error.TheVariants.{OffsetOutOfBounds}
 use Rattle.gimli_base.specs.View.{View, cut}
 use Rattle.gimli_base.specs.declared.error.Error.TheVariants.{InvalidAbbreviationCode}
 use Rattle.gimli_base.specs.Reading.{Reads, uleb_at}
-use Rattle.gimli_base.specs.Abbreviations.{Specification, Declaration, Map, IsWellFormed}
-use Rattle.gimli_base.specs.Width.{attributes_size}
+use Rattle.gimli_base.specs.Abbreviations.{Specification, Declaration, Map}
 use Rattle.gimli_base.specs.Table.{Table, codes_of}
 use Rattle.gimli_units.specs.Entry.{Attr, Entry, attributes_at, abbreviation_at, entry_at}
 use Rattle.gimli_units.specs.Entry.{entry_of_declared, null_entry}
@@ -25,19 +23,14 @@ use Rattle.gimli_units.specs.RawPlace.{RawPlace, depth_after, below_flag}
 use Rattle.gimli_units.specs.Sized.{left_by}
 use Rattle.gimli_units.specs.Unit.{UnitView, whole_length, header_size, in_bounds, range_from}
 use Rattle.gimli_units.specs.Unit.{entries_from}
-use Rattle.gimli_units.proofs.ReadTurns.{turn_run}
 use Rattle.gimli_c.specs.declared.attrs.GimliAttr.{GimliAttr}
-use Rattle.gimli_c.specs.declared.by_table.Known.{Known}
-use Rattle.gimli_c.specs.declared.by_table.Run.{Run}
 use Rattle.gimli_c.specs.declared.reading.Head.{Head}
 use Rattle.gimli_c.specs.declared.table.GimliDeclaration.{GimliDeclaration}
 use Rattle.gimli_c.specs.declared.table.GimliSpecification.{GimliSpecification}
 use Rattle.gimli_c.specs.Attrs.{attr_of}
 use Rattle.gimli_c.specs.Heads.{null_head, declared_head, head_in_c, AreRead, IsReadPast, IsReadWith}
-use Rattle.gimli_c.specs.Tables.{specification_in, declared_in, declaration_in, table_of}
+use Rattle.gimli_c.specs.Tables.{specification_in, declaration_in, table_of}
 use Rattle.gimli_c.specs.TableReads.{told_head, depth_behind_head, IsHeadRead, IsHeadReadWith}
-use Rattle.gimli_c.specs.TableReads.{IsRun, IsKnown}
-use Rattle.gimli_c.proofs.TableSizes.{are_formed}
 
 -- what a caller's table has under a code
 pub code_in : (ds : List GimliDeclaration) (ss : List GimliSpecification) (code : ℕ) → 0 < code
@@ -263,57 +256,3 @@ module _ (u : UnitView) where
 pub none_in : (ss : List GimliSpecification) → map specification_in ss ≡ [] → ss ≡ []
 none_in [] none = refl
 none_in (s ∷ ss) none = absurd (cc)
-
--- what is left of some attributes of a table from an index on
-pub part_left : (ss : List GimliSpecification) (first n from : ℕ) → from ≤ n
-    → drop from (take n (drop first ss)) ≡ take (n - from) (drop (first + from) ss)
-part_left ss first n from le =
-    let whole : from + (n - from) ≡ n = omega (arith, le) in
-    ap (λ k. drop from (take k (drop first ss))) (sym whole)
-    ∙ drop-take from (n - from) (drop first ss)
-    ∙ ap (λ (ts : List GimliSpecification). take (n - from) ts) (drop-drop from first ss)
-
--- a run of what is left of a declaration's attributes from an index on
-pub run_left : (e : Encoding) (ss : List GimliSpecification) (d : GimliDeclaration) (from : ℕ)
-    (r : Run) → from ≤ length (declared_in ss d)
-    → IsRun e (take (d.attributes - from) (drop (d.first + from) ss)) r
-    → IsRun e (drop from (declared_in ss d)) r
-run_left e ss d from r within run =
-    let few = length-take d.attributes (drop d.first ss) in
-    rw (part_left ss d.first d.attributes from (omega (arith, within, few))) run
-
--- the same of one that was kept
-pub known_run : (e : Encoding) (ss : List GimliSpecification) (d : GimliDeclaration) (from : ℕ)
-    (k : Known) → from ≤ length (declared_in ss d) → IsKnown e ss k → k.first ≡ d.first + from
-    → k.left ≡ d.attributes - from → IsRun e (drop from (declared_in ss d)) k.run
-known_run e ss d from k within known first left =
-    run_left e ss d from k.run within (rw (first, left) at known)
-
--- a run that is all that is left, and one that is not
-pub run_ends : (e : Encoding) (told : List GimliSpecification) (i : ℕ) (r : Run)
-    → IsRun e (drop i told) r → not r.more ≡ true → length (map specification_in told) ≤ i + r.count
-run_ends e told i r run ends =
-    grind (arith, run.more, ends, length-drop i told, length-map told specification_in)
-
-pub run_stops : (e : Encoding) (told : List GimliSpecification) (i : ℕ) (r : Run)
-    → IsRun e (drop i told) r → not r.more ≡ false → i + r.count < length told
-run_stops e told i r run goes_on =
-    grind (arith, run.within, run.more, goes_on, length-drop i told)
-
--- the first i attributes of a declaration are passed, and a run behind them
-pub run_passed : (limit : ℕ) (e : Encoding) (told : List GimliSpecification) (i : ℕ)
-    (all v w : View) (r : Run) → IsRun e (drop i told) r
-    → left_by (attributes_at limit e (map specification_in told) all)
-    ≡ left_by (attributes_at limit e (drop i (map specification_in told)) v)
-    → ((ss : List Specification) → All IsWellFormed ss → attributes_size e ss ≡ Some r.size
-    → Ok (tt {0}, w) ≡ left_by (attributes_at limit e ss v))
-    → left_by (attributes_at limit e (map specification_in told) all)
-    ≡ left_by (attributes_at limit e (drop (i + r.count) (map specification_in told)) w)
-run_passed limit e told i all v w r run so_far did =
-    let front = take r.count (drop i told) in
-    let is : map specification_in front ≡ take r.count (drop i (map specification_in told)) =
-    sym (take-map specification_in r.count (drop i told))
-    ∙ ap (λ (ss : List Specification). take r.count ss) (sym (drop-map specification_in i told)) in
-    turn_run limit e (map specification_in told) i all v so_far r.count tt w
-    (did (map specification_in front) (are_formed front) run.size
-    ∙ ap (λ (ss : List Specification). left_by (attributes_at limit e ss v)) is)

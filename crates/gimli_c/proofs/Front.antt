@@ -5,7 +5,7 @@ use Rattle.std.proofs.Common.{take, drop, length, slice_set, Option, Some, None,
 use Rattle.std.proofs.Common.{ap, ◌∙◌, arith, append_assoc, length-append}
 use Rattle.std.proofs.Math.Seq.{take-append_seam, drop-append_seam}
 use Rattle.gimli_c.proofs.Slots.{slot}
-use Rattle.std.proofs.lemmas.List.{length-map, map-append}
+use Rattle.std.proofs.lemmas.List.{length-map, map-append, drop-set-lt, drop-drop, length-set}
 use Rattle.std.proofs.lemmas.Bool.{le-ltb, lt-ltb}
 use Rattle.std.proofs.lemmas.Int.{ints}
 use Rattle.gimli_base.specs.declared.error.Error.{Error}
@@ -24,6 +24,7 @@ use Rattle.gimli_c.specs.declared.rows.GimliRow.{GimliRow}
 use Rattle.gimli_c.specs.declared.rows.GimliPlace.{GimliPlace}
 use Rattle.gimli_c.specs.Status.{more, end, row_refused, memory_refused}
 use Rattle.gimli_c.specs.Fronts.{told_row, ahead_of, first_place, status_at, Filled}
+use Rattle.gimli_c.specs.Fronts.{WritesFirst}
 
 -- these rows before others
 abbrev pub before_rows : List Row → Ahead → Ahead
@@ -92,6 +93,22 @@ first_at limit encoding declared stop_at from rest place offset depth =
     cases [] None stop d h = rw (h.1, h.2) refl
     cases [] (Some e) stop d h = rw (h.2, h.3) refl
     cases (r ∷ more) refusal stop d (w, is, others) = rw (is.offset, is.depth_is) refl
+
+-- none is written, or one more than so many
+pub first_none : (old : List GimliRow) → WritesFirst old old 0
+first_none old = record { fits = omega arith; rest = refl; long = refl }
+
+pub first_more : (old new : List GimliRow) (n : ℕ) (x : GimliRow) → WritesFirst old new n
+    → n < length old → WritesFirst old (slice_set new n x) (n + 1)
+first_more old new n x w room = record {
+  fits = omega (arith, room);
+  rest =
+      drop-set-lt (n + 1) new n x (omega arith)
+      ∙ sym (drop-drop 1 n new)
+      ∙ ap (drop 1) w.rest
+      ∙ drop-drop 1 n old;
+  long = length-set new n x ∙ w.long;
+}
 
 module _ (limit : ℕ) (base : ℤ) where
   -- one more row is written

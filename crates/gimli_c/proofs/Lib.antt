@@ -12,5 +12,7 @@ pub mod TableReads
 pub mod TableFront
 pub mod TableLaw
 pub mod ByTable
-pub mod TableSizes
+pub mod TableSteps
+pub mod StepTurns
+pub mod Shorter
 pub mod Memory

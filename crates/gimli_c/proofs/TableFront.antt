@@ -2,9 +2,12 @@
 use Rattle.std.proofs.Common.{◌≡◌, ℕ, suc, ◌+◌, ◌<◌, ◌≤◌, ◌==◌, Bool, true, false}
 use Rattle.std.proofs.Common.{if◌then◌else◌, ◌&&◌, nat_le, List, [], ◌∷◌, ◌++◌, map, take, drop}
 use Rattle.std.proofs.Common.{length, slice_set, Option, None, Ok, Err, refl, sym, ap}
-use Rattle.std.proofs.Common.{◌∙◌, arith, append_assoc, length-append, add-zero}
-use Rattle.std.proofs.lemmas.List.{append-nil, map-append, take_more_set, drop-set-lt, drop-drop}
-use Rattle.std.proofs.lemmas.List.{length-set}
+use Rattle.std.proofs.Common.{◌∙◌, arith, append_assoc, length-append, length-drop, add-zero}
+use Rattle.std.proofs.lemmas.List.{append-nil, map-append, take_more_set, take-set-le, drop-set-lt, drop-drop}
+use Rattle.std.proofs.lemmas.List.{length-set, length-map, length-take-le}
+use Rattle.std.proofs.lemmas.Slice.{take-put_mid, take-put_mid_below, drop-put_mid}
+use Rattle.std.proofs.Math.Seq.{take-add}
+use borrow.Rule.Slice.PartMut.{put_mid}
 use Rattle.std.proofs.lemmas.Bool.{ne_eqb, eq-eqb}
 use Rattle.gimli_base.specs.declared.error.Error.{Error}
 use Rattle.gimli_base.specs.View.{View}
@@ -19,13 +22,15 @@ use Rattle.gimli_c.specs.declared.table.GimliSpecification.{GimliSpecification}
 use Rattle.gimli_c.specs.Status.{more, end, unordered, refusal_status}
 use Rattle.gimli_c.specs.Tables.{specification_in, in_order, all_specifications, numbered}
 use Rattle.gimli_c.specs.Tables.{number_declarations, count_of, have_room, table_told, AreWritten}
-use Rattle.gimli_c.specs.TableReads.{AreBehind, WroteNext, IsScanned}
+use Rattle.gimli_c.specs.TableReads.{AreBehind, OwnSteps, HaveSteps, WroteNext, IsScanned}
+use Rattle.gimli_c.proofs.TableSteps.{steps-append, own_steps}
 use Rattle.gimli_c.proofs.Slots.{slot}
 
 -- none is written yet
 pub behind_none : (from : ℕ) (old : List GimliSpecification) → AreBehind from [] old old
 behind_none from old = record {
   long = refl;
+  front = refl;
   written = λ _. rw (add-zero, append-nil) refl;
   rest = λ _. refl;
 }
@@ -42,6 +47,7 @@ behind_more from ss old new g s b room is =
     let fits : at ≤ length old = omega (arith, room, b.long) in
     record {
       long = length-set new at g ∙ b.long;
+      front = take-set-le from new at g (omega arith) ∙ b.front;
       written = λ _. rw next
           (ap (map specification_in) (take_more_set new at g room)
           ∙ map-append specification_in (take at new) (g ∷ [])
@@ -61,9 +67,65 @@ behind_counted from ss old new s b full =
     let longer : length (ss ++ s ∷ []) ≡ length ss + 1 = rw (length-append) refl in
     record {
       long = b.long;
+      front = b.front;
       written = λ le. absurd (omega (arith, le, longer, full, b.long));
       rest = λ le. absurd (omega (arith, le, longer, full, b.long));
     }
+
+-- the steps of attributes that are written are put
+module _ (from : ℕ) (ss : List Specification) (old new part : List GimliSpecification)
+    (b : AreBehind from ss old new) (fits : from + length ss ≤ length new)
+    (same : map specification_in part ≡ map specification_in (take (length ss) (drop from new)))
+  where
+    abbrev put : List GimliSpecification
+    put = put_mid from (length ss) new part
+
+    as_many : length part ≡ length ss
+    as_many =
+        sym (length-map part specification_in)
+        ∙ ap length same
+        ∙ length-map (take (length ss) (drop from new)) specification_in
+        ∙ length-take-le (length ss) (drop from new) (omega (arith, fits, length-drop from new))
+
+    inside : from ≤ length new
+    inside = omega (arith, fits)
+
+    front_is : take (from + length ss) put ≡ take from new ++ part
+    front_is = take-put_mid from (length ss) new part (from + length ss) (omega (arith, as_many)) inside
+
+    long : length put ≡ length new
+    long =
+        let parts = length-append (take from new) (part ++ drop (length ss) (drop from new)) in
+        let front = length-take-le from new inside in
+        let others = length-append part (drop (length ss) (drop from new)) in
+        let last = length-drop (length ss) (drop from new) in
+        omega (arith, parts, front, others, as_many, last, length-drop from new, fits)
+
+    pub behind_put : AreBehind from ss old put
+    behind_put = record {
+      long = long ∙ b.long;
+      front =
+          take-put_mid_below from (length ss) new part from (omega arith) inside ∙ b.front;
+      written = λ le.
+          ap (map specification_in) front_is
+          ∙ map-append specification_in (take from new) part
+          ∙ ap (λ ts. map specification_in (take from new) ++ ts) same
+          ∙ sym (map-append specification_in (take from new) (take (length ss) (drop from new)))
+          ∙ ap (map specification_in) (sym (take-add from (length ss) new))
+          ∙ b.written le;
+      rest = λ le.
+          drop-put_mid from (length ss) new part (from + length ss) (omega arith) inside as_many
+          ∙ b.rest le;
+    }
+
+    pub steps_put : OwnSteps part → HaveSteps from (length ss) old put
+    steps_put steps le before =
+        rw front_is (steps-append (take from new) part (rw b.front before) steps)
+
+-- or there is no room for them
+pub steps_left : (from n : ℕ) (old new : List GimliSpecification) → length new ≡ length old
+    → length new < from + n → HaveSteps from n old new
+steps_left from n old new long full le before = absurd (omega (arith, le, full, long))
 
 -- the codes of more declarations
 in_order-append : (k : ℕ) (xs ys : List Declaration) → in_order k xs ≡ true
@@ -122,6 +184,7 @@ pub record Scanning (all : Items Declaration) (old : List GimliDeclaration)
   pub declarations : count ≤ length old → new ≡ number_declarations 0 taken ++ drop count old
   pub specifications : used ≤ length old_s
       → map specification_in (take used new_s) ≡ all_specifications taken
+  pub steps : used ≤ length old_s → OwnSteps (take used new_s)
   pub rest : used ≤ length old_s → drop used new_s ≡ drop used old_s
 
 -- none is read yet
@@ -138,6 +201,7 @@ scan_begin v old old_s = record {
   long_s = refl;
   declarations = λ _. refl;
   specifications = λ _. refl;
+  steps = λ _. tt;
   rest = λ _. refl;
 }
 
@@ -211,6 +275,9 @@ module _ (all : Items Declaration) (old : List GimliDeclaration)
             ∙ ap (λ t. t ++ d.attributes) (s.specifications (fitted le))
             ∙ sym specifications)
 
+        with_steps : used + g.attributes ≤ length old_s → OwnSteps (take (used + g.attributes) new_s')
+        with_steps le = rw own (n.steps (fits le) (s.steps (fitted le)))
+
         left : used + g.attributes ≤ length old_s
             → drop (used + g.attributes) new_s' ≡ drop (used + g.attributes) old_s
         left le =
@@ -244,6 +311,7 @@ module _ (all : Items Declaration) (old : List GimliDeclaration)
           long_s = n.behind.long ∙ s.long_s;
           declarations = is;
           specifications = written;
+          steps = with_steps;
           rest = left;
         }
 
@@ -302,6 +370,7 @@ module _ (all : Items Declaration) (old : List GimliDeclaration)
           record {
             declarations = rw (s.count_is) (s.declarations room.0);
             specifications = rw (s.used_is) (s.specifications room.1);
+            steps = rw (s.used_is) (own_steps (take used new_s) (s.steps room.1));
             rest = rw (s.used_is) (s.rest room.1);
           }
       all_written false sure ended = absurd (cc)

@@ -98,6 +98,12 @@ pub record Filled (ahead : Ahead) (old : List GimliRow) (place : GimliPlace) (ne
       → (count ≡ min (length old) (length ahead.rows))
       × (status ≡ status_at (length old) (length ahead.rows) ahead.refusal)
 
+-- only the first so many rows are written
+pub record WritesFirst (old new : List GimliRow) (count : ℕ) : Type 0 where
+  pub fits : count ≤ length old
+  pub rest : drop count new ≡ drop count old
+  pub long : length new ≡ length old
+
 -- no row is written, and the place stays
 pub record Stopped (stop : ℕ) (from : GimliPlace) (old : List GimliRow) (place : GimliPlace)
     (new : List GimliRow) (count status : ℕ) : Type 0 where
@@ -111,6 +117,14 @@ abbrev pub ToldRows : Result Ahead ℕ → GimliPlace → List GimliRow → Giml
     → ℕ → Type 0
 ToldRows (Ok ahead) from old place new count status = Filled ahead old place new count status
 ToldRows (Err stop) from old place new count status = Stopped stop from old place new count status
+
+-- the same, where of the rows nothing is said without a premise
+abbrev pub ToldRowsIf : Type 0 → Result Ahead ℕ → GimliPlace → List GimliRow → GimliPlace
+    → List GimliRow → ℕ → ℕ → Type 0
+ToldRowsIf P (Ok ahead) from old place new count status =
+    P → Filled ahead old place new count status
+ToldRowsIf P (Err stop) from old place new count status =
+    Stopped stop from old place new count status
 
 -- from the place after so many rows the next call goes on with the others
 abbrev pub Resumes : Result Ahead ℕ → ℕ → Result Ahead ℕ → Type 0

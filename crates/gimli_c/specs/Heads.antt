@@ -1,5 +1,6 @@
 -- What a row tells of its entry, and an entry that was read past (DWARF 5, 7.5.2).
-use Rattle.std.specs.Prelude.{◌≡◌, ◌≢◌, ℕ, List, [], map, cond, Some, Result, Ok, Err}
+use Rattle.std.specs.Prelude.{◌+◌, ◌<◌, ◌≤◌, length, unsigned_abs, ◌≡◌, ◌≢◌, ℕ, List, []}
+use Rattle.std.specs.Prelude.{map, cond, Some, Result, Ok, Err}
 use Rattle.gimli_base.specs.declared.common.Encoding.{Encoding}
 use Rattle.gimli_base.specs.declared.error.Error.{Error}
 use Rattle.gimli_base.specs.Offset.{answer_of}
@@ -37,6 +38,12 @@ pub record IsReadPast (limit : ℕ) (before : RawPlace) (head : Head) (after : R
   pub head_is : head ≡ head_in_c entry
   pub moved : after
       ≡ record before { rest = after.rest; depth = depth_after entry before.depth }
+
+-- fewer bytes are left, and the depth is from 0 by at most one more
+pub record GoesOn (before after : RawPlace) : Type 0 where
+  pub shorter : length after.rest.bytes < length before.rest.bytes
+  pub near : unsigned_abs after.depth ≤ unsigned_abs before.depth + 1
+  pub same : after ≡ record before { rest = after.rest; depth = after.depth }
 
 -- the same, and these are its attributes
 pub record IsReadWith (limit : ℕ) (before : RawPlace) (head : Head) (numbers : List GimliAttr)

@@ -1,18 +1,16 @@
 -- Steps of reading a table of abbreviations into a caller's buffers (DWARF 5, 7.5.3).
-use Rattle.std.specs.Prelude.{◌≡◌, ℕ, ◌+◌, ◌<◌, ◌≤◌, ◌==◌, nat_lt, not, ℤ, pos, ◌-ℤ◌, if◌then◌else◌, List}
-use Rattle.std.specs.Prelude.{◌++◌, map, take, drop, length, Option, Some, None, Ok}
+use Rattle.std.specs.Prelude.{◌≡◌, ℕ, ◌+◌, ◌<◌, ◌≤◌, ◌==◌, not, ℤ, pos, ◌-ℤ◌, if◌then◌else◌, List}
+use Rattle.std.specs.Prelude.{true, [], ◌∷◌, ◌++◌, map, take, drop, length, Option, Some, None, Ok}
 use Rattle.gimli_base.specs.declared.common.Encoding.{Encoding}
 use Rattle.gimli_base.specs.View.{View}
 use Rattle.gimli_base.specs.Reading.{Reads}
 use Rattle.gimli_base.specs.Items.{Items}
-use Rattle.gimli_base.specs.Width.{attributes_size}
+use Rattle.gimli_base.specs.Steps.{IsRun}
 use Rattle.gimli_base.specs.Abbreviations.{Specification, Declaration, Map, specifications_at}
 use Rattle.gimli_base.specs.Abbreviations.{declaration_at}
 use Rattle.gimli_units.specs.Entry.{Entry, entry_at}
 use Rattle.gimli_units.specs.RawPlace.{RawPlace, below_flag, depth_after}
 use Rattle.gimli_c.specs.declared.attrs.GimliAttr.{GimliAttr}
-use Rattle.gimli_c.specs.declared.by_table.Known.{Known}
-use Rattle.gimli_c.specs.declared.by_table.Run.{Run}
 use Rattle.gimli_c.specs.declared.reading.Head.{Head}
 use Rattle.gimli_c.specs.declared.table.GimliCounted.{GimliCounted}
 use Rattle.gimli_c.specs.declared.table.GimliDeclaration.{GimliDeclaration}
@@ -50,25 +48,27 @@ pub record IsHeadReadWith (limit : ℕ) (e : Encoding) (declared : Map) (v : Vie
   pub read : IsHeadRead limit e declared v head w
   pub numbers_are : numbers ≡ map attr_of read.entry.attributes
 
--- the first of these attributes have so many bytes together, which no value tells
-pub record IsRun (e : Encoding) (ss : List GimliSpecification) (r : Run) : Type 0 where
-  pub within : r.count ≤ length ss
-  pub size : attributes_size e (map specification_in (take r.count ss)) ≡ Some r.size
-  pub more : r.more ≡ nat_lt r.count (length ss)
-
--- the same of so many attributes of a table from an index on
-abbrev pub IsKnown : Encoding → List GimliSpecification → Known → Type 0
-IsKnown e ss k = IsRun e (take k.left (drop k.first ss)) k.run
+-- the step of each attribute is that of as many attributes from it on, and there are so many
+abbrev pub OwnSteps : List GimliSpecification → Type 0
+OwnSteps [] = Unit {0}
+OwnSteps (s ∷ ss) = IsRun true s.step (take s.step.values (map specification_in (s ∷ ss)))
+    × OwnSteps ss
 
 -- these attributes are written behind the first `from`, where there is room for them
 pub record AreBehind (from : ℕ) (ss : List Specification) (old new : List GimliSpecification)
     : Type 0 where
   pub long : length new ≡ length old
+  pub front : take from new ≡ take from old
   pub written : from + length ss ≤ length old
       → map specification_in (take (from + length ss) new)
       ≡ map specification_in (take from old) ++ ss
   pub rest : from + length ss ≤ length old
       → drop (from + length ss) new ≡ drop (from + length ss) old
+
+-- if those before them have steps, so have these
+abbrev pub HaveSteps : ℕ → ℕ → List GimliSpecification → List GimliSpecification → Type 0
+HaveSteps from n old new =
+    from + n ≤ length old → OwnSteps (take from old) → OwnSteps (take (from + n) new)
 
 -- the declared attributes of a declaration are read, and written behind the first `from`
 pub record WroteDeclared (from : ℕ) (v w : View) (old new : List GimliSpecification) (n : ℕ)
@@ -78,6 +78,7 @@ pub record WroteDeclared (from : ℕ) (v w : View) (old new : List GimliSpecific
   pub count : n ≡ length specifications
   pub takes : n + length w.bytes ≤ length v.bytes
   pub behind : AreBehind from specifications old new
+  pub steps : HaveSteps from (length specifications) old new
 
 -- the next declaration is read, and its attributes are written behind the first `from`
 pub record WroteNext (from : ℕ) (v w : View) (old new : List GimliSpecification)
@@ -87,6 +88,7 @@ pub record WroteNext (from : ℕ) (v w : View) (old new : List GimliSpecificatio
   pub is : g ≡ numbered from declaration
   pub takes : g.attributes + length w.bytes < length v.bytes
   pub behind : AreBehind from declaration.attributes old new
+  pub steps : HaveSteps from (length declaration.attributes) old new
 
 -- the next declaration, or the code 0 that ends the table
 abbrev pub ReadNext : ℕ → View → View → List GimliSpecification → List GimliSpecification

@@ -1,6 +1,6 @@
 -- A table of abbreviations that lies in a caller's buffers, and the rows that it gives (DWARF 5,
 -- 7.5.3).
-use Rattle.std.specs.Prelude.{◌≡◌, ℕ, ◌+◌, ◌==◌, ◌^◌, ◌&&◌, nat_le, not, if◌then◌else◌, Bool, true}
+use Rattle.std.specs.Prelude.{◌≡◌, ℕ, ◌+◌, ◌≤◌, ◌==◌, ◌^◌, ◌&&◌, nat_le, not, if◌then◌else◌, Bool, true}
 use Rattle.std.specs.Prelude.{false, List, [], ◌∷◌, ◌++◌, map, take, drop, length, Result, Ok, Err}
 use Rattle.std.specs.Prelude.{cond, IfOk}
 use Rattle.gimli_base.specs.declared.error.Error.{Error}
@@ -9,6 +9,7 @@ use Rattle.gimli_base.specs.Reading.{Reads, skip_at}
 use Rattle.gimli_base.specs.Items.{Items}
 use Rattle.gimli_base.specs.Abbreviations.{Specification, Declaration, constant_of}
 use Rattle.gimli_base.specs.Abbreviations.{declarations_at}
+use Rattle.gimli_base.specs.Steps.{IsRun}
 use Rattle.gimli_base.specs.Table.{Table, codes_of}
 use Rattle.gimli_units.specs.Rows.{Ahead}
 use Rattle.gimli_units.specs.Unit.{UnitView}
@@ -33,6 +34,13 @@ specification_in s = record {
 -- the attributes of a caller's declaration: those that lie within the list
 abbrev pub declared_in : List GimliSpecification → GimliDeclaration → List GimliSpecification
 declared_in ss d = take d.attributes (drop d.first ss)
+
+-- the step of each attribute is that of as many attributes from it on, where there are so many; one
+-- of no values, all zeros, is always
+abbrev pub HasSteps : List GimliSpecification → Type 0
+HasSteps [] = Unit {0}
+HasSteps (s ∷ ss) = (s.step.values ≤ length (s ∷ ss)
+    → IsRun true s.step (take s.step.values (map specification_in (s ∷ ss)))) × HasSteps ss
 
 abbrev pub declaration_in : List GimliSpecification → GimliDeclaration → Declaration
 declaration_in ss d = record {
@@ -112,6 +120,7 @@ pub record AreWritten (ds : List Declaration) (old : List GimliDeclaration)
   pub declarations : new ≡ number_declarations 0 ds ++ drop (length ds) old
   pub specifications : let n = length (all_specifications ds) in
       map specification_in (take n new_s) ≡ all_specifications ds
+  pub steps : HasSteps (take (length (all_specifications ds)) new_s)
   pub rest : let n = length (all_specifications ds) in drop n new_s ≡ drop n old_s
 
 -- All declarations up to the code 0 are counted, and written where there is room for all of them

@@ -1,13 +1,12 @@
 //! Entries that are read one after the other by a table in a caller's buffers.
 
-ghost use Rattle.std.specs.Prelude.{◌≡◌, ◌+◌, ◌-◌, ◌<◌, ◌≤◌, ◌^◌, map, take, drop, length, pos};
+ghost use Rattle.std.specs.Prelude.{◌≡◌, ◌+◌, ◌-◌, ◌<◌, ◌≤◌, ◌^◌, map, length, pos};
 ghost use Rattle.std.specs.Prelude.{◌-ℤ◌, unsigned_abs};
-ghost use Rattle.std.specs.Prelude.{true, Some, List, [], All, IsOk, IfOk, IfErr, OnErr};
+ghost use Rattle.std.specs.Prelude.{true, Some, List, [], IsOk, IfOk, IfErr, OnOk, OnErr};
 ghost use Rattle.std.specs.Option.{option_map};
 ghost use Rattle.gimli_base.specs.Offset.{answer_of};
 ghost use Rattle.gimli_base.specs.Reading.{read_of, answer_leaving, map_read, UnlessMemory};
 ghost use Rattle.gimli_base.specs.Table.{codes_of};
-ghost use Rattle.gimli_base.specs.Width.{attributes_size};
 ghost use Rattle.gimli_base.specs.declared.error.Error.TheVariants.{OutOfMemory};
 ghost use Rattle.gimli_units.specs.Entry.{Attr, attribute_at, attributes_at};
 ghost use Rattle.gimli_units.specs.Entry.{abbreviation_at, entry_at, takes_memory};
@@ -16,39 +15,19 @@ ghost use Rattle.gimli_units.specs.Sized.{left_by};
 ghost use Rattle.gimli_units.specs.Unit.{whole_length};
 ghost use Rattle.gimli_units.specs.UnitHeld.{unit_view};
 ghost use Rattle.gimli_c.specs.Attrs.{attr_of};
-ghost use Rattle.gimli_c.specs.Heads.{IsOpened, AsksMemory};
+ghost use Rattle.gimli_c.specs.Heads.{IsOpened, AsksMemory, GoesOn};
 ghost use Rattle.gimli_c.specs.Tables.{specification_in, declaration_in, declared_in, table_in};
+ghost use Rattle.gimli_c.specs.Tables.{HasSteps};
 ghost use Rattle.gimli_c.specs.TableReads.{told_head, depth_behind_head, PlaceBy};
-ghost use Rattle.gimli_c.specs.TableReads.{IsHeadRead, IsHeadReadWith, IsRun, IsKnown};
+ghost use Rattle.gimli_c.specs.TableReads.{IsHeadRead, IsHeadReadWith};
 
 use crate::attrs::Numbers;
 use crate::reading::{Head, ReadEntries};
-use crate::table::{GimliDeclaration, GimliSpecification, GimliTable, part_of};
-use gimli_base::{AttributeSpecification, Encoding, Error, Reader, ReaderOffset, Result};
-use gimli_units::{Attribute, AttributeValue, TakeAttribute, UnitHeader, UnitOffset};
+use crate::table::{GimliDeclaration, GimliSpecification, GimliTable};
+use gimli_base::{Encoding, Error, Reader, ReaderOffset, Result, Step};
+use gimli_units::{Attribute, UnitHeader, UnitOffset};
 use std::alloc::Allocator;
 use std::marker::Model;
-
-// How many runs are kept.
-const SLOTS: usize = 128;
-
-// The first of some attributes, whose sizes no value tells: how many they are, how many bytes their
-// values have together, and whether there are more.
-#[derive(Clone, Copy)]
-struct Run {
-    count: u16,
-    size: u8,
-    more: bool,
-}
-
-// The run of `left` attributes of the table from an index on. (It has no padding, so that a list of
-// zeros is written at once.)
-#[derive(Clone, Copy)]
-pub(crate) struct Known {
-    first: usize,
-    left: u32,
-    run: Run,
-}
 
 /// A reader of entries by a caller's table.
 ///
@@ -88,8 +67,10 @@ pub(crate) fn entries_by<'t, R: Reader>(
     table: GimliTable<'t>,
     offset: R::Offset,
 ) -> Result<EntriesBy<'t, R>>
-    ensures { IsOpened (λ e. e.place) (unit_view unit.now) (table_in table.entry)
+    ensures opened { IsOpened (λ e. e.place) (unit_view unit.now) (table_in table.entry)
         (R.Offset.number offset) result }
+    ensures steps { HasSteps table.entry.specifications.now
+        → IfOk result (λ e. HasSteps e.specifications) }
 {
     let input = unit.range_from(UnitOffset(offset)..)?;
     Ok(EntriesBy {
@@ -122,28 +103,9 @@ impl<'t, R: Reader> EntriesBy<'t, R> {
 }
 
 impl<'t, R: Reader> ReadEntries<R> for EntriesBy<'t, R> {
-    // runs that were looked up, each at the index of its first attribute
-    type Memo = [Known; SLOTS];
-
     ghost place = { λ e. e.place };
 
-    ghost remembers = { λ e known. All (IsKnown e.place.encoding e.specifications) known };
-
-    #[inline(always)]
-    fn no_memo() -> [Known; SLOTS]
-        ensures { (e : PlaceBy) → All (IsKnown e.place.encoding e.specifications) result }
-    {
-        let none = Known {
-            first: 0,
-            left: 0,
-            run: Run {
-                count: 0,
-                size: 0,
-                more: false,
-            },
-        };
-        [none; SLOTS]
-    }
+    ghost has_steps = { λ e. HasSteps e.specifications };
 
     #[inline(always)]
     fn is_empty(&self) -> bool {
@@ -161,9 +123,9 @@ impl<'t, R: Reader> ReadEntries<R> for EntriesBy<'t, R> {
     }
 
     #[inline(always)]
-    fn pass(&mut self, known: &mut [Known; SLOTS]) -> Result<Head> {
+    fn pass(&mut self) -> Result<Head> {
         let mut rest = self.input.copy();
-        let head = pass_entry(&mut rest, self.encoding, self.table, known)?;
+        let head = pass_entry(&mut rest, self.encoding, self.table)?;
         self.go_behind(rest, head);
         Ok(head)
     }
@@ -179,63 +141,69 @@ impl<'t, R: Reader> ReadEntries<R> for EntriesBy<'t, R> {
 
 // Passes the next entry, and keeps its head; where it is refused, the input is left anywhere.
 #[inline(always)]
-fn pass_entry<R: Reader>(
-    input: &mut R,
-    encoding: Encoding,
-    table: GimliTable<'_>,
-    known: &mut [Known; SLOTS],
-) -> Result<Head>
-    requires { All (IsKnown encoding table.specifications.now) known.old }
+fn pass_entry<R: Reader>(input: &mut R, encoding: Encoding, table: GimliTable<'_>) -> Result<Head>
     ensures past { let declared = codes_of (table_in table.entry) in
+        HasSteps table.entry.specifications.now →
         IfOk result (λ head. IsHeadRead R.Offset.limit encoding declared (R.view input.old) head
         (R.view input.new)) }
     ensures refused { let declared = codes_of (table_in table.entry) in
+        HasSteps table.entry.specifications.now →
         IfErr result (λ e. Err e
         ≡ entry_at R.Offset.limit encoding declared (R.view input.old)) }
-    ensures known { All (IsKnown encoding table.entry.specifications.now) known.new }
+    ensures shorter { OnOk result
+        (length (R.view input.new).bytes < length (R.view input.old).bytes) }
+    ensures memory { IfErr result (λ e. e ≡ OutOfMemory → ⊥) }
 {
     let Some(declared) = next_declared(input, table)? else {
         return Ok(Head::null());
     };
-    pass_runs(input, encoding, table.specifications, declared, known)?;
+    pass_steps(
+        input,
+        encoding,
+        declared.attributes_in(table.specifications),
+    )?;
     Ok(head_by(declared))
 }
 
-// Passes what reading the attributes of a declaration's entry reads, with the same refusals; where
-// one is refused, the input is left anywhere. Runs are passed as one each.
+// Passes what reading these attributes reads, with the same refusals, if the steps beside them are
+// theirs; where one is refused, the input is left anywhere. From a step on whose bytes are not
+// there, or which reading may refuse, values are passed one by one.
 #[inline(always)]
-fn pass_runs<R: Reader>(
+fn pass_steps<R: Reader>(
     input: &mut R,
     encoding: Encoding,
     specifications: &[GimliSpecification],
-    declared: &GimliDeclaration,
-    known: &mut [Known; SLOTS],
 ) -> Result<()>
-    requires { All (IsKnown encoding specifications.now) known.old }
-    ensures passed { let told = declared_in specifications.now declared.now in
+    ensures passed { let declared = map specification_in specifications.now in
+        HasSteps specifications.now →
         read_of result (R.view input.new)
-        ≡ left_by (attributes_at R.Offset.limit encoding (map specification_in told)
-        (R.view input.old)) }
-    ensures known { All (IsKnown encoding specifications.now) known.new }
+        ≡ left_by (attributes_at R.Offset.limit encoding declared (R.view input.old)) }
+    ensures shorter { OnOk result
+        (length (R.view input.new).bytes ≤ length (R.view input.old).bytes) }
+    ensures memory { IfErr result (λ e. e ≡ OutOfMemory → ⊥) }
 {
-    let mut from = 0;
-    'runs: loop {
-        let run = look_up(known, encoding, specifications, declared, from);
-        if !Attribute::pass_sized(input, encoding, u64::from(run.size)) {
-            let left = &declared.attributes_in(specifications)[from..];
+    let mut left = specifications;
+    'steps: while let Some((first, _)) = left.split_first() {
+        let step = first.step;
+        let count = count_of(step);
+        if left.len() < count || !Attribute::pass_sized(input, encoding, step.size(encoding)) {
             return pass_values(input, encoding, left);
         }
-        if !run.more {
+        let Some((value, others)) = left[count..].split_first() else {
             return Ok(());
-        }
-        from += usize::from(run.count);
-        pass_value(
-            input,
-            encoding,
-            &declared.attributes_in(specifications)[from],
-        )?;
-        from += 1;
+        };
+        pass_value(input, encoding, value)?;
+        left = others;
     }
+    Ok(())
+}
+
+// How many values a step has.
+#[inline(always)]
+fn count_of(step: Step) -> usize
+    ensures { result ≡ step.values }
+{
+    step.values as usize
 }
 
 // Passes the value of an attribute as it is read; where it is refused, the input stays. (As a
@@ -247,74 +215,6 @@ fn pass_value<R: Reader>(input: &mut R, encoding: Encoding, told: &GimliSpecific
         (attribute_at R.Offset.limit encoding (specification_in told.now) (R.view input.old)) }
 {
     Attribute::pass(input, encoding, &told.specification())
-}
-
-// The first attributes from an index on of a declaration, as a run.
-#[inline(always)]
-fn look_up(
-    known: &mut [Known; SLOTS],
-    encoding: Encoding,
-    specifications: &[GimliSpecification],
-    declared: &GimliDeclaration,
-    from: usize,
-) -> Run
-    requires known { All (IsKnown encoding specifications.now) known.old }
-    requires within { from ≤ length (declared_in specifications.now declared.now) }
-    ensures run { IsRun encoding (drop from (declared_in specifications.now declared.now)) result }
-    ensures known { All (IsKnown encoding specifications.now) known.new }
-{
-    let first = declared.first + from;
-    let left = declared.attributes - from;
-    let slot = first % SLOTS;
-    let found = known[slot];
-    if found.first == first && found.left as usize == left {
-        return found.run;
-    }
-    keep_run(known, encoding, specifications, first, left)
-}
-
-// The run of `left` attributes from an index on, which is kept, if they are fewer than 2^32.
-#[inline(always)]
-fn keep_run(
-    known: &mut [Known; SLOTS],
-    encoding: Encoding,
-    specifications: &[GimliSpecification],
-    first: usize,
-    left: usize,
-) -> Run
-    requires { All (IsKnown encoding specifications.now) known.old }
-    ensures run { IsRun encoding (take left (drop first specifications.now)) result }
-    ensures known { All (IsKnown encoding specifications.now) known.new }
-{
-    let run = run_of(part_of(specifications, first, left), encoding);
-    if let Ok(left) = u32::try_from(left) {
-        known[first % SLOTS] = Known { first, left, run };
-    }
-    run
-}
-
-// The first of these attributes as a run, of at most 64 bytes and 65,535 attributes.
-#[inline(never)]
-fn run_of(specifications: &[GimliSpecification], encoding: Encoding) -> Run
-    ensures { IsRun encoding specifications.now result }
-{
-    let mut run = Run {
-        count: 0,
-        size: 0,
-        more: false,
-    };
-    'each: for told in specifications {
-        let Some(size) = told.specification().size(encoding) else {
-            break;
-        };
-        if size > 64 - run.size || run.count == u16::MAX {
-            break;
-        }
-        run.count += 1;
-        run.size += size;
-    }
-    run.more = usize::from(run.count) < specifications.len();
-    run
 }
 
 // Reads the next entry, and keeps its head, and its attributes in place of those in `numbers`;
@@ -389,27 +289,6 @@ fn next_declared<'t, R: Reader>(
     }
 }
 
-// A taker that lets go what it is handed.
-#[derive(Drop)]
-struct Forget;
-
-impl<R: Reader> TakeAttribute<R> for Forget {
-    type Answer = ();
-
-    ghost Stand = { Unit {0} };
-
-    ghost stand = { λ _ _. tt };
-
-    ghost taken = { λ _ _. tt };
-
-    ghost has_room = { λ _. Unit {0} };
-
-    #[inline(always)]
-    fn take(&mut self, _specification: &AttributeSpecification, _value: AttributeValue<R>)
-        ensures { Unit {0} }
-    {}
-}
-
 // Passes what reading the attributes of these specifications reads, value by value, with the same
 // refusals; where one is refused, the input stays. It is a call that gets a reader of its own, so
 // that the caller's stays in registers.
@@ -442,7 +321,7 @@ fn pass_each<R: Reader>(
 {
     let mut rest = input.copy();
     'each: for told in specifications {
-        Attribute::read_to(&mut rest, encoding, &told.specification(), &mut Forget)?;
+        pass_value(&mut rest, encoding, told)?;
     }
     *input = rest;
     Ok(())

@@ -5,12 +5,12 @@
 //! of the refusal of a unit, of abbreviations or of an offset, and 512 and that of a row.
 #![tactic(auto)]
 
-ghost use Rattle.std.specs.Prelude.{◌≡◌, ◌<◌, ◌^◌, ℕ, take};
+ghost use Rattle.std.specs.Prelude.{◌≡◌, ◌<◌, ◌^◌, ℕ, take, length};
 ghost use Rattle.gimli_base.specs.Table.{codes_of};
 ghost use Rattle.gimli_c.specs.Units.{units_view, abbreviations_view, unit_told, section_unit};
 ghost use Rattle.gimli_c.specs.Tables.{table_in, table_of, rows_by, IsTableAt, HasTableAt, Serves};
-ghost use Rattle.gimli_c.specs.Tables.{NoTableRefused};
-ghost use Rattle.gimli_c.specs.Fronts.{section_rows, ToldRows, Resumes};
+ghost use Rattle.gimli_c.specs.Tables.{HasSteps, NoTableRefused};
+ghost use Rattle.gimli_c.specs.Fronts.{section_rows, ToldRows, ToldRowsIf, Resumes, WritesFirst};
 ghost use Rattle.gimli_c.specs.Entries.{AreTold};
 ghost use Rattle.gimli_c.specs.Status.{more, end, memory_refused, row_memory_refused};
 ghost use Rattle.gimli_c.specs.Status.{UnlessRefused};
@@ -167,6 +167,8 @@ pub extern "C" fn gimli_table(
         → abbreviations_view s ≡ abbreviations_view sections.now
         → (unit : ℕ) → HasTableAt offset (section_unit s unit)
         → Serves s unit (table_of ds ss) }
+    ensures steps { result ≡ end
+        → HasSteps (take counted.new.specifications specifications.new) }
 {
     let offset = offset as usize;
     let abbreviations = sections.abbreviations;
@@ -191,9 +193,12 @@ pub extern "C" fn gimli_table(
     told.status
 }
 
-/// The same as `gimli_rows` by a table in the caller's buffers, whatever it holds: the rows are
-/// those that its declarations give. Those that `gimli_table` wrote and counted give the unit's
-/// own. Of the sections only `units` is read, and no memory is asked for: status 280 does not come.
+/// The same as `gimli_rows` by a table in the caller's buffers: the rows are those that its
+/// declarations give, if the steps of its attributes are theirs, as where `gimli_table` wrote them.
+/// Those that it wrote and counted give the unit's own. Whatever the table holds, `count` is at
+/// most the room for rows, and the rows after the first `count` stay as they were; with status 0 and
+/// some room, the place is a later one. Of the sections only `units` is read, and no memory is asked
+/// for: statuses 280 and 536 do not come.
 #[unsafe(no_mangle)]
 pub extern "C" fn gimli_rows_by(
     sections: &GimliSections<'_>,
@@ -204,9 +209,14 @@ pub extern "C" fn gimli_rows_by(
     count: &mut usize,
 ) -> u32
     ensures told { let ahead = rows_by sections.now unit (table_in table.now) in
-        ToldRows (ahead place.old) place.old rows.old place.new rows.new count.new result }
+        ToldRowsIf (HasSteps table.now.specifications.now) (ahead place.old) place.old rows.old
+        place.new rows.new count.new result }
     ensures resumes { let ahead = rows_by sections.now unit (table_in table.now) in
+        HasSteps table.now.specifications.now →
         Resumes (ahead place.old) count.new (ahead place.new) }
+    ensures first { WritesFirst rows.old rows.new count.new }
+    ensures further { result ≡ more → 0 < length rows.old → place.old.offset < place.new.offset }
+    ensures row_memory { result ≡ row_memory_refused → ⊥ }
     ensures memory { NoTableRefused (section_unit sections.now unit) result }
 {
     let unit = unit as usize;

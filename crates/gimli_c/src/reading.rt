@@ -1,7 +1,7 @@
 //! Entries that are read one after the other, each into what a row tells of it.
 
 ghost use Rattle.std.specs.Prelude.{◌≡◌, ◌≢◌, ◌↔◌, true, [], map, length};
-ghost use Rattle.std.specs.Prelude.{IsTrue, IsOk, IfOk, IfErr, OnErr};
+ghost use Rattle.std.specs.Prelude.{IsTrue, IsOk, IfOk, IfErr, OnOk, OnErr};
 ghost use Rattle.gimli_base.specs.Table.{codes_of};
 ghost use Rattle.gimli_base.specs.Reading.{read_of, answer_leaving, map_read, UnlessMemory};
 ghost use Rattle.gimli_units.specs.Entry.{attributes_at, abbreviation_at, entry_at, takes_memory};
@@ -9,6 +9,7 @@ ghost use Rattle.gimli_units.specs.RawPlace.{RawPlace, next_offset_of};
 ghost use Rattle.gimli_base.specs.declared.error.Error.TheVariants.{OutOfMemory};
 ghost use Rattle.gimli_c.specs.Attrs.{attr_of};
 ghost use Rattle.gimli_c.specs.Heads.{null_head, declared_head, IsReadPast, IsReadWith, AsksMemory};
+ghost use Rattle.gimli_c.specs.Heads.{GoesOn};
 
 use crate::attrs::Numbers;
 use gimli_base::{Abbreviation, AttributeSpecification, Reader, ReaderOffset, Result};
@@ -39,19 +40,11 @@ impl Head {
 ///
 /// A refused call leaves it as it was.
 pub(crate) trait ReadEntries<R: Reader> {
-    /// What it remembers of declarations that it has met. It stands beside the reader, and not in
-    /// it: what is indexed is kept in memory, and all that lies in one struct with it.
-    type Memo: Copy;
-
     // where it stands
     ghost place: { Self → RawPlace };
 
-    // what is remembered is right
-    ghost remembers: { Self → Self.Memo → Type 0 };
-
-    /// Nothing is remembered.
-    fn no_memo() -> Self::Memo
-        ensures { (e : Self) → remembers e result };
+    // the steps of its table are those of the attributes
+    ghost has_steps: { Self → Type 0 };
 
     /// Whether no byte is left.
     fn is_empty(&self) -> bool
@@ -66,15 +59,17 @@ pub(crate) trait ReadEntries<R: Reader> {
         ensures { result ≡ (place self.now).depth };
 
     /// Reads on past the next entry, and keeps its head alone. Refused as reading the entry is.
-    fn pass(&mut self, memo: &mut Self::Memo) -> Result<Head>
-        requires { remembers self.old memo.old }
-        ensures past { IfOk result
+    /// Where the steps of its table are not those of the attributes, it goes on anywhere.
+    fn pass(&mut self) -> Result<Head>
+        ensures past { has_steps self.old → IfOk result
             (λ head. IsReadPast R.Offset.limit (place self.old) head (place self.new)) }
-        ensures refused { let p = place self.old in
+        ensures refused { let p = place self.old in has_steps self.old →
             IfErr result (λ e. Err e
             ≡ entry_at R.Offset.limit p.encoding (codes_of p.abbreviations) p.rest) }
+        ensures further { OnOk result (GoesOn (place self.old) (place self.new)) }
+        ensures memory { IfErr result (λ e. e ≡ OutOfMemory → ⊥) }
         ensures kept { OnErr result (place self.new ≡ place self.old) }
-        ensures remembered { remembers self.new memo.new };
+        ensures steps { has_steps self.old → has_steps self.new };
 
     /// Reads the next entry, and keeps its head, and its attributes in place of those in `numbers`.
     /// Refused as reading the entry is; or for memory, only where its declaration has attributes.
@@ -94,14 +89,9 @@ pub(crate) trait ReadEntries<R: Reader> {
 }
 
 impl<'abbrev, R: Reader, B: Allocator> ReadEntries<R> for EntriesRaw<'abbrev, R, B> {
-    type Memo = ();
-
     ghost place = { λ e. e };
 
-    ghost remembers = { λ _ _. Unit {0} };
-
-    #[inline(always)]
-    fn no_memo() {}
+    ghost has_steps = { λ _. Unit {0} };
 
     #[inline(always)]
     fn is_empty(&self) -> bool {
@@ -119,7 +109,7 @@ impl<'abbrev, R: Reader, B: Allocator> ReadEntries<R> for EntriesRaw<'abbrev, R,
     }
 
     #[inline(always)]
-    fn pass(&mut self, _memo: &mut ()) -> Result<Head> {
+    fn pass(&mut self) -> Result<Head> {
         pass_entry(self)
     }
 

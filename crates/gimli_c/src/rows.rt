@@ -1,6 +1,7 @@
 //! Rows, filled into what the caller hands over.
 
 ghost use Rattle.std.specs.Prelude.{◌≡◌, ◌+◌, ◌-◌, ◌<◌, ◌≤◌, ◌^◌, ◌+ℤ◌, length, unsigned_abs};
+ghost use Rattle.std.specs.Prelude.{IfOk};
 ghost use Rattle.gimli_base.specs.Table.{Table, codes_of};
 ghost use Rattle.gimli_units.specs.RawPlace.{next_offset_of};
 ghost use Rattle.gimli_units.specs.Unit.{whole_length};
@@ -8,10 +9,10 @@ ghost use Rattle.gimli_units.specs.UnitHeld.{unit_view};
 ghost use Rattle.gimli_headers.specs.Units.{header_at};
 ghost use Rattle.gimli_c.specs.Units.{section_id};
 ghost use Rattle.gimli_c.specs.Heads.{IsOpened};
-ghost use Rattle.gimli_c.specs.Status.{memory_refused};
-ghost use Rattle.gimli_c.specs.Tables.{table_in, read_by, NoTableRefused};
-ghost use Rattle.gimli_c.specs.Fronts.{at, ahead_of, unit_ahead, rows_ahead, Filled, ToldRows};
-ghost use Rattle.gimli_c.specs.Fronts.{Resumes};
+ghost use Rattle.gimli_c.specs.Status.{more, memory_refused, row_memory_refused};
+ghost use Rattle.gimli_c.specs.Tables.{table_in, read_by, HasSteps, NoTableRefused};
+ghost use Rattle.gimli_c.specs.Fronts.{at, ahead_of, unit_ahead, rows_ahead, Filled, ToldRows, ToldRowsIf};
+ghost use Rattle.gimli_c.specs.Fronts.{Resumes, WritesFirst};
 ghost use Rattle.gimli_c.specs.Memory.{TableMemory};
 
 use crate::by_table::entries_by;
@@ -92,7 +93,7 @@ pub(crate) fn read_rows<R: Reader, A: Allocator + Copy>(
     }
 }
 
-/// The same by a table in the caller's buffers.
+/// The same by a table in the caller's buffers, if its steps are those of its attributes.
 pub(crate) fn read_rows_by<R: Reader>(
     sections: &UnitSections<R>,
     unit: R::Offset,
@@ -105,12 +106,18 @@ pub(crate) fn read_rows_by<R: Reader>(
         let u = header_at R.Offset.limit (section_id sections.now.types) (R.Offset.number unit)
         (R.view sections.now.units) in
         let ahead = read_by R.Offset.limit u (table_in table.entry) in
-        ToldRows (ahead place) place rows.old result.place rows.new result.count result.status }
+        ToldRowsIf (HasSteps table.entry.specifications.now) (ahead place) place rows.old
+        result.place rows.new result.count result.status }
     ensures resumes { let place = at (R.Offset.number offset) depth in
         let u = header_at R.Offset.limit (section_id sections.now.types) (R.Offset.number unit)
         (R.view sections.now.units) in
         let ahead = read_by R.Offset.limit u (table_in table.entry) in
+        HasSteps table.entry.specifications.now →
         Resumes (ahead place) result.count (ahead result.place) }
+    ensures first { WritesFirst rows.old rows.new result.count }
+    ensures further { result.status ≡ more → 0 < length rows.old
+        → R.Offset.number offset < result.place.offset }
+    ensures row_memory { result.status ≡ row_memory_refused → ⊥ }
     ensures memory { let id = section_id sections.now.types in
         let u = header_at R.Offset.limit id (R.Offset.number unit) (R.view sections.now.units) in
         NoTableRefused u result.status }
@@ -151,9 +158,13 @@ fn unit_rows<R: Reader, T: ReadEntries<R> + Drop>(
     ensures told { let u = unit_view unit.now in let number = R.Offset.number offset in
         let place = at number depth in
         (t : Table) → IsOpened T.place u t number opened
-        → ToldRows (unit_ahead R.Offset.limit u (codes_of t) place) place rows.old result.place
-        rows.new result.count result.status }
+        → ToldRowsIf (IfOk opened T.has_steps) (unit_ahead R.Offset.limit u (codes_of t) place)
+        place rows.old result.place rows.new result.count result.status }
+    ensures first { WritesFirst rows.old rows.new result.count }
+    ensures further { result.status ≡ more → 0 < length rows.old
+        → R.Offset.number offset < result.place.offset }
     ensures memory { result.status ≡ memory_refused → ⊥ }
+    ensures row_memory { result.status ≡ row_memory_refused → ⊥ }
 {
     let whole = unit.length_including_self().into_u64();
     let start = offset.into_u64();
@@ -178,17 +189,22 @@ fn fill_rows<R: Reader, T: ReadEntries<R>>(
     base: isize,
     rows: &mut [GimliRow],
 ) -> Told
-    requires { let p = T.place entries.old in
+    requires fits { let p = T.place entries.old in
         unsigned_abs base + unsigned_abs p.depth + length p.rest.bytes < 2 ^ 63 }
+    requires within { let p = T.place entries.old in length p.rest.bytes ≤ p.end }
     ensures told { let ahead = ahead_of R.Offset.limit base (T.place entries.old) in
+        T.has_steps entries.old →
         Filled ahead rows.old result.place rows.new result.count result.status }
+    ensures first { WritesFirst rows.old rows.new result.count }
+    ensures further { result.status ≡ more → 0 < length rows.old
+        → next_offset_of (T.place entries.old) < result.place.offset }
     ensures memory { result.status ≡ memory_refused → ⊥ }
+    ensures row_memory { result.status ≡ row_memory_refused → ⊥ }
 {
-    let mut memo = T::no_memo();
     let mut count = 0;
     'rows: while count < rows.len() && !entries.is_empty() {
         let place = place_of(entries, base);
-        match entries.pass(&mut memo) {
+        match entries.pass() {
             Ok(head) => {
                 rows[count] = GimliRow {
                     offset: place.offset,

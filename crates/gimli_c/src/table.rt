@@ -1,6 +1,6 @@
 //! Tables of abbreviations in a caller's buffers.
 
-ghost use Rattle.std.specs.Prelude.{◌≡◌, ◌+◌, ◌<◌, ◌^◌, length, [], take, drop, IfOk, IfErr};
+ghost use Rattle.std.specs.Prelude.{◌≡◌, ◌+◌, ◌<◌, ◌^◌, length, map, [], take, drop, IfOk, IfErr};
 ghost use Rattle.std.specs.Option.{option_map};
 ghost use Rattle.gimli_base.specs.Offset.{answer_of};
 ghost use Rattle.gimli_base.specs.Reading.{read_of};
@@ -9,11 +9,12 @@ ghost use Rattle.gimli_base.specs.Abbreviations.{declaration_at, declarations_at
 ghost use Rattle.gimli_c.specs.Tables.{specification_in, declared_in, count_of, have_room, IsTableAt};
 ghost use Rattle.gimli_c.specs.Lists.{section_view};
 ghost use Rattle.gimli_c.specs.TableReads.{WroteDeclared, ReadNext, IsScanned};
+ghost use Rattle.gimli_c.specs.TableReads.{OwnSteps};
 
 use crate::status::{END, MORE, UNORDERED, refusal_status};
 use gimli_base::{
     AttributeSpecification, DW_FORM_implicit_const, DebugAbbrev, DwAt, DwForm, EndianSlice,
-    Endianity, Error, Reader, Result, Section,
+    Endianity, Error, Reader, Result, Section, Step,
 };
 
 /// A declaration of a table of abbreviations.
@@ -43,6 +44,8 @@ pub struct GimliSpecification {
     pub name: u16,
     /// The form.
     pub form: u16,
+    /// So many values from its own on are passed together; with no values it tells nothing.
+    pub step: Step,
 }
 
 /// A table of abbreviations: the declarations of the codes 1, 2, .., and their attributes.
@@ -263,7 +266,30 @@ fn read_specifications<R: Reader>(
         }
         at += 1;
     }
+    if at <= specifications.len() {
+        put_steps(&mut specifications[from..at]);
+    }
     Ok(at - from)
+}
+
+// Puts the steps of all attributes of a declaration: each has as many values as there is room for.
+fn put_steps(specifications: &mut [GimliSpecification])
+    ensures steps { OwnSteps specifications.new }
+    ensures same { map specification_in specifications.new
+        ≡ map specification_in specifications.old }
+    ensures long { length specifications.new ≡ length specifications.old }
+{
+    let mut step = Step::new();
+    let mut index = specifications.len();
+    'each: while index > 0 {
+        index -= 1;
+        let specification = specifications[index].specification();
+        if !step.push(&specification, true) {
+            step = Step::new();
+            let _ = step.push(&specification, true);
+        }
+        specifications[index].step = step;
+    }
 }
 
 // The next declared attribute, or none where two zeros end the list; where it is refused, the input
@@ -288,5 +314,6 @@ fn read_specification<R: Reader>(input: &mut R) -> Result<Option<GimliSpecificat
         constant,
         name,
         form,
+        step: Step::new(),
     }))
 }

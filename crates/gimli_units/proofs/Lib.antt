@@ -17,7 +17,7 @@ pub mod Seeking
 pub mod Walking
 pub mod Splits
 pub mod Jumps
-mod Memory
+pub mod Memory
 pub mod TreeSteps
 mod PassPlaces
 mod SkipTurns

@@ -31,7 +31,7 @@ use Rattle.gimli_units.specs.Form.{form_within, form_at, declared_number, value_
 use Rattle.gimli_units.specs.Entry.{with_value, attribute_at, attributes_at, abbreviation_at}
 use Rattle.gimli_units.specs.Entry.{content_at, entry_at, entry_of_declared, null_entry}
 
-abbreviation_at-never : (declared : Map) (v : View) → Never (abbreviation_at declared v)
+pub abbreviation_at-never : (declared : Map) (v : View) → Never (abbreviation_at declared v)
 unfolding abbreviation_at
 abbreviation_at-never declared v = never_then (uleb_at v) _ (uleb_at-never v)
     (λ code. never_if (code.0 == 0) (Ok (None, code.1)) _ (never_ok (None, code.1))
@@ -177,7 +177,7 @@ form_within-never (suc n) form v =
     (never_then (uleb16_at v) _ (uleb16_at-never v) (λ p. form_within-never n p.0 p.1))
     (never_ok (form, v))
 
-attribute_at-never : (limit : ℕ) (e : Encoding) (s : Specification) (v : View)
+pub attribute_at-never : (limit : ℕ) (e : Encoding) (s : Specification) (v : View)
     → Never (attribute_at limit e s v)
 unfolding attribute_at value_at form_at
 attribute_at-never limit e s v =
@@ -186,7 +186,7 @@ attribute_at-never limit e s v =
     (λ p. direct_at-never limit e s.name.0 (declared_number s.form.0 s.constant) p.1 p.0))
     (λ q. never_ok (with_value s q.0, q.1))
 
-attributes_at-never : (limit : ℕ) (e : Encoding) (ss : List Specification) (v : View)
+pub attributes_at-never : (limit : ℕ) (e : Encoding) (ss : List Specification) (v : View)
     → Never (attributes_at limit e ss v)
 unfolding attributes_at
 attributes_at-never limit e [] v = never_ok ([], v)

@@ -247,8 +247,8 @@ pub(crate) fn pass_declared<R: Reader, A: Allocator>(
         ≡ left_by
         (attributes_at R.Offset.limit encoding declared.now.attributes (R.view input.old)) }
 {
-    if let Some(size) = declared.size(encoding)
-        && pass_sized(input, encoding, size)
+    if let Some(step) = declared.whole_step()
+        && pass_sized(input, encoding, step.size(encoding))
     {
         return Ok(());
     }

@@ -37,16 +37,8 @@ const FORMS: [(u8, Widths); 6] = [
     (0x0f, [None; 4]),
 ];
 
-// The sizes of a declaration's attributes together, if each is known.
-fn sum_of(declared: &Abbreviation<Global>, encoding: Encoding) -> Option<u64> {
-    let mut sum = 0u64;
-    for specification in declared.attributes() {
-        sum = sum.saturating_add(u64::from(specification.size(encoding)?));
-    }
-    Some(sum)
-}
-
-// The same by its steps and the values between them.
+// The sizes of a declaration's attributes together, by its steps and the values between them, if
+// each is known.
 fn sum_by_steps(declared: &Abbreviation<Global>, encoding: Encoding) -> Option<u64> {
     let mut sum = 0u64;
     let mut left = declared.attributes();
@@ -68,9 +60,10 @@ fn tries_sizes(rt: &impl Abort, table: &Table, widths: Widths, times: u32) {
         let mut given = encoding(version, address_size);
         given.format = format;
         let size = width.map(|width| width.saturating_mul(u64::from(times)));
-        assert_eq!(rt; sum_of(declared, given), size);
+        assert_eq!(rt; declared.attributes_size(given), size);
         assert_eq!(rt; sum_by_steps(declared, given), size);
-        assert!(rt; declared.size(given) == size || declared.steps().len() > 2);
+        let whole = declared.whole_step().map(|step| step.size(given));
+        assert!(rt; whole == size || declared.steps().len() > 1);
     }
 }
 
@@ -91,5 +84,33 @@ fn many_attributes_have_the_sum_of_their_sizes(rt: HostRuntime) -> Result<(), Fa
             tries_sizes(&rt, &table, widths, count);
         }
     }
+    Ok(())
+}
+
+// Two bytes, a sibling of four and an address.
+const WITH_SIBLING: &[u8; 6] = b"\x3a\x05\x01\x13\x11\x01";
+
+#[test]
+fn sibling_of_known_size_is_between_two_steps(rt: HostRuntime) -> Result<(), Fail> {
+    for count in [1, 2] {
+        let table = table_with(rt.alloc(), 0, WITH_SIBLING, count)?;
+        tries_sizes(&rt, &table, [Some(10), Some(14), Some(14), Some(10)], count);
+        let declared = table.get(1).expect(&rt, "declared");
+        assert_eq!(rt; declared.steps().len(), 2);
+        assert_eq!(rt;
+            declared.whole_step().map(|step| step.values),
+            Some(3 * count)
+        );
+    }
+    Ok(())
+}
+
+#[test]
+fn sibling_of_unknown_size_is_in_no_step(rt: HostRuntime) -> Result<(), Fail> {
+    let table = table_with(rt.alloc(), 0, b"\x3a\x05\x01\x15\x11\x01", 1)?;
+    tries_sizes(&rt, &table, [None; 4], 1);
+    let declared = table.get(1).expect(&rt, "declared");
+    assert_eq!(rt; declared.steps().len(), 2);
+    assert!(rt; declared.whole_step().is_none());
     Ok(())
 }

@@ -6,7 +6,10 @@ use Rattle.gimli_c.proofs.by_table.entries_by.Goals as goal
 pub returns-in_err-input : goal.returns-in_err-input
 returns-in_err-input g c =
     let r : c.from_residual.result ≡ Err c.in_err-input.field-0.0 = search rules in
-    rw r (unranged (unit_view c.args.unit.now) _ _ _ c.in_err-input.ensures)
+    rw r (record {
+      opened = unranged (unit_view c.args.unit.now) _ _ _ c.in_err-input.ensures;
+      steps = λ _. tt;
+    })
 
 pub invariant_of-result : goal.invariant_of-result
 invariant_of-result g c =
@@ -19,5 +22,7 @@ invariant_of-result g c =
 
 pub returns : goal.returns
 returns g c =
-    rw (c.encoding.ensures, c.length_including_self.ensures)
-    (opened_by (unit_view c.args.unit.now) _ _ _ c.in_ok-input.ensures)
+    rw (c.encoding.ensures, c.length_including_self.ensures) (record {
+      opened = opened_by (unit_view c.args.unit.now) _ _ _ c.in_ok-input.ensures;
+      steps = λ given. given;
+    })

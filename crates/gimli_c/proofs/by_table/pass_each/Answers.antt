@@ -1,22 +1,22 @@
-use Rattle.std.proofs.Common.{rules, arith}
+use Rattle.std.proofs.Common.{rules, arith, refl}
 use Rattle.std.proofs.lemmas.List.{length-map}
 use Rattle.gimli_units.proofs.ReadTurns.{turn_refused, turn_passed, turn_end}
 use Rattle.gimli_c.specs.Tables.{specification_in}
 use Rattle.gimli_c.proofs.ByTable.{item_in}
 use Rattle.gimli_c.proofs.by_table.pass_each.Goals as goal
 
-pub returns-in_err-read_to : goal.returns-in_err-read_to
-returns-in_err-read_to g c =
-    let item = item_in _ _ _ _ c.each-test.true c.specification.ensures in
+pub returns-in_err-pass_value : goal.returns-in_err-pass_value
+returns-in_err-pass_value g c =
+    let item = item_in _ _ _ _ c.each-test.true refl in
     let refused = turn_refused _ _ _ _ _ _ c.each.invariant _ _ item.0 item.1
-    c.in_err-read_to.ensures.value in
+    c.in_err-pass_value.ensures in
     search rules
 
 pub each-preserved : goal.each-preserved
 each-preserved g c =
-    let item = item_in _ _ _ _ c.each-test.true c.specification.ensures in
+    let item = item_in _ _ _ _ c.each-test.true refl in
     turn_passed _ _ _ _ _ _ c.each.invariant _ _ _ item.0 item.1
-    c.in_ok-read_to.ensures.value
+    c.in_ok-pass_value.ensures
 
 pub returns : goal.returns
 returns g c =

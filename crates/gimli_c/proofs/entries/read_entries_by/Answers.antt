@@ -17,7 +17,7 @@ returns-in-Ok-clause-resumes g c =
     let u = unit_view c.in-Ok.header in
     let codes = codes_of (table_in c.args.table) in
     let told = rw back at c.unit_entries.ensures.told (table_in c.args.table)
-    c.entries_by-opened.ensures in
+    c.entries_by-opened.ensures.opened in
     rw (← c.in-Ok.ensures)
     (unit_resumes limit u codes c.in-Ok.header.entries_fit (at number c.args.depth)
     c.unit_entries.result.place c.unit_entries.result.filled.rows
@@ -30,7 +30,7 @@ pub returns-in-Ok-clause-row_memory : goal.returns-in-Ok-clause-row_memory
 unfolding range_from
 returns-in-Ok-clause-row_memory g c =
     rw (← c.in-Ok.ensures)
-    (c.unit_entries.ensures.row_memory (table_in c.args.table) c.entries_by-opened.ensures)
+    (c.unit_entries.ensures.row_memory (table_in c.args.table) c.entries_by-opened.ensures.opened)
 
 pub returns-in-Err-clause-row_memory : goal.returns-in-Err-clause-row_memory
 returns-in-Err-clause-row_memory g c =

@@ -4,8 +4,9 @@ use Rattle.gimli_base.specs.Abbreviations.{map_at}
 use Rattle.gimli_units.specs.UnitHeld.{unit_view}
 use Rattle.gimli_c.specs.Fronts.{at, unit_ahead}
 use Rattle.gimli_base.specs.Table.{codes_of}
-use Rattle.gimli_c.proofs.Bounds.{told_undeclared}
+use Rattle.gimli_c.proofs.Bounds.{told_undeclared, told_given}
 use Rattle.gimli_c.proofs.Heads.{same_answer}
+use Rattle.gimli_c.proofs.Shorter.{no_steps}
 use Rattle.gimli_c.proofs.Memory.{table_takes}
 use Rattle.gimli_c.proofs.Resume.{unit_resumes, moved_rows}
 use Rattle.gimli_c.proofs.rows.read_rows.Goals as goal
@@ -32,7 +33,9 @@ returns-in-Ok-abbreviations-clause-resumes g c =
     let back : to_z w64 (of_z w64 c.args.depth) ≡ c.args.depth = to_z-of_z w64 _ c.ranges.depth in
     let number = g.R.Offset.ReaderOffset.number c.args.offset in
     let table = c.in-Ok-abbreviations.table in
-    let told = rw back at c.unit_rows.ensures.told table (same_answer c.entries_raw-opened.ensures) in
+    let told = told_given _ _ _ _ _ _ _ _
+    (rw back at c.unit_rows.ensures.told table (same_answer c.entries_raw-opened.ensures))
+    (no_steps c.entries_raw-opened.result) in
     rw (← c.in-Ok.ensures, ← c.in-Ok-abbreviations.ensures.value)
     (unit_resumes g.R.Offset.ReaderOffset.limit (unit_view c.in-Ok.header)
     (codes_of c.in-Ok-abbreviations.table) c.in-Ok.header.entries_fit (at number c.args.depth)
@@ -47,7 +50,9 @@ returns-in-Ok-abbreviations-clause-told g c =
     let back : to_z w64 (of_z w64 c.args.depth) ≡ c.args.depth = to_z-of_z w64 _ c.ranges.depth in
     let table = c.in-Ok-abbreviations.table in
     rw (← c.in-Ok.ensures, ← c.in-Ok-abbreviations.ensures.value)
+    (told_given _ _ _ _ _ _ _ _
     (rw back at c.unit_rows.ensures.told table (same_answer c.entries_raw-opened.ensures))
+    (no_steps c.entries_raw-opened.result))
 
 pub returns-clause-memory : goal.returns-clause-memory
 returns-clause-memory g c =

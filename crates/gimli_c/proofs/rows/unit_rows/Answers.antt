@@ -4,9 +4,10 @@ use Rattle.std.proofs.lemmas.Int.{to_z-of_z}
 use Rattle.gimli_units.specs.Unit.{whole_length}
 use Rattle.gimli_units.specs.RawPlace.{RawPlace}
 use Rattle.gimli_units.specs.UnitHeld.{unit_view}
-use Rattle.gimli_c.specs.Fronts.{at}
+use Rattle.std.specs.Prelude.{IfOk}
+use Rattle.gimli_c.specs.Fronts.{at, ahead_of, Filled}
 use Rattle.gimli_c.proofs.Bounds.{unread_bounds, read_bounds, below_end, bytes_left, told_ended, told_outside}
-use Rattle.gimli_c.proofs.Bounds.{told_deep, told_filled}
+use Rattle.gimli_c.proofs.Bounds.{told_deep, told_filled, told_any}
 use Rattle.gimli_c.proofs.rows.unit_rows.Goals.{then-left-via-then-left}
 use Rattle.gimli_c.proofs.rows.unit_rows.Goals.{then-left-via-else-left+then-steps-left}
 use Rattle.gimli_c.proofs.rows.unit_rows.Goals as goal
@@ -19,8 +20,8 @@ returns-then-start-whole-clause-told g c = λ t opened.
     sym c.into_u64-start.ensures.value ∙ c.if-start-whole.true ∙ c.into_u64-whole.ensures.value
     ∙ c.length_including_self.ensures in
     rw (c.no_rows.ensures, back)
-    (told_ended g.R.Offset.ReaderOffset.limit (unit_view c.args.unit.now) t
-    (at number c.args.depth) c.args.rows.now c.args.unit.now.entries_fit here)
+    (told_any _ _ _ _ _ _ _ _ (told_ended g.R.Offset.ReaderOffset.limit (unit_view c.args.unit.now) t
+    (at number c.args.depth) c.args.rows.now c.args.unit.now.entries_fit here))
 
 pub returns-in-Err-clause-told : goal.returns-in-Err-clause-told
 returns-in-Err-clause-told g c = λ t opened.
@@ -31,8 +32,8 @@ returns-in-Err-clause-told g c = λ t opened.
     λ h. c.if-start-whole.false (c.into_u64-start.ensures.value ∙ h
     ∙ sym (c.into_u64-whole.ensures.value ∙ c.length_including_self.ensures)) in
     rw (c.no_rows-in-Err.ensures, c.refusal_status.ensures, back)
-    (told_outside g.R.Offset.ReaderOffset.limit (unit_view c.args.unit.now) t
-    (at number c.args.depth) c.args.rows.now apart c.in-Err.error no)
+    (told_any _ _ _ _ _ _ _ _ (told_outside g.R.Offset.ReaderOffset.limit (unit_view c.args.unit.now) t
+    (at number c.args.depth) c.args.rows.now apart c.in-Err.error no))
 
 pub overflow_sub-left : goal.overflow_sub-left
 overflow_sub-left g c =
@@ -78,11 +79,11 @@ returns-then-left-clause-told g c = λ t opened.
       )
     ] in
     rw (c.no_rows-then-left.ensures, back)
-    (told_deep g.R.Offset.ReaderOffset.limit (unit_view c.args.unit.now) t
-    (at number c.args.depth) c.args.rows.now apart p is deep)
+    (told_any _ _ _ _ _ _ _ _ (told_deep g.R.Offset.ReaderOffset.limit (unit_view c.args.unit.now) t
+    (at number c.args.depth) c.args.rows.now apart p is deep))
 
-pub fill_rows-requires : goal.fill_rows-requires
-fill_rows-requires g c =
+pub fill_rows-requires-clause-fits : goal.fill_rows-requires-clause-fits
+fill_rows-requires-clause-fits g c =
     let t = c.requires.0 in
     let p = g.T.ReadEntries.place c.in-Ok.entries in
     let is = rw c.in-Ok.is at c.requires.1 in
@@ -112,6 +113,17 @@ fill_rows-requires g c =
       none,
     ))
 
+pub fill_rows-requires-clause-within : goal.fill_rows-requires-clause-within
+fill_rows-requires-clause-within g c =
+    let p = g.T.ReadEntries.place c.in-Ok.entries in
+    let is = rw c.in-Ok.is at c.requires.1 in
+    let number = g.R.Offset.ReaderOffset.number c.args.offset in
+    let yes = read_bounds (unit_view c.args.unit.now) c.requires.0 number p is in
+    let bytes = ap (λ (p : RawPlace). length p.rest.bytes) yes.1 ∙ bytes_left
+    (unit_view c.args.unit.now) number c.args.unit.now.entries_fit yes.0 in
+    let end = ap (λ (p : RawPlace). p.end) yes.1 in
+    omega (arith, bytes, end)
+
 pub returns-clause-told : goal.returns-clause-told
 returns-clause-told g c = λ t opened.
     let p = g.T.ReadEntries.place c.in-Ok.entries in
@@ -129,9 +141,13 @@ returns-clause-told g c = λ t opened.
     let shallow : unsigned_abs c.args.depth + (whole_length (unit_view c.args.unit.now) - number)
     < 2 ^ 63 =
     omega (arith, c.if-left.false, c.if-steps-left.false, start, whole, steps) in
-    let f = rw back at c.fill_rows.ensures.told in
+    let f : IfOk c.args.opened g.T.ReadEntries.has_steps
+    → Filled (ahead_of g.R.Offset.ReaderOffset.limit c.args.depth p) c.args.rows.now
+    c.fill_rows.result.place c.fill_rows.new.rows c.fill_rows.result.count
+    c.fill_rows.result.status =
+    λ given. rw back at (c.fill_rows.ensures.told (rw c.in-Ok.is at given)) in
     told_filled g.R.Offset.ReaderOffset.limit (unit_view c.args.unit.now) t
-    (at number c.args.depth) c.args.rows.now apart p c.fill_rows.result.place
+    (at number c.args.depth) c.args.rows.now apart _ p c.fill_rows.result.place
     c.fill_rows.new.rows c.fill_rows.result.count c.fill_rows.result.status
     is shallow f
 
@@ -141,3 +157,16 @@ returns-in-Err-clause-memory g c =
     let no = rw c.in-Err.is at c.requires.1 in
     let e = (unread_bounds (unit_view c.args.unit.now) c.requires.0 number c.in-Err.error no).1 in
     rw (c.no_rows-in-Err.ensures, c.refusal_status.ensures, e) (λ is. absurd (omega (arith, is)))
+
+pub returns-clause-further : goal.returns-clause-further
+returns-clause-further g c = λ more_left some.
+    let p = g.T.ReadEntries.place c.in-Ok.entries in
+    let is = rw c.in-Ok.is at c.requires.1 in
+    let number = g.R.Offset.ReaderOffset.number c.args.offset in
+    let yes = read_bounds (unit_view c.args.unit.now) c.requires.0 number p is in
+    let bytes = ap (λ (p : RawPlace). length p.rest.bytes) yes.1 ∙ bytes_left
+    (unit_view c.args.unit.now) number c.args.unit.now.entries_fit yes.0 in
+    let end = ap (λ (p : RawPlace). p.end) yes.1 in
+    let below = below_end (unit_view c.args.unit.now) number yes.0 in
+    let further = c.fill_rows.ensures.further more_left some in
+    omega (arith, bytes, end, below.1, further)

@@ -80,4 +80,5 @@ returns-clause-read g c =
           ∙ ap (λ (f : ℕ). told (length ss) f) flag;
       takes = omega (arith, r.takes, less);
       behind = r.behind;
+      steps = r.steps;
     }

@@ -1,13 +1,16 @@
-use Rattle.std.proofs.Common.{◌≡◌, ◌+◌, ◌<◌, ◌≤◌, rules, ap, sym, arith, [], ◌∷◌, ◌++◌}
+use Rattle.std.proofs.Common.{◌≡◌, ◌+◌, ◌-◌, ◌<◌, ◌≤◌, rules, ap, sym, arith, [], ◌∷◌, ◌++◌}
 use Rattle.std.proofs.Common.{length, length-append, refl}
 use Rattle.gimli_base.specs.Abbreviations.{specifications_at}
 use Rattle.gimli_base.specs.Items.{all_items}
 use Rattle.gimli_base.proofs.ItemTurns.{items_begin, items_more, items_refused, items_end}
 use Rattle.gimli_base.proofs.AbbreviationReads.{specification_at-shorter}
 use Rattle.gimli_c.specs.Tables.{specification_in}
-use Rattle.gimli_c.proofs.TableFront.{behind_none, behind_more, behind_counted}
+use Rattle.gimli_c.specs.TableReads.{AreBehind, HaveSteps}
+use Rattle.gimli_c.proofs.TableFront.{behind_none, behind_more, behind_counted, behind_put}
+use Rattle.gimli_c.proofs.TableFront.{steps_put, steps_left}
 use Rattle.gimli_c.proofs.table.read_specifications.Goals.{then-at-specifications}
 use Rattle.gimli_c.proofs.table.read_specifications.Goals.{else-at-specifications}
+use Rattle.gimli_c.proofs.table.read_specifications.Goals.{then-at-specifications-2, else-at-specifications-2}
 use Rattle.gimli_c.proofs.table.read_specifications.Goals as goal
 
 pub each-init : goal.each-init
@@ -64,10 +67,34 @@ returns-clause-read g c =
     let last = rw c.in_default.is at c.in_ok-specification.ensures in
     let ended = ap all_items (items_end _ _ _ _ _ inv.read last) in
     let shorter = specification_at-shorter _ _ _ last in
+    let n = length inv.taken in
+    let count : c.each.at - c.args.from ≡ n = omega (arith, inv.at_is) in
+    let both : AreBehind c.args.from inv.taken c.args.specifications.now
+    c.if-at-specifications-2.specifications
+    × HaveSteps c.args.from n c.args.specifications.now c.if-at-specifications-2.specifications =
+    elim c.if-at-specifications-2.branch [
+      | then-at-specifications-2 w ↦
+          let fits : c.args.from + n ≤ length c.each.specifications =
+          omega (arith, inv.at_is, w.if-at-specifications-2.true) in
+          let same = rw count at w.put_steps.ensures.same in
+          rw (w.specifications-is, count) (
+            behind_put c.args.from inv.taken c.args.specifications.now c.each.specifications _
+                inv.behind fits same,
+            steps_put c.args.from inv.taken c.args.specifications.now c.each.specifications _
+                inv.behind fits same w.put_steps.ensures.steps,
+          )
+      | else-at-specifications-2 w ↦
+          rw w.specifications-is (
+            inv.behind,
+            steps_left c.args.from n c.args.specifications.now c.each.specifications
+                inv.behind.long (omega (arith, inv.at_is, w.if-at-specifications-2.false)),
+          )
+    ] in
     record {
       specifications = inv.taken;
       read = sym ended;
       count = omega (arith, inv.at_is);
       takes = omega (arith, inv.at_is, inv.takes, shorter);
-      behind = inv.behind;
+      behind = both.0;
+      steps = both.1;
     }

@@ -34,3 +34,8 @@ pub returns-clause-new : goal.returns-clause-new
 returns-clause-new g c =
     let code_is = ap (λ (d : Declaration). d.code) c.declared.view_is in
     rw code_is at (sym c.get.ensures ∙ none_of c.get.result c.if-is_some.ensures)
+
+pub returns-then-code-len-clause-new : goal.returns-then-code-len-clause-new
+returns-then-code-len-clause-new g c =
+    let code_is = ap (λ (d : Declaration). d.code) c.declared.view_is in
+    rw code_is at (sym c.get.ensures ∙ none_of c.get.result c.if-is_some.ensures)

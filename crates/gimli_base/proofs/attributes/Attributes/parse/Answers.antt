@@ -9,7 +9,7 @@ use Rattle.gimli_base.proofs.attributes.Attributes.parse.Goals.{then-not-push+in
 use Rattle.gimli_base.proofs.attributes.Attributes.parse.Goals as goal
 
 pub loop-specification-init : goal.loop-specification-init
-loop-specification-init g c = rw (c.requires, c.none-run.ensures)
+loop-specification-init g c = rw (c.requires, c.new-run.ensures)
     (record { read = items_begin _ _; steps = steps_begin })
 
 pub returns-in_err-specification-clause-read : goal.returns-in_err-specification-clause-read
@@ -42,8 +42,8 @@ loop-specification-preserved g c =
         w.is_seen-is,
         w.in_ok-push.ensures,
         c.push.ensures.kept w.if-not-push.true,
-        w.none-run-then-not-push.ensures,
-        w.eq.ensures,
+        w.new-run-then-not-push.ensures,
+        w.eq-is_seen.ensures,
         w.name.ensures,
       )
           (record { read = read; steps = steps_close _ _ _ _ so_far _ })
@@ -59,4 +59,8 @@ returns-clause-read g c =
 
 pub returns-clause-steps : goal.returns-clause-steps
 returns-clause-steps g c = rw c.in_ok-push-3.ensures
+    (steps_end _ _ _ _ c.loop-specification.invariant.steps)
+
+pub whole_of-self-requires : goal.whole_of-self-requires
+whole_of-self-requires g c = rw (c.steps.ensures, c.specifications.ensures, c.in_ok-push-3.ensures)
     (steps_end _ _ _ _ c.loop-specification.invariant.steps)

@@ -1,0 +1,152 @@
+-- Readers that go on leave fewer bytes, whatever the steps of a table are.
+use Rattle.std.proofs.Common.{sym, ◌≡◌, ℕ, zero, suc, ◌+◌, ◌<◌, ◌≤◌, ◌==◌, ℤ, ◌-ℤ◌, pos, Bool, true}
+use Rattle.std.proofs.Common.{false, not, if◌then◌else◌, unsigned_abs, List, [], ◌∷◌, length, Option}
+use Rattle.std.proofs.Common.{Some, None, Result, Ok, Err, refl, ap, ◌∙◌, arith}
+use Rattle.std.specs.Prelude.{All, IfOk, IfErr, OnOk}
+use Rattle.std.proofs.lemmas.Int.{ints}
+use Rattle.std.proofs.lemmas.List.Elements.{All-cons, All-nil}
+use Rattle.gimli_base.specs.declared.common.Encoding.{Encoding}
+use Rattle.gimli_base.specs.declared.error.Error.{Error}
+use Rattle.gimli_base.specs.declared.error.Error.TheVariants.{OutOfMemory}
+use Rattle.gimli_base.specs.View.{View}
+use Rattle.gimli_base.specs.Reading.{Reads, read_of}
+use Rattle.gimli_base.specs.Abbreviations.{Specification, Declaration, Map, IsWellFormed}
+use Rattle.gimli_base.specs.Table.{codes_of}
+use Rattle.gimli_base.specs.Width.{attributes_size, known_sum, width_of}
+use Rattle.gimli_base.proofs.Later.{IsLater-length, made_leaves_later}
+use Rattle.gimli_base.proofs.Memory.{Never}
+use Rattle.gimli_units.specs.Entry.{entry_at, attribute_at, attributes_at, abbreviation_at}
+use Rattle.gimli_units.specs.RawPlace.{RawPlace, below_flag, next_offset_of}
+use Rattle.gimli_units.specs.Sized.{left_by}
+use Rattle.gimli_units.proofs.EntryReads.{attribute_at-later, attributes_at-later, abbreviation_at-later}
+use Rattle.gimli_units.proofs.EntryReads.{entry_at-shorter}
+use Rattle.gimli_units.proofs.Memory.{attribute_at-never, attributes_at-never, entry_at-never}
+use Rattle.gimli_c.specs.declared.reading.Head.{Head}
+use Rattle.gimli_c.specs.Heads.{IsReadPast, GoesOn}
+use Rattle.gimli_c.specs.TableReads.{depth_behind_head}
+use Rattle.gimli_c.proofs.Front.{depth_near}
+
+-- what passed attributes leave,
+pub all_leave : (limit : ℕ) (e : Encoding) (ss : List Specification) (v w : View)
+    → Ok (tt {0}, w) ≡ left_by (attributes_at limit e ss v) → length w.bytes ≤ length v.bytes
+all_leave limit e ss v w h =
+    let later = IsLater-length 0 v w
+    (made_leaves_later 0 v _ (attributes_at limit e ss v) (attributes_at-later limit e ss v) tt w
+    h) in
+    omega (arith, later)
+
+pub passed_leave : (limit : ℕ) (e : Encoding) (ss : List Specification) (n : ℕ) (v w : View)
+    (r : Result (Unit {0}) Error) → length v.bytes ≤ n
+    → read_of r w ≡ left_by (attributes_at limit e ss v) → OnOk r (length w.bytes ≤ n)
+passed_leave limit e ss n v w (Ok x) less h =
+    let more = all_leave limit e ss v w h in
+    omega (arith, less, more)
+passed_leave limit e ss n v w (Err x) less h = tt
+
+-- a passed value,
+pub one_leaves : (limit : ℕ) (e : Encoding) (s : Specification) (v w : View)
+    → Ok (tt {0}, w) ≡ left_by (attribute_at limit e s v) → length w.bytes ≤ length v.bytes
+one_leaves limit e s v w h =
+    let later = IsLater-length 0 v w
+    (made_leaves_later 0 v _ (attribute_at limit e s v) (attribute_at-later limit e s v) tt w h) in
+    omega (arith, later)
+
+-- and a code
+pub code_leaves : (m : Map) (v : View) (o : Option Declaration) (w : View)
+    → ◌≡◌ {A = Reads (Option Declaration)} (Ok (o, w)) (abbreviation_at m v)
+    → length w.bytes < length v.bytes
+code_leaves m v o w h =
+    let later = IsLater-length 1 v w (abbreviation_at-later m v o w h) in
+    omega (arith, later)
+
+-- so many attributes of one byte
+ones : ℕ → List Specification
+ones zero = []
+ones (suc n) =
+    record { name = record { 0 = 1 }; form = record { 0 = 0x0b }; constant = None } ∷ ones n
+
+ones_size : (e : Encoding) (n : ℕ) → attributes_size e (ones n) ≡ Some n
+unfolding width_of ones
+ones_size e zero = refl
+ones_size e (suc n) = ap (known_sum (Some 1)) (ones_size e n) ∙ ap Some (omega arith)
+
+ones_formed : (n : ℕ) → All IsWellFormed (ones n)
+unfolding ones
+ones_formed zero = All-nil IsWellFormed
+ones_formed (suc n) = All-cons IsWellFormed _ (ones n) refl (ones_formed n)
+
+-- what passed bytes leave, whatever attributes they are of
+pub bytes_leave : (limit : ℕ) (e : Encoding) (n : ℕ) (v w : View)
+    → ((ss : List Specification) → All IsWellFormed ss → attributes_size e ss ≡ Some n
+    → Ok (tt {0}, w) ≡ left_by (attributes_at limit e ss v))
+    → length w.bytes ≤ length v.bytes
+bytes_leave limit e n v w did =
+    all_leave limit e (ones n) v w (did (ones n) (ones_formed n) (ones_size e n))
+
+-- an entry that was read
+pub past_goes_on : (limit : ℕ) (p : RawPlace) (q : RawPlace) (r : Result Head Error)
+    → IfOk r (λ head. IsReadPast limit p head q) → OnOk r (GoesOn p q)
+past_goes_on limit p q (Ok head) past = record {
+  shorter = entry_at-shorter limit p.encoding (codes_of p.abbreviations) p.rest q.rest past.entry
+      past.is;
+  near = rw past.moved (depth_near past.entry p.depth);
+  same = rw past.moved refl;
+}
+past_goes_on limit p q (Err e) past = tt
+
+pub same_end : {p q : RawPlace} → GoesOn p q → q.end ≡ p.end
+same_end h = ap (λ (r : RawPlace). r.end) h.same
+
+-- what is read next stands later, where fewer bytes are left
+pub later_place : (p q : RawPlace) → q.end ≡ p.end → length p.rest.bytes ≤ p.end
+    → length q.rest.bytes < length p.rest.bytes → next_offset_of p < next_offset_of q
+later_place p q end within less = omega (arith, end, within, less)
+
+-- a depth after a head is another by one at most
+pub head_near : (h : Head) (depth : ℤ)
+    → unsigned_abs (depth_behind_head h depth) ≤ unsigned_abs depth + 1
+head_near h depth = cases (h.tag == 0) (not (h.has_children == 0))
+  where
+    cases : (null flag : Bool)
+        → unsigned_abs (if null then depth -ℤ pos 1 else below_flag flag depth)
+        ≤ unsigned_abs depth + 1
+    cases true flag = omega (arith, ints)
+    cases false true = omega (arith, ints)
+    cases false false = omega (arith, ints)
+
+-- what is read is never refused for memory
+pub refused_never : {A : Type 0} → (r : Result A Error) (e : Error) → Never r → Err e ≡ r
+    → e ≡ OutOfMemory → ⊥
+refused_never r e never h is = never (sym h ∙ ap Err is)
+
+-- nor is what is passed
+left_never : {A : Type 0} → (r : Reads A) (e : Error) → Never r
+    → ◌≡◌ {A = Reads (Unit {0})} (Err e) (left_by r) → e ≡ OutOfMemory → ⊥
+left_never (Ok p) e never h is = absurd (cc)
+left_never (Err x) e never h is =
+    let same : e ≡ x = cc in
+    never (ap Err (sym same ∙ is))
+
+pub one_never : (limit : ℕ) (e : Encoding) (s : Specification) (v : View) (x : Error)
+    → ◌≡◌ {A = Reads (Unit {0})} (Err x) (left_by (attribute_at limit e s v))
+    → x ≡ OutOfMemory → ⊥
+one_never limit e s v x h =
+    left_never (attribute_at limit e s v) x (attribute_at-never limit e s v) h
+
+pub all_never : (limit : ℕ) (e : Encoding) (ss : List Specification) (v w : View)
+    (r : Result (Unit {0}) Error) → read_of r w ≡ left_by (attributes_at limit e ss v)
+    → IfErr r (λ x. x ≡ OutOfMemory → ⊥)
+all_never limit e ss v w (Ok x) h = tt
+all_never limit e ss v w (Err x) h =
+    left_never (attributes_at limit e ss v) x (attributes_at-never limit e ss v) h
+
+pub entry_never : {A : Type 0} → (limit : ℕ) (e : Encoding) (m : Map) (v : View) (r : Result A Error)
+    → IfErr r (λ x. Err x ≡ entry_at limit e m v) → IfErr r (λ x. x ≡ OutOfMemory → ⊥)
+entry_never limit e m v (Ok x) h = tt
+entry_never limit e m v (Err x) h =
+    refused_never (entry_at limit e m v) x (entry_at-never limit e m v) h
+
+-- of a reader by the library's table nothing is asked
+pub no_steps : {T : Type 0} → (r : Result T Error) → IfOk r (λ _. Unit {0})
+no_steps (Ok t) = tt
+no_steps (Err e) = tt
