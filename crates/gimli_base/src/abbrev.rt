@@ -26,6 +26,7 @@ ghost use Rattle.gimli_base.specs.Abbreviations.{
   table_takes_memory_at,
 };
 ghost use Rattle.gimli_base.specs.Width.{width_of, form_size, attributes_size};
+ghost use Rattle.std.specs.List.{All};
 ghost use Rattle.gimli_base.specs.Steps.{AreSteps, IsRun};
 ghost use Rattle.gimli_base.specs.Table.{Table, codes_of};
 ghost use Rattle.gimli_base.specs.Offset.{answer_of};
@@ -169,6 +170,17 @@ impl AttributeSpecification {
     }
 }
 
+// Says that each attribute has a number exactly where its form is implicit_const; it does nothing.
+fn are_formed(specifications: &[AttributeSpecification])
+    ensures { All IsWellFormed specifications.now }
+{
+    let mut left = specifications;
+    'each: while let Some((specification, others)) = left.split_first() {
+        let _ = specification.implicit_const_value();
+        left = others;
+    }
+}
+
 // The bytes of the values of attributes under an encoding, where the form of each tells its size.
 fn sum_of_sizes(specifications: &[AttributeSpecification], encoding: Encoding) -> Option<u64>
     ensures exact { IfSome result (λ n. attributes_size encoding specifications.now ≡ Some n) }
@@ -252,7 +264,9 @@ impl<A: Allocator> Abbreviation<A> {
             attributes_size encoding self.now.attributes ≡ Some n) }
         ensures known { length self.now.attributes < 2 ^ 32
             → result ≡ attributes_size encoding self.now.attributes }
+        ensures formed { All IsWellFormed self.now.attributes }
     {
+        are_formed(self.attributes());
         if let Some(step) = self.whole_step() {
             return Some(step.size(encoding));
         }
