@@ -226,11 +226,12 @@ typedef struct {
 /* So many values that are passed together, as their forms tell their sizes: the bytes of those of a
    fixed size, and how many have the size of an address, of an offset, and of DW_FORM_ref_addr. */
 typedef struct {
-    uint32_t values;
+    uint16_t values;
     uint8_t bytes;
     uint8_t addresses;
     uint8_t offsets;
     uint8_t ref_addrs;
+    uint8_t has_ref8; /* 1 where DW_FORM_ref8 or DW_FORM_ref_sup8 is among them, else 0 */
 } gimli_step_t;
 
 /* A declared attribute. */

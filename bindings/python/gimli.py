@@ -74,7 +74,8 @@ class Declaration(Structure):
 
 class Step(Structure):
     """So many values that are passed together, as `Dwarf.table` reads it; who makes a table leaves it at zeros."""
-    _fields_ = [("values", c_uint32), ("bytes", c_uint8), ("addresses", c_uint8), ("offsets", c_uint8), ("ref_addrs", c_uint8)]
+    _fields_ = [("values", c_uint16), ("bytes", c_uint8), ("addresses", c_uint8), ("offsets", c_uint8), ("ref_addrs", c_uint8),
+                ("has_ref8", c_uint8)]
 
 
 class Specification(Structure):

@@ -235,10 +235,12 @@ def tables(library):
     same("declarations", told, [(1, 0x2e, 1, [(1, 0x11)]), (2, 0x34, 0, [])])
     rows = [(0x0b, 0, 0x2e, 1), (0x0d, 1, 0x34, 0), (0x0e, 1, 0, 0), (0x0f, 0, 0x34, 0), (0x10, 0, 0x34, 0), (0x11, 0, 0, 0)]
     same("rows by it", list(dwarf.rows(unit, 2, table)), rows)
-    # data2, an address, a text, a flag without bytes, an offset of ref_addr and one of strp: the text ends what is before it
-    steps = Dwarf(library, info, bytes.fromhex("01 2e 00 3a05 1101 0308 3f19 3110 6e0e 0000  00")).table(unit)
-    told = [(a.step.values, a.step.bytes, a.step.addresses, a.step.offsets, a.step.ref_addrs) for a in steps.specifications[:6]]
-    wanted = [(2, 2, 1, 0, 0), (1, 0, 1, 0, 0), (0, 0, 0, 0, 0), (3, 0, 0, 1, 1), (2, 0, 0, 1, 1), (1, 0, 0, 1, 0)]
+    # data2, an address, a text, a flag without bytes, an offset of ref_addr, one of strp, and ref8: the text ends what is before it
+    steps = Dwarf(library, info, bytes.fromhex("01 2e 00 3a05 1101 0308 3f19 3110 6e0e 4914 0000  00")).table(unit)
+    told = [(a.step.values, a.step.bytes, a.step.addresses, a.step.offsets, a.step.ref_addrs, a.step.has_ref8)
+            for a in steps.specifications[:7]]
+    wanted = [(2, 2, 1, 0, 0, 0), (1, 0, 1, 0, 0, 0), (0, 0, 0, 0, 0, 0), (4, 8, 0, 1, 1, 1), (3, 8, 0, 1, 1, 1),
+              (2, 8, 0, 1, 0, 1), (1, 8, 0, 0, 0, 1)]
     same("steps", told, wanted)
     unordered = Dwarf(library, info, bytes.fromhex("02 34 00 0000  01 2e 01 0111 0000  00"))
     same("a table that is not in order", unordered.table(unit), None)

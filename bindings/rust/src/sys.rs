@@ -135,11 +135,12 @@ struct Declaration {
 #[repr(C)]
 #[derive(Clone, Copy, Debug, Default)]
 struct Step {
-    values: u32,
+    values: u16,
     bytes: u8,
     addresses: u8,
     offsets: u8,
     ref_addrs: u8,
+    has_ref8: u8,
 }
 
 #[repr(C)]

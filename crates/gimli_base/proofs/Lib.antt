@@ -6,6 +6,7 @@ pub mod LebTurns
 pub mod UlebTurns
 pub mod SlebTurns
 pub mod Ranges
+mod RefWidths
 pub mod PassTurns
 pub mod PartBytes
 mod WordBytes

@@ -12,7 +12,7 @@ use Rattle.gimli_base.specs.declared.step.Step.{Step}
 use Rattle.gimli_base.specs.Abbreviations.{Specification, IsWellFormed}
 use Rattle.gimli_base.specs.Reading.{word_size_of}
 use Rattle.gimli_base.specs.Width.{attributes_size, form_size, known_sum}
-use Rattle.gimli_base.specs.Steps.{AreSteps, AfterStep, IsRun, AddsValue, is_sibling, empty_step}
+use Rattle.gimli_base.specs.Steps.{AreSteps, AfterStep, IsRun, AddsValue, NoSibling, is_sibling, is_ref8, empty_step}
 use Rattle.gimli_base.specs.Steps.{step_size, Joins}
 
 known_sum_assoc : (l m n : Option ℕ) → known_sum (known_sum l m) n ≡ known_sum l (known_sum m n)
@@ -37,22 +37,24 @@ size-push e (s ∷ ss) x =
 pub record StepsSoFar (closed : List Step) (run : Step) (seen : Bool) (ss : List Specification)
     : Type 0 where
   pub open_ones : List Specification
-  pub is_run : IsRun seen run open_ones
+  pub is_run : IsRun run open_ones
+  pub no_sibling : NoSibling seen open_ones
   pub closes : (steps : List Step) (more : List Specification)
       → AreSteps seen steps (open_ones ++ more) → AreSteps false (closed ++ steps) (ss ++ more)
 
-no_run : (seen : Bool) → IsRun seen empty_step []
-no_run seen = record {
+no_run : IsRun empty_step []
+no_run = record {
   counted = refl;
   well_formed = All-nil IsWellFormed;
   size = λ e. ap Some (omega arith);
-  no_sibling = λ _. All-nil (λ x. is_sibling x ≡ false);
+  no_ref8 = λ _. All-nil (λ x. is_ref8 x ≡ false);
 }
 
 pub steps_begin : StepsSoFar [] empty_step false []
 steps_begin = record {
   open_ones = [];
-  is_run = no_run false;
+  is_run = no_run;
+  no_sibling = λ _. All-nil (λ x. is_sibling x ≡ false);
   closes = λ steps more h. h;
 }
 
@@ -73,7 +75,7 @@ module _ (closed : List Step) (run : Step) (seen : Bool) (ss : List Specificatio
       let rest : drop run.values (o ++ more) ≡ more =
       drop-append-le run.values o more (omega (arith, here))
       ∙ ap (λ l. l ++ more) (drop_all run.values o (omega (arith, here))) in
-      so_far.closes (run ∷ steps) more (rw (first, rest) (so_far.is_run, h))
+      so_far.closes (run ∷ steps) more (rw (first, rest) (so_far.is_run, so_far.no_sibling, h))
 
   pub steps_end : AreSteps false (closed ++ run ∷ []) ss
   steps_end = rw (append-nil ss) at (ends [] [] refl)
@@ -87,15 +89,16 @@ module _ (closed : List Step) (run : Step) (seen : Bool) (ss : List Specificatio
         (ss ++ x ∷ [])
     steps_close = record {
       open_ones = [];
-      is_run = no_run (seen || is_sibling x);
+      is_run = no_run;
+      no_sibling = λ _. All-nil (λ y. is_sibling y ≡ false);
       closes = λ steps more h. rw (assoc more, append_assoc closed (run ∷ []) steps)
           (ends steps (x ∷ more) h);
     }
 
     -- one more attribute is of the run
-    pub steps_run : (longer : Step) → AddsValue seen x run longer
-        → StepsSoFar closed longer seen (ss ++ x ∷ [])
-    steps_run longer is = record {
+    pub steps_run : (longer : Step) → AddsValue x run longer
+        → (seen ≡ false → is_sibling x ≡ false) → StepsSoFar closed longer seen (ss ++ x ∷ [])
+    steps_run longer is other = record {
       open_ones = o ++ x ∷ [];
       is_run = record {
         counted = omega (arith, is.counted, so_far.is_run.counted, length-append o (x ∷ []));
@@ -105,11 +108,15 @@ module _ (closed : List Step) (run : Step) (seen : Bool) (ss : List Specificatio
             size-push e o x
             ∙ ap (λ n. known_sum n (form_size e x.form.0)) (so_far.is_run.size e)
             ∙ sym (is.size e);
-        no_sibling = λ none. All-append (λ y. is_sibling y ≡ false) o (x ∷ [])
-            (so_far.is_run.no_sibling none)
-            (All-cons (λ y. is_sibling y ≡ false) x [] (is.no_sibling none)
-            (All-nil (λ y. is_sibling y ≡ false)));
+        no_ref8 = λ none. All-append (λ y. is_ref8 y ≡ false) o (x ∷ [])
+            (so_far.is_run.no_ref8 (is.no_ref8 none).0)
+            (All-cons (λ y. is_ref8 y ≡ false) x [] (is.no_ref8 none).1
+            (All-nil (λ y. is_ref8 y ≡ false)));
       };
+      no_sibling = λ none. All-append (λ y. is_sibling y ≡ false) o (x ∷ [])
+          (so_far.no_sibling none)
+          (All-cons (λ y. is_sibling y ≡ false) x [] (other none)
+          (All-nil (λ y. is_sibling y ≡ false)));
       closes = λ steps more h. rw (assoc more)
           (so_far.closes steps (x ∷ more) (rw (append_assoc o (x ∷ []) more) at h));
     }
@@ -132,11 +139,12 @@ pub record SizesLeft (e : Encoding) (all left : List Specification) (sum : ℕ) 
   pub few : sum + 255 * length left ≤ 255 * length all
 
 -- a step with a value more, and the values of another step
-pub joined : (s : Step) (x : Specification) (u p : Step) → AddsValue true x s p → (t : Step)
+pub joined : (s : Step) (x : Specification) (u p : Step) → AddsValue x s p → (t : Step)
     → t.values ≡ p.values + u.values → t.bytes ≡ p.bytes + u.bytes
     → t.addresses ≡ p.addresses + u.addresses → t.offsets ≡ p.offsets + u.offsets
-    → t.ref_addrs ≡ p.ref_addrs + u.ref_addrs → Joins s x u t
-joined s x u p added t values bytes addresses offsets ref_addrs =
+    → t.ref_addrs ≡ p.ref_addrs + u.ref_addrs
+    → (t.has_ref8 ≡ 0 → (p.has_ref8 ≡ 0) × (u.has_ref8 ≡ 0)) → Joins s x u t
+joined s x u p added t values bytes addresses offsets ref_addrs no_ref8 =
     record {
       counted = omega (arith, values, added.counted);
       well_formed = added.well_formed;
@@ -152,43 +160,37 @@ joined s x u p added t values bytes addresses offsets ref_addrs =
             add-mul p.ref_addrs u.ref_addrs r,
           )) in
           ap Some sum ∙ ap (λ m. known_sum m (Some (step_size e u))) (added.size e);
+      no_ref8 = λ none.
+          let both = added.no_ref8 (no_ref8 none).0 in
+          (both.0, both.1, (no_ref8 none).1);
     }
-
--- a run that no attribute is sought in
-all_seen : (seen : Bool) (s : Step) (ss : List Specification) → IsRun seen s ss → IsRun true s ss
-all_seen seen s ss h = record {
-  counted = h.counted;
-  well_formed = h.well_formed;
-  size = h.size;
-  no_sibling = λ no. absurd (cc);
-}
 
 -- what one step passes
 pub one_step : (seen : Bool) (s : Step) (ss : List Specification) → AreSteps seen (s ∷ []) ss
-    → IsRun true s ss
-one_step seen s ss h = cases (drop s.values ss) refl h.1
+    → IsRun s ss
+one_step seen s ss h = cases (drop s.values ss) refl h.2
   where
     cases : (rest : List Specification) → drop s.values ss ≡ rest
-        → AfterStep (λ x more. AreSteps (seen || is_sibling x) [] more) [] rest → IsRun true s ss
+        → AfterStep (λ x more. AreSteps (seen || is_sibling x) [] more) [] rest → IsRun s ss
     cases [] is k =
         let all : take s.values ss ≡ ss =
         sym (append-nil (take s.values ss))
         ∙ ap (λ l. take s.values ss ++ l) (sym is)
         ∙ take-append-drop s.values ss in
-        all_seen seen s ss (rw all at h.0)
+        rw all at h.0
     cases (x ∷ more) is k = absurd k
 
 -- what two steps pass with the value between them
 two_steps : (seen : Bool) (s u t : Step) (ss : List Specification) (x : Specification)
     (rest : List Specification) → AreSteps seen (s ∷ u ∷ []) ss
-    → take (length ss - s.values) (drop s.values ss) ≡ x ∷ rest → Joins s x u t → IsRun true t ss
+    → take (length ss - s.values) (drop s.values ss) ≡ x ∷ rest → Joins s x u t → IsRun t ss
 two_steps seen s u t ss x rest h there joins =
     let is : drop s.values ss ≡ x ∷ rest =
     sym (take_all (length ss - s.values) (drop s.values ss)
     (omega (arith, length-drop s.values ss)))
     ∙ there in
     let run : List Specification = take s.values ss in
-    let last : IsRun true u rest = one_step (seen || is_sibling x) u rest (rw is at h.1) in
+    let last : IsRun u rest = one_step (seen || is_sibling x) u rest (rw is at h.2) in
     let all : run ++ x ∷ rest ≡ ss =
     ap (λ l. run ++ l) (sym is) ∙ take-append-drop s.values ss in
     let first : s.values ≡ length run = h.0.counted in
@@ -207,13 +209,16 @@ two_steps seen s u t ss x rest h there joins =
       well_formed = rw all at (All-append IsWellFormed run (x ∷ rest) h.0.well_formed
           (All-cons IsWellFormed x rest joins.well_formed last.well_formed));
       size = λ e. rw all at (sum e);
-      no_sibling = λ no. absurd (cc);
+      no_ref8 = λ none.
+          let three = joins.no_ref8 none in
+          rw all at (All-append (λ y. is_ref8 y ≡ false) run (x ∷ rest) (h.0.no_ref8 three.0)
+          (All-cons (λ y. is_ref8 y ≡ false) x rest three.1 (last.no_ref8 three.2)));
     }
 
 -- the same, where these are joined
 pub joined_run : (seen : Bool) (s u : Step) (ss : List Specification) (x : Specification)
     (rest : List Specification) → AreSteps seen (s ∷ u ∷ []) ss
     → take (length ss - s.values) (drop s.values ss) ≡ x ∷ rest → (t : Option Step)
-    → IfSome t (λ t. Joins s x u t) → IfSome t (λ t. IsRun true t ss)
+    → IfSome t (λ t. Joins s x u t) → IfSome t (λ t. IsRun t ss)
 joined_run seen s u ss x rest h there (Some t) joins = two_steps seen s u t ss x rest h there joins
 joined_run seen s u ss x rest h there None joins = tt

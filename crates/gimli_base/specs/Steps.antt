@@ -22,13 +22,21 @@ step_size e s =
 abbrev pub is_sibling : Specification → Bool
 is_sibling s = s.name.0 == 0x01
 
--- the step s stands for the attributes ss: their number, and their size under each encoding; where
--- no DW_AT_sibling was seen before, none of them is one
-pub record IsRun (seen : Bool) (s : Step) (ss : List Specification) : Type 0 where
+-- its form is ref8 or ref_sup8: an offset of 8 bytes whatever the format
+abbrev pub is_ref8 : Specification → Bool
+is_ref8 s = s.form.0 == 0x14 || s.form.0 == 0x24
+
+-- the step s stands for the attributes ss: their number, their size under each encoding, and whether
+-- one may be a reference of 8 bytes
+pub record IsRun (s : Step) (ss : List Specification) : Type 0 where
   pub counted : s.values ≡ length ss
   pub well_formed : All IsWellFormed ss
   pub size : (e : Encoding) → attributes_size e ss ≡ Some (step_size e s)
-  pub no_sibling : seen ≡ false → All (λ x. is_sibling x ≡ false) ss
+  pub no_ref8 : s.has_ref8 ≡ 0 → All (λ x. is_ref8 x ≡ false) ss
+
+-- where no DW_AT_sibling was seen before, none of these is one
+abbrev pub NoSibling : Bool → List Specification → Type 0
+NoSibling seen ss = seen ≡ false → All (λ x. is_sibling x ≡ false) ss
 
 -- after a step the attributes end, and so do the steps, or one attribute stands alone, and the rest
 -- goes on
@@ -41,20 +49,27 @@ AfterStep Rest steps (x ∷ rest) = Rest x rest
 -- whether a DW_AT_sibling came before
 abbrev pub AreSteps : Bool → List Step → List Specification → Type 0
 AreSteps seen [] ss = ⊥
-AreSteps seen (s ∷ steps) ss = IsRun seen s (take s.values ss)
+AreSteps seen (s ∷ steps) ss = IsRun s (take s.values ss) × NoSibling seen (take s.values ss)
     × AfterStep (λ x rest. AreSteps (seen || is_sibling x) steps rest) steps (drop s.values ss)
 
 -- While steps are made: no values,
 abbrev pub empty_step : Step
-empty_step = record { values = 0; bytes = 0; addresses = 0; offsets = 0; ref_addrs = 0 }
+empty_step = record {
+  values = 0;
+  bytes = 0;
+  addresses = 0;
+  offsets = 0;
+  ref_addrs = 0;
+  has_ref8 = 0;
+}
 
--- and the step t is s with one more value, that of x, which is no DW_AT_sibling where none was seen
-pub record AddsValue (seen : Bool) (x : Specification) (s t : Step) : Type 0 where
+-- and the step t is s with one more value, that of x
+pub record AddsValue (x : Specification) (s t : Step) : Type 0 where
   pub counted : t.values ≡ s.values + 1
   pub well_formed : IsWellFormed x
   pub size : (e : Encoding)
       → Some (step_size e t) ≡ known_sum (Some (step_size e s)) (form_size e x.form.0)
-  pub no_sibling : seen ≡ false → is_sibling x ≡ false
+  pub no_ref8 : t.has_ref8 ≡ 0 → (s.has_ref8 ≡ 0) × (is_ref8 x ≡ false)
 
 -- and t is s, the value of x, and u together
 pub record Joins (s : Step) (x : Specification) (u t : Step) : Type 0 where
@@ -63,3 +78,5 @@ pub record Joins (s : Step) (x : Specification) (u t : Step) : Type 0 where
   pub size : (e : Encoding)
       → Some (step_size e t)
       ≡ known_sum (known_sum (Some (step_size e s)) (form_size e x.form.0)) (Some (step_size e u))
+  pub no_ref8 : t.has_ref8 ≡ 0
+      → (s.has_ref8 ≡ 0) × (is_ref8 x ≡ false) × (u.has_ref8 ≡ 0)

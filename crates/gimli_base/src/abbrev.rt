@@ -220,7 +220,7 @@ impl<A: Allocator> Model for Abbreviation<A> {
 
     ghost invariant = { λ a. (a.tag.0 ≢ 0)
         × AreSteps false a.attributes.steps a.attributes.specifications
-        × IfSome a.attributes.whole (λ s. IsRun true s a.attributes.specifications) };
+        × IfSome a.attributes.whole (λ s. IsRun s a.attributes.specifications) };
 }
 
 impl<A: Allocator> Abbreviation<A> {
@@ -277,7 +277,7 @@ impl<A: Allocator> Abbreviation<A> {
     /// if with the value between them they have room in one.
     #[inline(always)]
     pub fn whole_step(&self) -> Option<&Step>
-        ensures { IfSome (option_copied result) (λ s. IsRun true s self.now.attributes) }
+        ensures { IfSome (option_copied result) (λ s. IsRun s self.now.attributes) }
     {
         self.attributes.whole()
     }
@@ -314,7 +314,7 @@ fn parse_declared<R: Reader, A: Allocator + Copy>(
     ensures steps { OnOk result
         (AreSteps false attributes.new.steps attributes.new.specifications) }
     ensures whole { OnOk result
-        (IfSome attributes.new.whole (λ s. IsRun true s attributes.new.specifications)) }
+        (IfSome attributes.new.whole (λ s. IsRun s attributes.new.specifications)) }
     ensures tag { IfOk result (λ r. r.0.0 ≢ 0) }
     ensures headed { OnOk result (is_headed (R.view input.old) ≡ true) }
     ensures without_memory { is_headed (R.view input.old) ≡ false →

@@ -153,10 +153,10 @@ impl<A: Allocator> Steps<A> {
 /// The attributes of a declaration, and the steps by which their values are passed.
 #[derive(Drop)]
 pub(crate) struct Attributes<A: Allocator> {
+    // all values as one step, where that is kept (first, so that it lies near the code and the tag)
+    whole: Option<Step>,
     specifications: Specifications<A>,
     steps: Steps<A>,
-    // all values as one step, where that is kept
-    whole: Option<Step>,
 }
 
 impl<A: Allocator> Debug for Attributes<A> {
@@ -196,7 +196,7 @@ impl<A: Allocator> Attributes<A> {
 #[inline]
 fn whole_of(specifications: &[AttributeSpecification], steps: &[Step]) -> Option<Step>
     requires { AreSteps false steps.now specifications.now }
-    ensures { IfSome result (λ s. IsRun true s specifications.now) }
+    ensures { IfSome result (λ s. IsRun s specifications.now) }
 {
     let (first, others) = steps.split_first()?;
     let Some((last, more)) = others.split_first() else {
@@ -216,9 +216,9 @@ impl<A: Allocator + Copy> Attributes<A> {
         ensures { result ≡ record { specifications = []; steps = []; whole = None } }
     {
         Attributes {
+            whole: None,
             specifications: Specifications::new(alloc),
             steps: Steps::new(alloc),
-            whole: None,
         }
     }
 
@@ -232,7 +232,7 @@ impl<A: Allocator + Copy> Attributes<A> {
             ≡ specifications_at (R.view input.old)) }
         ensures steps { OnOk result (AreSteps false self.new.steps self.new.specifications) }
         ensures whole { OnOk result
-            (IfSome self.new.whole (λ s. IsRun true s self.new.specifications)) }
+            (IfSome self.new.whole (λ s. IsRun s self.new.specifications)) }
     {
         let mut run = Step::new();
         let mut is_seen = false;

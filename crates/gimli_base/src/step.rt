@@ -1,10 +1,10 @@
 //! The steps by which the values of an entry are passed.
 
 ghost use Rattle.std.specs.Prelude.{◌≡◌, IfSome, true, false};
-ghost use Rattle.gimli_base.specs.Steps.{AddsValue, Joins, empty_step, step_size};
+ghost use Rattle.gimli_base.specs.Steps.{AddsValue, Joins, empty_step, is_sibling, step_size};
 
 use crate::width::Width;
-use crate::{AttributeSpecification, DW_AT_sibling, Encoding};
+use crate::{AttributeSpecification, DW_AT_sibling, DW_FORM_ref_sup8, DW_FORM_ref8, Encoding};
 
 /// A step of passing the values of an entry: so many of them, whose sizes their forms tell (DWARF
 /// 5, 7.5.6), are passed together. Then the entry ends, or one value is looked at.
@@ -14,7 +14,7 @@ use crate::{AttributeSpecification, DW_AT_sibling, Encoding};
 #[derive(Clone, Copy, Debug, PartialEq, Eq)]
 pub struct Step {
     /// How many values are passed together.
-    pub values: u32,
+    pub values: u16,
     /// The bytes of those whose size no encoding changes.
     pub bytes: u8,
     /// How many have the size of an address.
@@ -23,6 +23,9 @@ pub struct Step {
     pub offsets: u8,
     /// How many have the size of an address in version 2, else of an offset.
     pub ref_addrs: u8,
+    /// 1 where a reference of 8 bytes is among them, which a reader whose offsets are narrower may
+    /// refuse, else 0.
+    pub has_ref8: u8,
 }
 
 impl Step {
@@ -37,6 +40,7 @@ impl Step {
             addresses: 0,
             offsets: 0,
             ref_addrs: 0,
+            has_ref8: 0,
         }
     }
 
@@ -45,13 +49,14 @@ impl Step {
     /// did, and else the step stays.
     #[inline(always)]
     pub fn push(&mut self, specification: &AttributeSpecification, is_seen: bool) -> bool
-        ensures pushed { result ≡ true → AddsValue is_seen specification.now self.old self.new }
+        ensures pushed { result ≡ true → AddsValue specification.now self.old self.new }
+        ensures no_sibling { result ≡ true → is_seen ≡ false → is_sibling specification.now ≡ false }
         ensures kept { result ≡ false → self.new ≡ self.old }
     {
         if specification.name() == DW_AT_sibling && !is_seen {
             return false;
         }
-        if self.values == u32::MAX {
+        if self.values == u16::MAX {
             return false;
         }
         // (it says that the form implicit_const has a number)
@@ -63,6 +68,10 @@ impl Step {
             }
             self.bytes += size;
             self.values += 1;
+            let form = specification.form();
+            if form == DW_FORM_ref8 || form == DW_FORM_ref_sup8 {
+                self.has_ref8 = 1;
+            }
             return true;
         }
         match width {
@@ -90,6 +99,7 @@ impl Step {
             addresses: sum.addresses.checked_add(last.addresses)?,
             offsets: sum.offsets.checked_add(last.offsets)?,
             ref_addrs: sum.ref_addrs.checked_add(last.ref_addrs)?,
+            has_ref8: sum.has_ref8.max(last.has_ref8),
         })
     }
 

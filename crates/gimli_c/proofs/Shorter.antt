@@ -1,18 +1,16 @@
 -- Readers that go on leave fewer bytes, whatever the steps of a table are.
 use Rattle.std.proofs.Common.{sym, ◌≡◌, ℕ, zero, suc, ◌+◌, ◌<◌, ◌≤◌, ◌==◌, ℤ, ◌-ℤ◌, pos, Bool, true}
 use Rattle.std.proofs.Common.{false, not, if◌then◌else◌, unsigned_abs, List, [], ◌∷◌, length, Option}
-use Rattle.std.proofs.Common.{Some, None, Result, Ok, Err, refl, ap, ◌∙◌, arith}
-use Rattle.std.specs.Prelude.{All, IfOk, IfErr, OnOk}
+use Rattle.std.proofs.Common.{Some, None, Result, Ok, Err, refl, ap, ◌∙◌, arith, length-drop}
+use Rattle.std.specs.Prelude.{IfOk, IfErr, OnOk}
 use Rattle.std.proofs.lemmas.Int.{ints}
-use Rattle.std.proofs.lemmas.List.Elements.{All-cons, All-nil}
 use Rattle.gimli_base.specs.declared.common.Encoding.{Encoding}
 use Rattle.gimli_base.specs.declared.error.Error.{Error}
 use Rattle.gimli_base.specs.declared.error.Error.TheVariants.{OutOfMemory}
-use Rattle.gimli_base.specs.View.{View}
+use Rattle.gimli_base.specs.View.{View, cut}
 use Rattle.gimli_base.specs.Reading.{Reads, read_of}
-use Rattle.gimli_base.specs.Abbreviations.{Specification, Declaration, Map, IsWellFormed}
+use Rattle.gimli_base.specs.Abbreviations.{Specification, Declaration, Map}
 use Rattle.gimli_base.specs.Table.{codes_of}
-use Rattle.gimli_base.specs.Width.{attributes_size, known_sum, width_of}
 use Rattle.gimli_base.proofs.Later.{IsLater-length, made_leaves_later}
 use Rattle.gimli_base.proofs.Memory.{Never}
 use Rattle.gimli_units.specs.Entry.{entry_at, attribute_at, attributes_at, abbreviation_at}
@@ -59,29 +57,9 @@ code_leaves m v o w h =
     let later = IsLater-length 1 v w (abbreviation_at-later m v o w h) in
     omega (arith, later)
 
--- so many attributes of one byte
-ones : ℕ → List Specification
-ones zero = []
-ones (suc n) =
-    record { name = record { 0 = 1 }; form = record { 0 = 0x0b }; constant = None } ∷ ones n
-
-ones_size : (e : Encoding) (n : ℕ) → attributes_size e (ones n) ≡ Some n
-unfolding width_of ones
-ones_size e zero = refl
-ones_size e (suc n) = ap (known_sum (Some 1)) (ones_size e n) ∙ ap Some (omega arith)
-
-ones_formed : (n : ℕ) → All IsWellFormed (ones n)
-unfolding ones
-ones_formed zero = All-nil IsWellFormed
-ones_formed (suc n) = All-cons IsWellFormed _ (ones n) refl (ones_formed n)
-
--- what passed bytes leave, whatever attributes they are of
-pub bytes_leave : (limit : ℕ) (e : Encoding) (n : ℕ) (v w : View)
-    → ((ss : List Specification) → All IsWellFormed ss → attributes_size e ss ≡ Some n
-    → Ok (tt {0}, w) ≡ left_by (attributes_at limit e ss v))
-    → length w.bytes ≤ length v.bytes
-bytes_leave limit e n v w did =
-    all_leave limit e (ones n) v w (did (ones n) (ones_formed n) (ones_size e n))
+-- what passed bytes leave
+pub bytes_leave : (n : ℕ) (v w : View) → w ≡ cut n v → length w.bytes ≤ length v.bytes
+bytes_leave n v w is = rw is (omega (arith, length-drop n v.bytes))
 
 -- an entry that was read
 pub past_goes_on : (limit : ℕ) (p : RawPlace) (q : RawPlace) (r : Result Head Error)

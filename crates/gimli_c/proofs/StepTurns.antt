@@ -2,14 +2,12 @@
 use Rattle.std.proofs.Common.{◌≡◌, ℕ, ◌+◌, ◌-◌, ◌≤◌, true, List, [], ◌∷◌, map}
 use Rattle.std.proofs.Common.{take, drop, length, Some, Ok, Err, refl, sym, ap, ◌∙◌, arith}
 use Rattle.std.proofs.Common.{length-drop}
-use Rattle.std.specs.Prelude.{All}
 use Rattle.std.proofs.lemmas.List.{drop-map, take_all, drop-drop}
 use Rattle.gimli_base.specs.declared.common.Encoding.{Encoding}
 use Rattle.gimli_base.specs.declared.error.Error.{Error}
 use Rattle.gimli_base.specs.View.{View}
-use Rattle.gimli_base.specs.Abbreviations.{Specification, IsWellFormed}
-use Rattle.gimli_base.specs.Steps.{IsRun, step_size}
-use Rattle.gimli_base.specs.Width.{attributes_size}
+use Rattle.gimli_base.specs.Abbreviations.{Specification}
+use Rattle.gimli_base.specs.Steps.{IsRun}
 use Rattle.gimli_units.specs.Entry.{attribute_at, attributes_at}
 use Rattle.gimli_units.specs.Sized.{left_by}
 use Rattle.gimli_units.proofs.ReadTurns.{left_by_all, turn_run}
@@ -20,7 +18,7 @@ use Rattle.gimli_c.proofs.TableSteps.{has-drop}
 -- the values of a step are those of the first of its attributes
 own_run : (s : GimliSpecification) (ss tail : List GimliSpecification) → ss ≡ s ∷ tail
     → HasSteps ss → s.step.values ≤ length ss
-    → IsRun true s.step (take s.step.values (map specification_in ss))
+    → IsRun s.step (take s.step.values (map specification_in ss))
 own_run s ss tail is has fits = rw is ((rw is at has).0 (rw is at fits))
 
 -- all attributes from `start` on are passed
@@ -37,8 +35,7 @@ module _ (limit : ℕ) (e : Encoding) (all left : List GimliSpecification) (star
     ≡ left_by (attributes_at limit e (map specification_in left) v))
     (has : HasSteps left) (s : GimliSpecification) (tail : List GimliSpecification)
     (is : left ≡ s ∷ tail) (fits : s.step.values ≤ length left) (w : View)
-    (did : (ss : List Specification) → All IsWellFormed ss
-    → attributes_size e ss ≡ Some (step_size e s.step)
+    (did : (ss : List Specification) → IsRun s.step ss
     → Ok (tt {0}, w) ≡ left_by (attributes_at limit e ss v))
     (rest : List GimliSpecification)
     (rest_is : take (length left - s.step.values) (drop s.step.values left) ≡ rest) where
@@ -58,7 +55,7 @@ module _ (limit : ℕ) (e : Encoding) (all left : List GimliSpecification) (star
       let turned : left_by (attributes_at limit e (map specification_in left) v)
       ≡ left_by (attributes_at limit e (drop n (map specification_in left)) w) =
       rw zero_more at (turn_run limit e (map specification_in left) 0 v v refl n tt w
-      (did (take n (map specification_in left)) run.well_formed (run.size e))) in
+      (did (take n (map specification_in left)) run)) in
       so_far ∙ turned
       ∙ ap (λ ss. left_by (attributes_at limit e ss w))
       (drop-map specification_in s.step.values left ∙ ap (map specification_in) others)

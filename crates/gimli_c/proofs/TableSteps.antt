@@ -9,18 +9,18 @@ use Rattle.std.proofs.lemmas.List.Elements.{All-cons, All-nil}
 use Rattle.gimli_base.specs.declared.common.Encoding.{Encoding}
 use Rattle.gimli_base.specs.declared.step.Step.{Step}
 use Rattle.gimli_base.specs.Abbreviations.{Specification, IsWellFormed}
-use Rattle.gimli_base.specs.Steps.{IsRun, AddsValue, empty_step, step_size}
+use Rattle.gimli_base.specs.Steps.{IsRun, AddsValue, empty_step, is_ref8, step_size}
 use Rattle.gimli_base.specs.Width.{attributes_size, form_size, known_sum}
 use Rattle.gimli_c.specs.declared.table.GimliSpecification.{GimliSpecification}
 use Rattle.gimli_c.specs.Tables.{specification_in, HasSteps}
 use Rattle.gimli_c.specs.TableReads.{OwnSteps}
 
-pub empty_run : (ss : List Specification) → IsRun true empty_step (take 0 ss)
+pub empty_run : (ss : List Specification) → IsRun empty_step (take 0 ss)
 empty_run ss = record {
   counted = refl;
   well_formed = All-nil IsWellFormed;
   size = λ e. ap Some (omega arith);
-  no_sibling = λ no. absurd (cc);
+  no_ref8 = λ _. All-nil (λ x. is_ref8 x ≡ false);
 }
 
 known_sum_comm : (m n : Option ℕ) → known_sum m n ≡ known_sum n m
@@ -31,8 +31,8 @@ known_sum_comm None None = refl
 
 -- a value before those of a step
 pub longer_run : (x : Specification) (s t : Step) (ss : List Specification)
-    → AddsValue true x s t → IsRun true s (take s.values ss)
-    → IsRun true t (take t.values (x ∷ ss))
+    → AddsValue x s t → IsRun s (take s.values ss)
+    → IsRun t (take t.values (x ∷ ss))
 longer_run x s t ss adds run =
     let more : t.values ≡ suc s.values = omega (arith, adds.counted) in
     let is : take t.values (x ∷ ss) ≡ x ∷ take s.values ss =
@@ -45,7 +45,9 @@ longer_run x s t ss adds run =
       counted = omega (arith, adds.counted, run.counted);
       well_formed = All-cons IsWellFormed x (take s.values ss) adds.well_formed run.well_formed;
       size = size;
-      no_sibling = λ no. absurd (cc);
+      no_ref8 = λ none.
+          let both = adds.no_ref8 none in
+          All-cons (λ y. is_ref8 y ≡ false) x (take s.values ss) both.1 (run.no_ref8 both.0);
     })
 
 -- a step has no more values than there are attributes
@@ -99,7 +101,7 @@ pub record StepsPut (old now : List GimliSpecification) (i : ℕ) (t : Step) : T
   pub within : i ≤ length now
   pub long : length now ≡ length old
   pub steps : OwnSteps (drop i now)
-  pub run : IsRun true t (take t.values (map specification_in (drop i now)))
+  pub run : IsRun t (take t.values (map specification_in (drop i now)))
 
 pub put_begin : (ss : List GimliSpecification) → StepsPut ss ss (length ss) empty_step
 put_begin ss = record {
@@ -116,7 +118,7 @@ module _ (old now : List GimliSpecification) (k i : ℕ) (s : Step) (p : StepsPu
   abbrev item : GimliSpecification
   item = get_or now i d
 
-  put_more : (t : Step) → IsRun true t
+  put_more : (t : Step) → IsRun t
       (take t.values (specification_in item ∷ map specification_in (drop k now)))
       → StepsPut old (slice_set now i (record item { step = t })) i t
   put_more t run =
@@ -134,14 +136,14 @@ module _ (old now : List GimliSpecification) (k i : ℕ) (s : Step) (p : StepsPu
       }
 
   -- its value is one of the step,
-  pub put_longer : (t : Step) → AddsValue true (specification_in item) s t
+  pub put_longer : (t : Step) → AddsValue (specification_in item) s t
       → StepsPut old (slice_set now i (record item { step = t })) i t
   put_longer t adds = put_more t
       (longer_run (specification_in item) s t (map specification_in (drop k now)) adds p.run)
 
   -- or the only one of another, or of none
   pub put_other : (b : Bool) (t : Step)
-      → (b ≡ true → AddsValue true (specification_in item) empty_step t)
+      → (b ≡ true → AddsValue (specification_in item) empty_step t)
       → (b ≡ false → t ≡ empty_step)
       → StepsPut old (slice_set now i (record item { step = t })) i t
   put_other true t pushed kept = put_more t

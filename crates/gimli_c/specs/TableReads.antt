@@ -51,7 +51,7 @@ pub record IsHeadReadWith (limit : ℕ) (e : Encoding) (declared : Map) (v : Vie
 -- the step of each attribute is that of as many attributes from it on, and there are so many
 abbrev pub OwnSteps : List GimliSpecification → Type 0
 OwnSteps [] = Unit {0}
-OwnSteps (s ∷ ss) = IsRun true s.step (take s.step.values (map specification_in (s ∷ ss)))
+OwnSteps (s ∷ ss) = IsRun s.step (take s.step.values (map specification_in (s ∷ ss)))
     × OwnSteps ss
 
 -- these attributes are written behind the first `from`, where there is room for them

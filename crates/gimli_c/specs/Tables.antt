@@ -40,7 +40,7 @@ declared_in ss d = take d.attributes (drop d.first ss)
 abbrev pub HasSteps : List GimliSpecification → Type 0
 HasSteps [] = Unit {0}
 HasSteps (s ∷ ss) = (s.step.values ≤ length (s ∷ ss)
-    → IsRun true s.step (take s.step.values (map specification_in (s ∷ ss)))) × HasSteps ss
+    → IsRun s.step (take s.step.values (map specification_in (s ∷ ss)))) × HasSteps ss
 
 abbrev pub declaration_in : List GimliSpecification → GimliDeclaration → Declaration
 declaration_in ss d = record {

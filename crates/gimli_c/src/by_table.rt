@@ -186,7 +186,7 @@ fn pass_steps<R: Reader>(
     'steps: while let Some((first, _)) = left.split_first() {
         let step = first.step;
         let count = count_of(step);
-        if left.len() < count || !Attribute::pass_sized(input, encoding, step.size(encoding)) {
+        if left.len() < count || !Attribute::pass_step(input, encoding, &step) {
             return pass_values(input, encoding, left);
         }
         let Some((value, others)) = left[count..].split_first() else {

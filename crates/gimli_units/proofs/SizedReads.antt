@@ -1,6 +1,6 @@
 -- Where the size of a value is known, reading it is passing its bytes, with the same refusals.
 use Rattle.std.specs.Prelude.{◌≡◌, ℕ, ℤ, suc, ◌+◌, ◌*◌, ◌<◌, ◌≤◌, ◌^◌, ◌==◌, ◌&&◌, ◌||◌}
-use Rattle.std.specs.Prelude.{Bool, true, false, if◌then◌else◌, nat_lt, nat_le, length, take, reverse}
+use Rattle.std.specs.Prelude.{Bool, true, false, not, if◌then◌else◌, nat_lt, nat_le, length, take, reverse}
 use Rattle.std.specs.Prelude.{List, [], ◌∷◌, is_some, Option, Some, None, Result, Ok, Err}
 use Rattle.std.specs.List.{AllByRecursion}
 use Rattle.std.proofs.Common.{refl, sym, ap, subst, ◌∙◌, ◌++◌, arith, length-take}
@@ -30,7 +30,9 @@ use Rattle.gimli_units.specs.Layout.{block_leb, text, nothing, constant, forms, 
 use Rattle.gimli_units.specs.Form.{is_section_name, value_in, direct_at, form_at}
 use Rattle.gimli_units.specs.Form.{value_at}
 use Rattle.gimli_units.specs.Entry.{attribute_at}
-use Rattle.gimli_units.specs.Sized.{ReadsAny, AreBytes, left_by}
+use Rattle.gimli_base.specs.declared.step.Step.{Step}
+use Rattle.gimli_base.specs.Steps.{IsRun, is_ref8}
+use Rattle.gimli_units.specs.Sized.{AreBytes, left_by, reads_all, has_short_offsets}
 use Rattle.gimli_units.proofs.Chains.{chain_begin, chain_end, number_stands}
 use Rattle.gimli_units.proofs.WidthLaw.{size_of, known_size, form_size-known}
 use Rattle.gimli_units.proofs.SkipTurns.{not_indirect}
@@ -142,11 +144,15 @@ word_small : (f : Format) → word_size_of f ≤ 8
 word_small Dwarf32 = omega arith
 word_small Dwarf64 = omega arith
 
--- what the table of forms says of a layout: no offset has more than 8 bytes, and the number of a
--- declaration stands only with implicit_const
+-- ref8 and ref_sup8
+abbrev is_long : ℕ → Bool
+is_long form = form == 0x14 || form == 0x24
+
+-- what the table of forms says of a layout: no offset has more than 4 bytes but those of ref8 and
+-- ref_sup8, which have 8, and the number of a declaration stands only with implicit_const
 abbrev suits : ℕ → Layout → Bool
 suits form (section_or n f) = nat_le n 8
-suits form (offset n f) = nat_le n 8
+suits form (offset n f) = nat_le n 4 || (is_long form && nat_le n 8)
 suits form (constant f) = form == 0x21
 suits form l = true
 
@@ -176,44 +182,81 @@ found_suits form l (r ∷ rs) h k =
     cases true false i j others x y = others x y
     cases false t i j others x y = absurd (cc)
 
+-- reading refuses no value of a known size whose bytes are there, if its form is ref8 or ref_sup8 or
+-- if it is not
+pub record Readable (limit : ℕ) (e : Encoding) (long : Bool) : Type 0 where
+  pub sized : is_size e.address_size ≡ true
+  pub word : 256 ^ word_size_of e.format ≤ limit
+  pub reference : 256 ^ (if e.version == 2 then e.address_size else word_size_of e.format) ≤ limit
+  pub short_fits : 256 ^ 4 ≤ limit
+  pub long_fits : long ≡ true → 256 ^ 8 ≤ limit
+
+power_within : (limit m k : ℕ) → m ≤ k → 256 ^ k ≤ limit → 256 ^ m ≤ limit
+power_within limit m k le fits =
+    let power : 256 ^ m ≤ 256 ^ k = pow-le-pow_right {n = 256} (omega arith) le in
+    omega (arith, power, fits)
+
 -- the value in a layout
-module _ (limit : ℕ) (e : Encoding) (n : ℕ) (any : ReadsAny limit e n) (v : View)
+module _ (limit : ℕ) (e : Encoding) (n : ℕ) (long : Bool) (any : Readable limit e long) (v : View)
     (bytes : AreBytes v) where
-  offset_any : (m : ℕ) → n ≡ m → m ≤ 8 → left_by (uint_offset_at limit m v) ≡ skip_at n v
-  offset_any m is few =
-      let le : n ≤ 8 = omega (arith, is, few) in
+  offset_any : (m : ℕ) → n ≡ m → (m ≤ 8) × (256 ^ m ≤ limit)
+      → left_by (uint_offset_at limit m v) ≡ skip_at n v
+  offset_any m is fits =
       ap (λ k. left_by (uint_offset_at limit k v)) (sym is)
-      ∙ offset_passed limit n v le (any.fits le) bytes
+      ∙ offset_passed limit n v (rw is fits.0) (rw is fits.1) bytes
 
   uint_any : (m : ℕ) → n ≡ m → left_by (uint_at m v) ≡ skip_at n v
   uint_any m is = ap (λ k. left_by (uint_at k v)) (sym is) ∙ uint_passed n v
 
   word_any : n ≡ word_size_of e.format → left_by (offset_at limit e.format v) ≡ skip_at n v
   unfolding offset_at
-  word_any is = offset_any (word_size_of e.format) is (word_small e.format)
+  word_any is = offset_any (word_size_of e.format) is (word_small e.format, any.word)
 
-  sized_any : n ≡ e.address_size → left_by (sized_offset_at limit e.address_size v) ≡ skip_at n v
+  sized_any : n ≡ e.address_size → 256 ^ e.address_size ≤ limit
+      → left_by (sized_offset_at limit e.address_size v) ≡ skip_at n v
   unfolding sized_offset_at
-  sized_any is = rw any.sized (offset_any e.address_size is (size_small e.address_size any.sized))
+  sized_any is fits =
+      rw any.sized (offset_any e.address_size is (size_small e.address_size any.sized, fits))
 
   address_any : n ≡ e.address_size → left_by (address_at e.address_size v) ≡ skip_at n v
   unfolding address_at
   address_any is = rw any.sized (uint_any e.address_size is)
 
   reference_any : (t : Bool) → n ≡ (if t then e.address_size else word_size_of e.format)
+      → 256 ^ (if t then e.address_size else word_size_of e.format) ≤ limit
       → left_by
       (if t then sized_offset_at limit e.address_size v else offset_at limit e.format v)
       ≡ skip_at n v
-  reference_any true is = sized_any is
-  reference_any false is = word_any is
+  reference_any true is fits = sized_any is fits
+  reference_any false is fits = word_any is
 
-  section_any : (m : ℕ) (f : ℕ → Value) (t : Bool) → n ≡ m → m ≤ 8
+  section_any : (m : ℕ) (f : ℕ → Value) (t b : Bool) → (word_size_of e.format == m) ≡ t → n ≡ m
+      → m ≤ 8
       → left_by
-      (if t then map_read SecOffset (uint_offset_at limit m v) else map_read f (uint_at m v))
+      (if t && b then map_read SecOffset (uint_offset_at limit m v) else map_read f (uint_at m v))
       ≡ skip_at n v
-  section_any m f true is few =
-      left_by_made SecOffset (uint_offset_at limit m v) ∙ offset_any m is few
-  section_any m f false is few = left_by_made f (uint_at m v) ∙ uint_any m is
+  section_any m f true true here is few =
+      let word : word_size_of e.format ≡ m = eqb-true (word_size_of e.format) m here in
+      left_by_made SecOffset (uint_offset_at limit m v)
+      ∙ offset_any m is (few, rw word at any.word)
+  section_any m f true false here is few = left_by_made f (uint_at m v) ∙ uint_any m is
+  section_any m f false b here is few = left_by_made f (uint_at m v) ∙ uint_any m is
+
+  -- the offset of a form
+  offset_fits : (form m : ℕ) → is_long form ≡ long
+      → (nat_le m 4 || (is_long form && nat_le m 8)) ≡ true → (m ≤ 8) × (256 ^ m ≤ limit)
+  offset_fits form m is suit = cases (nat_le m 4) (is_long form) (nat_le m 8) refl is refl suit
+    where
+      cases : (a b d : Bool) → nat_le m 4 ≡ a → b ≡ long → nat_le m 8 ≡ d
+          → (a || (b && d)) ≡ true → (m ≤ 8) × (256 ^ m ≤ limit)
+      cases true b d i j k h =
+          let le : m ≤ 4 = leb-true m 4 i in
+          (omega (arith, le), power_within limit m 4 le any.short_fits)
+      cases false true true i j k h =
+          let le : m ≤ 8 = leb-true m 8 k in
+          (le, power_within limit m 8 le (any.long_fits (sym j)))
+      cases false true false i j k h = absurd (cc)
+      cases false false d i j k h = absurd (cc)
 
   none_any : n ≡ 0 → Ok (tt, v) ≡ skip_at n v
   none_any is = sym (skip_at-none v) ∙ ap (λ m. skip_at m v) (sym is)
@@ -226,48 +269,49 @@ module _ (limit : ℕ) (e : Encoding) (n : ℕ) (any : ReadsAny limit e n) (v : 
   constant_any form (Some k) f is well here = none_any is
   constant_any form None f is well here = absurd (cc)
 
-  in_any : (name form : ℕ) (c : Option ℤ) (l : Layout) → is_some c ≡ (form == 0x21)
-      → suits form l ≡ true → Some n ≡ size_of e l
+  in_any : (name form : ℕ) (c : Option ℤ) (l : Layout) → is_long form ≡ long
+      → is_some c ≡ (form == 0x21) → suits form l ≡ true → Some n ≡ size_of e l
       → left_by (value_in limit e name c l v) ≡ skip_at n v
-  in_any name form c (byte f) well suit h =
+  in_any name form c (byte f) long_is well suit h =
       let is : n ≡ 1 = cc in
       left_by_made f (byte_at v) ∙ byte_passed v.big v.place v.bytes
       ∙ ap (λ m. skip_at m v) (sym is)
-  in_any name form c (number m f) well suit h =
+  in_any name form c (number m f) long_is well suit h =
       let is : n ≡ m = cc in
       left_by_made f (uint_at m v) ∙ uint_any m is
-  in_any name form c (section_or m f) well suit h =
+  in_any name form c (section_or m f) long_is well suit h =
       let is : n ≡ m = cc in
-      section_any m f (word_size_of e.format == m && is_section_name name e.version) is
+      section_any m f (word_size_of e.format == m) (is_section_name name e.version) refl is
       (leb-true m 8 suit)
-  in_any name form c (address f) well suit h =
+  in_any name form c (address f) long_is well suit h =
       let is : n ≡ e.address_size = cc in
       left_by_made f (address_at e.address_size v) ∙ address_any is
-  in_any name form c (offset m f) well suit h =
+  in_any name form c (offset m f) long_is well suit h =
       let is : n ≡ m = cc in
-      left_by_made f (uint_offset_at limit m v) ∙ offset_any m is (leb-true m 8 suit)
-  in_any name form c (word_offset f) well suit h =
+      left_by_made f (uint_offset_at limit m v)
+      ∙ offset_any m is (offset_fits form m long_is suit)
+  in_any name form c (word_offset f) long_is well suit h =
       let is : n ≡ word_size_of e.format = cc in
       left_by_made f (offset_at limit e.format v) ∙ word_any is
-  in_any name form c (reference f) well suit h =
+  in_any name form c (reference f) long_is well suit h =
       let is : n ≡ (if e.version == 2 then e.address_size else word_size_of e.format) = cc in
-      left_by_made f _ ∙ reference_any (e.version == 2) is
-  in_any name form c (nothing x) well suit h = let is : n ≡ 0 = cc in none_any is
-  in_any name form c (constant f) well suit h =
+      left_by_made f _ ∙ reference_any (e.version == 2) is any.reference
+  in_any name form c (nothing x) long_is well suit h = let is : n ≡ 0 = cc in none_any is
+  in_any name form c (constant f) long_is well suit h =
       let is : n ≡ 0 = cc in
       constant_any form c f is well suit
-  in_any name form c (uleb f) well suit h = absurd (cc)
-  in_any name form c (sleb f) well suit h = absurd (cc)
-  in_any name form c (offset_leb f) well suit h = absurd (cc)
-  in_any name form c (offset_leb_and m f) well suit h = absurd (cc)
-  in_any name form c (block m f) well suit h = absurd (cc)
-  in_any name form c (block_leb f) well suit h = absurd (cc)
-  in_any name form c (text f) well suit h = absurd (cc)
+  in_any name form c (uleb f) long_is well suit h = absurd (cc)
+  in_any name form c (sleb f) long_is well suit h = absurd (cc)
+  in_any name form c (offset_leb f) long_is well suit h = absurd (cc)
+  in_any name form c (offset_leb_and m f) long_is well suit h = absurd (cc)
+  in_any name form c (block m f) long_is well suit h = absurd (cc)
+  in_any name form c (block_leb f) long_is well suit h = absurd (cc)
+  in_any name form c (text f) long_is well suit h = absurd (cc)
 
-  direct_any : (name form : ℕ) (c : Option ℤ) → is_some c ≡ (form == 0x21)
+  direct_any : (name form : ℕ) (c : Option ℤ) → is_long form ≡ long → is_some c ≡ (form == 0x21)
       → Some n ≡ known_size e form → left_by (direct_at limit e name c form v) ≡ skip_at n v
   unfolding direct_at known_size layout_of
-  direct_any name form c well h =
+  direct_any name form c long_is well h =
       cases (layout_of form) (λ l is. found_suits form l forms forms_suit is) h
     where
       cases : (o : Option Layout) → ((l : Layout) → o ≡ Some l → suits form l ≡ true)
@@ -279,24 +323,24 @@ module _ (limit : ℕ) (e : Encoding) (n : ℕ) (any : ReadsAny limit e n) (v : 
             | None ↦ Err (UnknownForm (record { 0 = form }))
           ]))
           (skip_at n v)
-      cases (Some l) suit k = in_any name form c l well (suit l refl) k
+      cases (Some l) suit k = in_any name form c l long_is well (suit l refl) k
       cases None suit k = absurd (cc)
 
-  value_any : (name form : ℕ) (c : Option ℤ) → is_some c ≡ (form == 0x21)
+  value_any : (name form : ℕ) (c : Option ℤ) → is_long form ≡ long → is_some c ≡ (form == 0x21)
       → Some n ≡ known_size e form → left_by (value_at limit e name c form v) ≡ skip_at n v
   unfolding value_at
-  value_any name form c well h =
+  value_any name form c long_is well h =
       let chain : Ok (form, v) ≡ form_at form v
       = chain_end (form_at form v) form v (not_indirect n form e h) (chain_begin form v) in
-      rw (sym chain, number_stands form c well) (direct_any name form c well h)
+      rw (sym chain, number_stands form c well) (direct_any name form c long_is well h)
 
   -- an attribute whose value has a known size
-  pub attribute_any : (s : Specification) → IsWellFormed s → Some n ≡ form_size e s.form.0
-      → left_by (attribute_at limit e s v) ≡ skip_at n v
+  pub attribute_any : (s : Specification) → is_ref8 s ≡ long → IsWellFormed s
+      → Some n ≡ form_size e s.form.0 → left_by (attribute_at limit e s v) ≡ skip_at n v
   unfolding attribute_at
-  attribute_any s well h =
+  attribute_any s long_is well h =
       left_by_made _ (value_at limit e s.name.0 s.constant s.form.0 v)
-      ∙ value_any s.name.0 s.form.0 s.constant well (h ∙ form_size-known e s.form.0)
+      ∙ value_any s.name.0 s.form.0 s.constant long_is well (h ∙ form_size-known e s.form.0)
 
 -- offsets that are wide enough
 pub ok_below : {O : Type 0} → (f : O → ℕ) (limit m : ℕ) (r : Result O Error)
@@ -319,21 +363,83 @@ offset_is limit m k h = cases (nat_lt m limit) h
     cases true is = cc
     cases false is = absurd (cc)
 
-pub any_of_16 : (limit : ℕ) (e : Encoding) → is_size e.address_size ≡ true
-    → 0xffff_ffff_ffff_ffff < limit → (n : ℕ) → ReadsAny limit e n
-any_of_16 limit e sized wide n = record {
-  sized = sized;
-  fits = λ few.
-      let power : 256 ^ n ≤ 256 ^ 8 = pow-le-pow_right {n = 256} (omega arith) few in
-      omega (arith, power, wide);
-}
+-- where each number of 64 bits is an offset,
+reference_few : (t : Bool) (a w k : ℕ) → a ≤ k → w ≤ k → (if t then a else w) ≤ k
+reference_few true a w k h i = h
+reference_few false a w k h i = i
 
-pub any_of_4 : (limit : ℕ) (e : Encoding) → is_size e.address_size ≡ true
-    → 0xffff_ffff < limit → (n : ℕ) → n < 5 → ReadsAny limit e n
-any_of_4 limit e sized wide n few = record {
-  sized = sized;
-  fits = λ _.
-      let le : n ≤ 4 = omega (arith, few) in
-      let power : 256 ^ n ≤ 256 ^ 4 = pow-le-pow_right {n = 256} (omega arith) le in
-      omega (arith, power, wide);
-}
+wide_reads : (limit : ℕ) (e : Encoding) → is_size e.address_size ≡ true
+    → 0xffff_ffff_ffff_ffff < limit → (long : Bool) → Readable limit e long
+wide_reads limit e sized wide long =
+    let all : 256 ^ 8 ≤ limit = omega (arith, wide) in
+    let word = word_small e.format in
+    let refs =
+    reference_few (e.version == 2) e.address_size (word_size_of e.format) 8
+    (size_small e.address_size sized) word in
+    record {
+      sized = sized;
+      word = power_within limit _ 8 word all;
+      reference = power_within limit _ 8 refs all;
+      short_fits = power_within limit 4 8 (omega arith) all;
+      long_fits = λ _. all;
+    }
+
+-- or each of 32, and no offset is longer
+short_reference : (t : Bool) (a w : ℕ) → (not t || nat_le a 4) ≡ true → w ≤ 4
+    → (if t then a else w) ≤ 4
+short_reference true a w h i = leb-true a 4 h
+short_reference false a w h i = i
+
+short_reads : (limit : ℕ) (e : Encoding) → is_size e.address_size ≡ true → 0xffff_ffff < limit
+    → word_size_of e.format ≤ 4 → (not (e.version == 2) || nat_le e.address_size 4) ≡ true
+    → Readable limit e false
+short_reads limit e sized wide word few =
+    let all : 256 ^ 4 ≤ limit = omega (arith, wide) in
+    record {
+      sized = sized;
+      word = power_within limit _ 4 word all;
+      reference = power_within limit _ 4
+          (short_reference (e.version == 2) e.address_size (word_size_of e.format) few word)
+          all;
+      short_fits = all;
+      long_fits = λ no. absurd (cc);
+    }
+
+both_of : (a b : Bool) → (a && b) ≡ true → (a ≡ true) × (b ≡ true)
+both_of true b h = (refl, h)
+both_of false b h = absurd (cc)
+
+-- so reading refuses no value of a step
+pub step_reads : (limit : ℕ) (e : Encoding) (step : Step) → reads_all limit e step ≡ true
+    → (ss : List Specification) → IsRun step ss
+    → AllByRecursion (λ s. Readable limit e (is_ref8 s)) ss
+step_reads limit e step h ss run =
+    let both = both_of (is_size e.address_size) _ h in
+    cases (nat_lt 0xffff_ffff_ffff_ffff limit) refl both.0 both.1
+  where
+    each : ((long : Bool) → Readable limit e long) → (xs : List Specification)
+        → AllByRecursion (λ s. Readable limit e (is_ref8 s)) xs
+    each all [] = tt
+    each all (x ∷ xs) = (all (is_ref8 x), each all xs)
+
+    short : Readable limit e false → (xs : List Specification)
+        → AllByRecursion (λ s. is_ref8 s ≡ false) xs
+        → AllByRecursion (λ s. Readable limit e (is_ref8 s)) xs
+    short all [] none = tt
+    short all (x ∷ xs) none = (rw none.0 all, short all xs none.1)
+
+    cases : (t : Bool) → nat_lt 0xffff_ffff_ffff_ffff limit ≡ t → is_size e.address_size ≡ true
+        → (t || (nat_lt 0xffff_ffff limit && has_short_offsets e step)) ≡ true
+        → AllByRecursion (λ s. Readable limit e (is_ref8 s)) ss
+    cases true is sized k =
+        each (wide_reads limit e sized (ltb-true 0xffff_ffff_ffff_ffff limit is)) ss
+    cases false is sized k =
+        let there = both_of (nat_lt 0xffff_ffff limit) _ k in
+        let none = both_of (step.has_ref8 == 0) _ there.1 in
+        let few = both_of (nat_le (word_size_of e.format) 4) _ none.1 in
+        short
+        (short_reads limit e sized (ltb-true 0xffff_ffff limit there.0)
+        (leb-true (word_size_of e.format) 4 few.0) few.1)
+        ss
+        (recursion_from_All (λ s. is_ref8 s ≡ false) ss
+        (run.no_ref8 (eqb-true step.has_ref8 0 none.0)))

@@ -5,31 +5,24 @@ use Rattle.std.specs.Prelude.{[], ◌∷◌, Option, Some, None, is_some, Ok, Er
 use Rattle.std.specs.List.{AllByRecursion}
 use Rattle.std.specs.Option.{option_map, option_flatten}
 use Rattle.std.proofs.Common.{refl, sym, ap, ◌∙◌, arith, length-drop}
-use Rattle.std.proofs.lemmas.Bool.{ltb-true}
 use Rattle.std.proofs.lemmas.List.{take-append-drop, take_all, nil_from_length}
 use Rattle.std.proofs.lemmas.List.Elements.{recursion_from_All}
 use Rattle.gimli_base.specs.declared.common.Encoding.{Encoding}
 use Rattle.gimli_base.specs.declared.error.Error.{Error}
 use Rattle.gimli_base.specs.declared.step.Step.{Step}
 use Rattle.gimli_base.specs.View.{View}
-use Rattle.gimli_base.specs.Reading.{Reads, ◌>>=◌, map_read, is_size}
+use Rattle.gimli_base.specs.Reading.{Reads, ◌>>=◌, map_read}
 use Rattle.gimli_base.specs.Abbreviations.{Specification}
-use Rattle.gimli_base.specs.Steps.{AreSteps, AfterStep, IsRun, is_sibling}
-use Rattle.gimli_base.specs.Width.{form_size, attributes_size}
+use Rattle.gimli_base.specs.Steps.{AreSteps, AfterStep, is_sibling}
 use Rattle.gimli_units.specs.Value.{Value}
 use Rattle.gimli_units.specs.Form.{value_at}
 use Rattle.gimli_units.specs.Kind.{unit_reference}
 use Rattle.gimli_units.specs.Entry.{with_value, attribute_at, attributes_at}
 use Rattle.gimli_units.specs.declared.offset.UnitOffset.{UnitOffset}
-use Rattle.gimli_units.specs.Sized.{found_numbers, ReadsAny, reads_all, left_by, find_in, found_at}
+use Rattle.gimli_units.specs.Sized.{found_numbers, left_by, find_in, found_at}
 use Rattle.gimli_units.specs.Sized.{found_or, sibling_after}
-use Rattle.gimli_units.proofs.SizedReads.{any_of_16}
 use Rattle.gimli_units.proofs.ReadTurns.{left_by_all}
 use Rattle.gimli_units.proofs.SiblingReads.{turn, run_passed}
-
-both_of : (a b : Bool) → (a && b) ≡ true → (a ≡ true) × (b ≡ true)
-both_of true b h = (refl, h)
-both_of false b h = absurd (cc)
 
 pub not_true : (b : Bool) → not b ≡ true → b ≡ false
 not_true true h = absurd (cc)
@@ -39,33 +32,10 @@ pub not_false : (b : Bool) → not b ≡ false → b ≡ true
 not_false true h = refl
 not_false false h = absurd (cc)
 
--- where reading refuses no value whose bytes are there, it refuses none of any size
-pub any_size : (limit : ℕ) (e : Encoding) → reads_all limit e ≡ true → (n : ℕ)
-    → ReadsAny limit e n
-any_size limit e h n =
-    let both = both_of (is_size e.address_size) _ h in
-    any_of_16 limit e both.0 (ltb-true 0xffff_ffff_ffff_ffff limit both.1) n
-
 -- after the last value
 pub found_end : (found : Option (Option ℕ)) → found_or found [] ≡ option_flatten found
 found_end (Some o) = refl
 found_end None = refl
-
--- a value, as a list of one is passed
-pub one_size : (e : Encoding) (s : Specification) (n : ℕ) → Some n ≡ form_size e s.form.0
-    → attributes_size e (s ∷ []) ≡ Some n
-one_size e s n is = rw (← is) (ap Some (omega arith))
-
-pub one_value : (limit : ℕ) (e : Encoding) (s : Specification) (v w : View)
-    → Ok (tt, w) ≡ left_by (attributes_at limit e (s ∷ []) v)
-    → Ok (tt, w) ≡ left_by (attribute_at limit e s v)
-unfolding attributes_at
-one_value limit e s v w h =
-    h ∙ left_by_all limit e s [] v ∙ cases (left_by (attribute_at limit e s v))
-  where
-    cases : (r : Reads (Unit {0})) → (r >>= λ p. left_by (attributes_at limit e [] p.1)) ≡ r
-    cases (Ok p) = refl
-    cases (Err x) = refl
 
 -- values are left, which begin at v, and these are their steps
 pub record StepsLeft (limit : ℕ) (e : Encoding) (all : List Specification)
@@ -172,12 +142,9 @@ module _ (limit : ℕ) (e : Encoding) (all : List Specification) (sought : Optio
   abbrev run : List Specification
   run = take step.values left
 
-  is_run : IsRun state.seen step run
-  is_run = state.are_steps.0
-
   no_sibling : found ≡ None → AllByRecursion (λ s. is_sibling s ≡ false) run
   no_sibling none = recursion_from_All (λ s. is_sibling s ≡ false) run
-      (is_run.no_sibling (state.is_found none))
+      (state.are_steps.1 (state.is_found none))
 
   pub step_passed : sibling_after limit e all sought start
       ≡ sibling_after limit e (drop step.values left) found w
@@ -197,7 +164,7 @@ module _ (limit : ℕ) (e : Encoding) (all : List Specification) (sought : Optio
   step_over = rw from_there (record {
     seen = state.seen;
     is_found = state.is_found;
-    after = state.are_steps.1;
+    after = state.are_steps.2;
     same = step_passed;
   })
 

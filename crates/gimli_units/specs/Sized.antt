@@ -1,12 +1,13 @@
 -- Passing values, by their known size where reading refuses none whose bytes are there, and where
 -- the first DW_AT_sibling among them leads.
-use Rattle.std.specs.Prelude.{◌≡◌, ℕ, ◌<◌, ◌≤◌, ◌^◌, ◌==◌, ◌&&◌, Bool, true, if◌then◌else◌}
-use Rattle.std.specs.Prelude.{nat_lt, All}
+use Rattle.std.specs.Prelude.{ℕ, ◌<◌, ◌==◌, ◌&&◌, ◌||◌, not, Bool, if◌then◌else◌}
+use Rattle.std.specs.Prelude.{nat_lt, nat_le, All}
 use Rattle.std.specs.Prelude.{List, Option, Some, None}
 use Rattle.std.specs.Option.{option_map}
 use Rattle.gimli_base.specs.declared.common.Encoding.{Encoding}
 use Rattle.gimli_base.specs.View.{View}
-use Rattle.gimli_base.specs.Reading.{Reads, is_size, map_read}
+use Rattle.gimli_base.specs.declared.step.Step.{Step}
+use Rattle.gimli_base.specs.Reading.{Reads, is_size, map_read, word_size_of}
 use Rattle.gimli_base.specs.Abbreviations.{Specification}
 use Rattle.gimli_units.specs.declared.offset.UnitOffset.{UnitOffset}
 use Rattle.gimli_units.specs.Entry.{Attr, attribute_at, attributes_at}
@@ -48,13 +49,15 @@ abbrev pub found_at : ℕ → Encoding → Specification → Option (Option ℕ)
     → Reads (Option (Option ℕ))
 found_at limit e s found v = map_read (find_in found) (attribute_at limit e s v)
 
--- reading refuses no value of n bytes: the addresses have a size that can be read, and an offset of
--- n bytes is below the limit; no offset has more than 8
-pub record ReadsAny (limit : ℕ) (e : Encoding) (n : ℕ) : Type 0 where
-  pub sized : is_size e.address_size ≡ true
-  pub fits : n ≤ 8 → 256 ^ n ≤ limit
+-- no offset in the values of a step has more than four bytes: it has no reference of 8 bytes, the
+-- offsets of the format are short, and so is what has the size of an address in version 2
+abbrev pub has_short_offsets : Encoding → Step → Bool
+has_short_offsets e s = s.has_ref8 == 0
+    && (nat_le (word_size_of e.format) 4 && (not (e.version == 2) || nat_le e.address_size 4))
 
--- reading refuses no value whose bytes are there: the addresses have a size that can be read, and
--- each number of 64 bits is an offset
-abbrev pub reads_all : ℕ → Encoding → Bool
-reads_all limit e = is_size e.address_size && nat_lt 0xffff_ffff_ffff_ffff limit
+-- reading refuses no value of a step whose bytes are there: the addresses have a size that can be
+-- read, and each offset among the values is below the limit, as all of its bytes can be
+abbrev pub reads_all : ℕ → Encoding → Step → Bool
+reads_all limit e s = is_size e.address_size
+    && (nat_lt 0xffff_ffff_ffff_ffff limit
+    || (nat_lt 0xffff_ffff limit && has_short_offsets e s))

@@ -1,24 +1,26 @@
 //! Attributes of entries.
 
-ghost use Rattle.std.specs.Prelude.{◌≡◌, ◌^◌, List, All, Some, Ok, true, false, OnErr};
+ghost use Rattle.std.specs.Prelude.{◌≡◌, ◌^◌, List, Ok, true, false, OnErr};
 ghost use Rattle.std.specs.Prelude.{◌&&◌, nat_le, length};
 ghost use Rattle.std.specs.Option.{option_map};
 ghost use Rattle.gimli_base.specs.Offset.{answer_of};
 ghost use Rattle.gimli_base.specs.Reading.{read_of, map_read};
 ghost use Rattle.gimli_units.specs.Entry.{attribute_at, attributes_at};
 ghost use Rattle.gimli_units.specs.Sized.{left_by, reads_all};
-ghost use Rattle.gimli_base.specs.Abbreviations.{Specification, IsWellFormed};
-ghost use Rattle.gimli_base.specs.Width.{attributes_size};
+ghost use Rattle.gimli_base.specs.Abbreviations.{Specification};
+ghost use Rattle.gimli_base.specs.Steps.{IsRun, step_size};
+ghost use Rattle.gimli_base.specs.View.{cut};
 ghost use Rattle.gimli_units.specs.Value.{map_value, map_attribute};
 ghost use Rattle.gimli_units.specs.Kind.{unit_reference};
 ghost use Rattle.gimli_units.specs.NormalValue.{udata_of, sdata_of, sec_offset_of, exprloc_of};
 ghost use Rattle.gimli_units.specs.NormalValue.{string_of, string_sup_of, below};
 
 use crate::form::{read_form, read_of_variable_size};
-use crate::pass::pass_sized;
+use crate::pass::pass_step;
 use crate::{AttributeValue, UnitOffset};
 use gimli_base::{
     AttributeSpecification, DebugStr, DwAt, DwForm, Encoding, Expression, Reader, Result, Section,
+    Step,
 };
 use taker::{Pass, TakeAttribute};
 
@@ -101,20 +103,22 @@ impl<R: Reader> Attribute<R> {
         Ok(())
     }
 
-    /// Passes the values of attributes that have `size` bytes together (DWARF 5, 7.5.6), and
-    /// answers true, where the encoding's addresses have 1, 2, 4 or 8 bytes, the reader's offsets
-    /// have 64 bits, and so many bytes are left. Else it answers false, and the input stays.
+    /// Passes the values of a step together (DWARF 5, 7.5.6), and answers true, if their bytes are
+    /// left and reading refuses none of them: the encoding's addresses have 1, 2, 4 or 8 bytes, and
+    /// the reader's offsets have 64 bits, or 32 where no offset among the values has more. Else it
+    /// answers false, and the input stays.
     #[inline(always)]
-    pub fn pass_sized(input: &mut R, encoding: Encoding, size: u64) -> bool
-        ensures decides { result ≡ (reads_all R.Offset.limit encoding
-            && nat_le size (length (R.view input.old).bytes)) }
-        ensures passed { result ≡ true → (ss : List Specification) → All IsWellFormed ss
-            → attributes_size encoding ss ≡ Some size
+    pub fn pass_step(input: &mut R, encoding: Encoding, step: &Step) -> bool
+        ensures decides { result ≡ (reads_all R.Offset.limit encoding step.now
+            && nat_le (step_size encoding step.now) (length (R.view input.old).bytes)) }
+        ensures bytes { result ≡ true
+            → R.view input.new ≡ cut (step_size encoding step.now) (R.view input.old) }
+        ensures passed { result ≡ true → (ss : List Specification) → IsRun step.now ss
             → Ok (tt, R.view input.new)
             ≡ left_by (attributes_at R.Offset.limit encoding ss (R.view input.old)) }
         ensures kept { result ≡ false → input.new ≡ input.old }
     {
-        pass_sized(input, encoding, size)
+        pass_step(input, encoding, step)
     }
 
     /// The value as the form shows it.

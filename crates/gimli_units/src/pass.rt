@@ -1,24 +1,24 @@
 //! Passing attributes with the refusals of reading them: those of known sizes by their bytes, where
 //! no value whose bytes are there is refused, and the others by reading them.
 
-ghost use Rattle.std.specs.Prelude.{◌≡◌, ◌≤◌, ◌&&◌, length, nat_le, All, List, Ok, Some, true};
-ghost use Rattle.std.specs.Prelude.{false};
+ghost use Rattle.std.specs.Prelude.{◌≡◌, ◌≤◌, ◌&&◌, length, nat_le, List, Ok, true, false};
 ghost use Rattle.std.specs.Option.{option_map};
 ghost use Rattle.gimli_base.specs.Offset.{answer_of};
 ghost use Rattle.gimli_base.specs.Reading.{read_of, map_read, is_size};
 ghost use Rattle.gimli_base.specs.View.{cut};
-ghost use Rattle.gimli_base.specs.Width.{attributes_size};
-ghost use Rattle.gimli_base.specs.Abbreviations.{Specification, IsWellFormed};
+ghost use Rattle.gimli_base.specs.Abbreviations.{Specification};
+ghost use Rattle.gimli_base.specs.Steps.{IsRun, step_size};
 ghost use Rattle.gimli_units.specs.Kind.{unit_reference};
 ghost use Rattle.gimli_units.specs.Entry.{attribute_at, attributes_at};
 ghost use Rattle.gimli_units.specs.Sized.{left_by, sibling_at, sibling_after, found_at};
-ghost use Rattle.gimli_units.specs.Sized.{found_numbers, reads_all};
+ghost use Rattle.gimli_units.specs.Sized.{found_numbers, reads_all, has_short_offsets};
 
 use crate::UnitOffset;
 use crate::attribute::taker::{Keep, Pass};
 use crate::form::{read_form, read_of_variable_size};
 use gimli_base::{
     Abbreviation, AttributeSpecification, DW_AT_sibling, Encoding, Reader, ReaderOffset, Result,
+    Step,
 };
 use std::alloc::Allocator;
 
@@ -43,35 +43,48 @@ fn is_read(address_size: u8) -> bool
     address_size == 1 || address_size == 2 || address_size == 4 || address_size == 8
 }
 
-// Whether reading refuses no value of a known size whose bytes are there.
+// Whether no offset in the values of a step has more than four bytes.
 #[inline(always)]
-fn reads_all<R: Reader>(encoding: Encoding) -> bool
-    ensures { result ≡ reads_all R.Offset.limit encoding }
+fn has_short_offsets(step: &Step, encoding: Encoding) -> bool
+    ensures { result ≡ has_short_offsets encoding step.now }
 {
-    is_read(encoding.address_size) && R::Offset::from_u64(0xffff_ffff_ffff_ffff).is_ok()
+    step.has_ref8 == 0
+        && encoding.format.word_size() <= 4
+        && (encoding.version != 2 || encoding.address_size <= 4)
 }
 
-/// Passes values that have `size` bytes together, if reading refuses none of any size and so many
-/// are left; answers whether it does, and else the input stays.
+// Whether reading refuses no value of a step whose bytes are there.
 #[inline(always)]
-pub(crate) fn pass_sized<R: Reader>(input: &mut R, encoding: Encoding, size: u64) -> bool
-    ensures decides { result ≡ (reads_all R.Offset.limit encoding
-        && nat_le size (length (R.view input.old).bytes)) }
-    ensures passed { result ≡ true → (ss : List Specification) → All IsWellFormed ss
-        → attributes_size encoding ss ≡ Some size
+fn reads_all<R: Reader>(step: &Step, encoding: Encoding) -> bool
+    ensures { result ≡ reads_all R.Offset.limit encoding step.now }
+{
+    is_read(encoding.address_size)
+        && (R::Offset::from_u64(0xffff_ffff_ffff_ffff).is_ok()
+            || (R::Offset::from_u64(0xffff_ffff).is_ok() && has_short_offsets(step, encoding)))
+}
+
+/// Passes the values of a step, if reading refuses none of them and all their bytes are left;
+/// answers whether it does, and else the input stays.
+#[inline(always)]
+pub(crate) fn pass_step<R: Reader>(input: &mut R, encoding: Encoding, step: &Step) -> bool
+    ensures decides { result ≡ (reads_all R.Offset.limit encoding step.now
+        && nat_le (step_size encoding step.now) (length (R.view input.old).bytes)) }
+    ensures bytes { result ≡ true
+        → R.view input.new ≡ cut (step_size encoding step.now) (R.view input.old) }
+    ensures passed { result ≡ true → (ss : List Specification) → IsRun step.now ss
         → Ok (tt, R.view input.new)
         ≡ left_by (attributes_at R.Offset.limit encoding ss (R.view input.old)) }
     ensures kept { result ≡ false → input.new ≡ input.old }
 {
-    if input.len().into_u64() < size || !reads_all::<R>(encoding) {
+    let size = step.size(encoding);
+    if input.len().into_u64() < size || !reads_all::<R>(step, encoding) {
         return false;
     }
     pass_bytes(input, size);
     true
 }
 
-// Passes a value as it is read, by its size if that is known; where it is refused, the input is
-// left anywhere.
+// Passes a value as it is read; where it is refused, the input is left anywhere.
 #[inline(always)]
 #[tactic(auto, using(crate::proofs::AttributeTurns::passed_as))]
 fn pass_value<R: Reader>(
@@ -82,13 +95,6 @@ fn pass_value<R: Reader>(
     ensures { read_of result (R.view input.new)
         ≡ left_by (attribute_at R.Offset.limit encoding specification.now (R.view input.old)) }
 {
-    // (it says that the form implicit_const has a number)
-    let _ = specification.implicit_const_value();
-    if let Some(size) = specification.size(encoding)
-        && pass_sized(input, encoding, u64::from(size))
-    {
-        return Ok(());
-    }
     read_of_variable_size::<R, Pass, 1>(input, encoding, specification, &mut Pass)
 }
 
@@ -212,7 +218,7 @@ fn pass_steps<R: Reader, A: Allocator>(
     let Some((first, others)) = declared.steps().split_first() else {
         return pass_each_cold(input, encoding, declared.attributes(), found);
     };
-    if !pass_sized(input, encoding, first.size(encoding)) {
+    if !pass_step(input, encoding, first) {
         return pass_each_cold(input, encoding, declared.attributes(), found);
     }
     if others.is_empty() {
@@ -226,7 +232,7 @@ fn pass_steps<R: Reader, A: Allocator>(
         let Some((step, more)) = steps.split_first() else {
             return pass_each_cold(input, encoding, rest, found);
         };
-        if !pass_sized(input, encoding, step.size(encoding)) {
+        if !pass_step(input, encoding, step) {
             return pass_each_cold(input, encoding, rest, found);
         }
         left = &rest[step.values as usize..];
@@ -248,7 +254,7 @@ pub(crate) fn pass_declared<R: Reader, A: Allocator>(
         (attributes_at R.Offset.limit encoding declared.now.attributes (R.view input.old)) }
 {
     if let Some(step) = declared.whole_step()
-        && pass_sized(input, encoding, step.size(encoding))
+        && pass_step(input, encoding, step)
     {
         return Ok(());
     }

@@ -3,7 +3,7 @@ use Rattle.std.proofs.lemmas.List.{nil_from_length}
 use Rattle.gimli_c.proofs.Shorter.{passed_leave, one_leaves, bytes_leave, all_never, one_never}
 use Rattle.gimli_c.proofs.StepTurns.{none_left, steps_end, value_refused, value_passed, more_has}
 use Rattle.gimli_c.proofs.by_table.pass_steps.Goals.{then-left-count-via-then-left-count}
-use Rattle.gimli_c.proofs.by_table.pass_steps.Goals.{then-left-count-via-else-left-count+then-not-pass_sized}
+use Rattle.gimli_c.proofs.by_table.pass_steps.Goals.{then-left-count-via-else-left-count+then-not-pass_step}
 use Rattle.gimli_c.proofs.by_table.pass_steps.Goals as goal
 
 pub returns-then-left-count-clause-shorter : goal.returns-then-left-count-clause-shorter
@@ -11,8 +11,8 @@ returns-then-left-count-clause-shorter g c =
     let inv = c.steps.invariant in
     let stays : c.then-left-count.input ≡ c.steps.input = elim c.then-left-count.branch [
       | then-left-count-via-then-left-count w ↦ w.input-is
-      | then-left-count-via-else-left-count+then-not-pass_sized w ↦
-          w.input-is ∙ w.pass_sized.ensures.kept w.if-not-pass_sized.true
+      | then-left-count-via-else-left-count+then-not-pass_step w ↦
+          w.input-is ∙ w.pass_step.ensures.kept w.if-not-pass_step.true
     ] in
     passed_leave _ _ _ _ _ _ c.pass_values.result inv.shorter (rw stays at c.pass_values.ensures)
 
@@ -20,7 +20,7 @@ pub returns-in_default-split_first-clause-passed : goal.returns-in_default-split
 returns-in_default-split_first-clause-passed g c = λ given.
     let inv = c.steps.invariant in
     let count = c.count_of-count.ensures in
-    let did = rw c.size.ensures at (c.pass_sized.ensures.passed c.if-not-pass_sized.false) in
+    let did = c.pass_step.ensures.passed c.if-not-pass_step.false in
     let fits : c.in-Some.first.now.step.values ≤ length c.steps.left.now =
     omega (arith, c.if-left-count.false, count) in
     let none = rw count at (nil_from_length _ c.in_default-split_first.ensures.cases) in
@@ -30,14 +30,14 @@ returns-in_default-split_first-clause-passed g c = λ given.
 pub returns-in_default-split_first-clause-shorter :
     goal.returns-in_default-split_first-clause-shorter
 returns-in_default-split_first-clause-shorter g c =
-    let less = bytes_leave _ _ _ _ _ (c.pass_sized.ensures.passed c.if-not-pass_sized.false) in
+    let less = bytes_leave _ _ _ (c.pass_step.ensures.bytes c.if-not-pass_step.false) in
     omega (arith, c.steps.invariant.shorter, less)
 
 pub returns-in_err-pass_value-clause-passed : goal.returns-in_err-pass_value-clause-passed
 returns-in_err-pass_value-clause-passed g c = λ given.
     let inv = c.steps.invariant in
     let count = c.count_of-count.ensures in
-    let did = rw c.size.ensures at (c.pass_sized.ensures.passed c.if-not-pass_sized.false) in
+    let did = c.pass_step.ensures.passed c.if-not-pass_step.false in
     let fits : c.in-Some.first.now.step.values ≤ length c.steps.left.now =
     omega (arith, c.if-left-count.false, count) in
     let there = rw count at c.in-Some-split_first.ensures.cases.0 in
@@ -49,12 +49,11 @@ pub steps-preserved : goal.steps-preserved
 steps-preserved g c =
     let inv = c.steps.invariant in
     let count = c.count_of-count.ensures in
-    let sized = c.pass_sized.ensures.passed c.if-not-pass_sized.false in
-    let did = rw c.size.ensures at sized in
+    let did = c.pass_step.ensures.passed c.if-not-pass_step.false in
     let fits : c.in-Some.first.now.step.values ≤ length c.steps.left.now =
     omega (arith, c.if-left-count.false, count) in
     let there = rw count at c.in-Some-split_first.ensures.cases.0 in
-    let less = bytes_leave _ _ _ _ _ sized in
+    let less = bytes_leave _ _ _ (c.pass_step.ensures.bytes c.if-not-pass_step.false) in
     let one = one_leaves _ _ _ _ _ c.in_ok-pass_value.ensures in
     record {
       passed = λ given. value_passed _ _ _ _ _ _ (inv.passed given) (inv.has given) _ _

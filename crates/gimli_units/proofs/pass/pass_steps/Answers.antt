@@ -16,13 +16,13 @@ returns-then-is_empty g c =
     let step = c.in-Some.first.now in
     let state = steps_begin limit e all sought start (step ∷ c.in-Some.others.now)
     (rw c.in-Some.ensures.cases.0 at c.steps.ensures) in
-    let passed = c.pass_sized.ensures.passed c.if-not-pass_sized.false (take step.values all)
-    state.are_steps.0.well_formed (rw c.size.ensures (state.are_steps.0.size e)) in
+    let passed = c.pass_step.ensures.passed c.if-not-pass_step.false (take step.values all)
+    state.are_steps.0 in
     let over = step_over limit e all sought start step c.in-Some.others.now all sought start
-    (g.R.Reader.view c.pass_sized.new.input) state passed in
+    (g.R.Reader.view c.pass_step.new.input) state passed in
     rw (c.flatten.ensures, flatten_numbers number c.args.found)
     (steps_over limit e all sought start c.in-Some.others.now _ sought
-    (g.R.Reader.view c.pass_sized.new.input) over
+    (g.R.Reader.view c.pass_step.new.input) over
     (eqb-true _ 0 (sym c.is_empty.ensures ∙ c.if-is_empty.true)))
 
 pub values-init : goal.values-init
@@ -36,10 +36,10 @@ values-init g c =
     let step = c.in-Some.first.now in
     let state = steps_begin limit e all sought start (step ∷ c.in-Some.others.now)
     (rw c.in-Some.ensures.cases.0 at c.steps.ensures) in
-    let passed = c.pass_sized.ensures.passed c.if-not-pass_sized.false (take step.values all)
-    state.are_steps.0.well_formed (rw c.size.ensures (state.are_steps.0.size e)) in
+    let passed = c.pass_step.ensures.passed c.if-not-pass_step.false (take step.values all)
+    state.are_steps.0 in
     let over = step_over limit e all sought start step c.in-Some.others.now all sought start
-    (g.R.Reader.view c.pass_sized.new.input) state passed in
+    (g.R.Reader.view c.pass_step.new.input) state passed in
     rw c.attributes-2.ensures over
 
 pub returns-in_err-found : goal.returns-in_err-found
@@ -61,8 +61,8 @@ returns-in_err-found g c =
     (one_refused limit e all left sought found start v c.values.invariant.same s rest is _
     c.in_err-found.ensures)
 
-pub returns-then-not-pass_sized-2 : goal.returns-then-not-pass_sized-2
-returns-then-not-pass_sized-2 g c =
+pub returns-then-not-pass_step-2 : goal.returns-then-not-pass_step-2
+returns-then-not-pass_step-2 g c =
     let limit = g.R.Offset.ReaderOffset.limit in
     let number = g.R.Offset.ReaderOffset.number in
     let e = c.args.encoding in
@@ -79,8 +79,8 @@ returns-then-not-pass_sized-2 g c =
     let u = g.R.Reader.view c.pass_one.new.input in
     let next = value_over limit e all sought start c.values.steps.now left found v
     c.values.invariant s rest is after u c.in_ok-found.ensures in
-    (rw (c.pass_sized-in-Some-split_first.ensures.kept c.if-not-pass_sized-2.true) at
-    c.pass_each_cold-then-not-pass_sized-2.ensures)
+    (rw (c.pass_step-in-Some-split_first.ensures.kept c.if-not-pass_step-2.true) at
+    c.pass_each_cold-then-not-pass_step-2.ensures)
     ∙ sym next.same
 
 pub values-preserved : goal.values-preserved
@@ -103,11 +103,10 @@ values-preserved g c =
     c.values.invariant s rest is after u c.in_ok-found.ensures in
     let step = c.in-Some-split_first-2.step.now in
     let state = rw c.in-Some-split_first-2.ensures.cases.0 at next in
-    let passed = c.pass_sized-in-Some-split_first.ensures.passed c.if-not-pass_sized-2.false
-    (take step.values rest) state.are_steps.0.well_formed
-    (rw c.size-in-Some-split_first.ensures (state.are_steps.0.size e)) in
+    let passed = c.pass_step-in-Some-split_first.ensures.passed c.if-not-pass_step-2.false
+    (take step.values rest) state.are_steps.0 in
     step_over limit e all sought start step c.in-Some-split_first-2.more.now rest after u
-    (g.R.Reader.view c.pass_sized-in-Some-split_first.new.input) state passed
+    (g.R.Reader.view c.pass_step-in-Some-split_first.new.input) state passed
 
 pub returns : goal.returns
 returns g c =

@@ -33,7 +33,8 @@ loop-specification-preserved g c =
     elim c.if-not-push.branch [
       | else-not-push w ↦ rw (c.in_ok-push-2.ensures, w.self-is, w.run-is, w.is_seen-is) (record {
         read = read;
-        steps = steps_run _ _ _ _ so_far _ _ (c.push.ensures.pushed w.if-not-push.false);
+        steps = steps_run _ _ _ _ so_far _ _ (c.push.ensures.pushed w.if-not-push.false)
+            (c.push.ensures.no_sibling w.if-not-push.false);
       })
       | then-not-push+in_ok-push w ↦ rw (
         c.in_ok-push-2.ensures,

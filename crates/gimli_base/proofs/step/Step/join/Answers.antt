@@ -1,3 +1,4 @@
+use Rattle.std.proofs.Common.{arith}
 use Rattle.gimli_base.proofs.StepTurns.{joined}
 use Rattle.gimli_base.proofs.step.Step.join.Goals as goal
 
@@ -11,6 +12,8 @@ returns c =
       addresses = c.in_ok-checked_add-3.field-0;
       offsets = c.in_ok-checked_add-4.field-0;
       ref_addrs = c.in_ok-checked_add-5.field-0;
+      has_ref8 = c.max.result;
     }
     c.in_ok-checked_add.ensures.1 c.in_ok-checked_add-2.ensures.1 c.in_ok-checked_add-3.ensures.1
     c.in_ok-checked_add-4.ensures.1 c.in_ok-checked_add-5.ensures.1
+    (λ none. (omega (arith, c.max.ensures, none), omega (arith, c.max.ensures, none)))
