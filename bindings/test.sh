@@ -59,7 +59,7 @@ for info in "$data"/*.info; do
 done
 echo "C and Python: $files files, same"
 timeout 300 python3 "$here/python/test_gimli.py" "$target/libgimli.so" "$target/attrs" "$data"
-"$here/hostile_some.sh"
+"$here/hostile/run.sh" --some 400
 cd "$here/rust"
 cargo test --quiet
 RUSTDOCFLAGS="-D warnings" cargo doc --quiet --no-deps

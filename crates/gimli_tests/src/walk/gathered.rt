@@ -4,7 +4,6 @@
 
 use crate::samples::{Entry, Raw, found, table_of};
 use crate::walk::writers::{Both, Narrow, Own, Takes, Tried};
-use failing::{Failing, Refusal};
 use gimli_base::{LittleEndian, Reader, ReaderOffset};
 use gimli_headers::DebugInfo;
 use gimli_walk::{Mode, WriteFault, walk_text};
@@ -12,6 +11,7 @@ use std::alloc::{AllocError, Global};
 use std::io::{BufWriter, Write};
 use std::process::Abort;
 use std::test::Fail;
+use test_failing::{Failing, Refusal};
 
 // Code 1: the tag 0x34, no children, and no attribute. Code 2: the tag 0x2e, and children. Code 3:
 // the tag 0x4109, children, and the attribute 0x03 of form string.

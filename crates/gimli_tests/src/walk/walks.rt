@@ -1,7 +1,7 @@
-use failing::{Failing, Refusal};
 use gimli_walk::{CursorStep, Mode, TreeStep, walk_text};
 use std::alloc::Global;
 use std::process::Abort;
+use test_failing::{Failing, Refusal};
 
 // A unit of eight entries without attributes.
 const EIGHT: &[u8] = b"\x0f\0\0\0\x04\0\0\0\0\0\x04\x01\x01\x01\x01\x01\x01\x01\x01";

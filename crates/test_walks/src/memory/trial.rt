@@ -1,9 +1,9 @@
 //! A call whose requests for memory are refused, one after the other.
 
 use crate::memory::wanted::Wanted;
-use failing::{Failing, Refusal};
 use gimli_base::Reader;
 use std::alloc::Global;
+use test_failing::{Failing, Refusal};
 use test_tables::{Call, Outcome, Text};
 
 /// The allocator of what is tried.
