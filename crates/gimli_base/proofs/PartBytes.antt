@@ -18,18 +18,18 @@ before_big zero xs = refl
 before_big (suc n) xs = before_big n xs
 
 -- a zero after a number in little endian
-behind_one : (xs : List ℕ) → number false (xs ++ 0 ∷ []) ≡ number false xs
-behind_one xs = rw (reverse-append xs (0 ∷ [])) refl
+after_one : (xs : List ℕ) → number false (xs ++ 0 ∷ []) ≡ number false xs
+after_one xs = rw (reverse-append xs (0 ∷ [])) refl
 
-behind_little : (n : ℕ) (xs : List ℕ) → number false (xs ++ replicate n 0) ≡ number false xs
-behind_little zero xs = rw (append-nil xs) refl
-behind_little (suc n) xs =
+after_little : (n : ℕ) (xs : List ℕ) → number false (xs ++ replicate n 0) ≡ number false xs
+after_little zero xs = rw (append-nil xs) refl
+after_little (suc n) xs =
     let next : suc n ≡ n + 1 = omega arith in
     let more : replicate (suc n) 0
     ≡ replicate n 0 ++ 0 ∷ [] = ap (λ k. replicate k 0) next ∙ replicate_next n 0 in
     ap (λ ys. number false (xs ++ ys)) more
     ∙ ap (number false) (sym (append_assoc xs (replicate n 0) (0 ∷ [])))
-    ∙ behind_one (xs ++ replicate n 0) ∙ behind_little n xs
+    ∙ after_one (xs ++ replicate n 0) ∙ after_little n xs
 
 -- the last bytes of an empty word are written, in big endian
 pub last_bytes : (a k : ℕ) (xs : List ℕ) → a ≤ 8 → k ≡ 8 - a
@@ -44,7 +44,7 @@ last_bytes a k xs le is =
 pub first_bytes : (n : ℕ) (xs : List ℕ) → number false (xs ++ drop n zeros) ≡ number false xs
 first_bytes n xs =
     let rest : drop n zeros ≡ replicate (8 - n) 0 = drop-replicate n 8 0 in
-    rw rest (behind_little (8 - n) xs)
+    rw rest (after_little (8 - n) xs)
 
 pub first_length : (n : ℕ) → n ≤ 8 → length (take n zeros) ≡ n
 first_length n le = simp length-take (omega (arith, le))

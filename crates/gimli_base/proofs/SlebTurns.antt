@@ -52,9 +52,9 @@ pub sleb_first : (r : Reads ℤ) → r ≡ map_read (λ z. pos 0 +ℤ (pos 1 *�
 sleb_first r = made_same (λ z. pos 0 +ℤ (pos 1 *ℤ z)) r (λ z. omega (arith, ints))
 
 -- bits after bits
-behind_bits : (a b s : ℕ) (z : ℤ)
+after_bits : (a b s : ℕ) (z : ℤ)
     → pos a +ℤ (pos s *ℤ (pos b +ℤ (pos 128 *ℤ z))) ≡ pos (a + b * s) +ℤ (pos (s * 128) *ℤ z)
-behind_bits a b s z =
+after_bits a b s z =
     let x = pos b +ℤ (pos 128 *ℤ z) in
     let one : up x + 128 * down z ≡ b + 128 * up z + down x = omega (arith, ints) in
     let scaled = ap (λ n. s * n) one in
@@ -137,7 +137,7 @@ module _ (all v : View) (a s i : ℕ)
         let at : sleb_within (9 - i) v
         ≡ map_read (λ z. pos (b - 128) +ℤ (pos 128 *ℤ z)) (sleb_within (9 - (i + 1)) w) =
         rw n (sleb_next (9 - (i + 1)) v b w h high) in
-        turn_more _ _ _ so_far _ _ _ at (rw e (behind_bits a (b - 128) s))
+        turn_more _ _ _ so_far _ _ _ at (rw e (after_bits a (b - 128) s))
 
     -- the byte is the tenth, and the number is not negative
     pub sleb_turn_zero : (b : ℕ) (w : View) (y : ℤ) → 9 ≤ i → Ok (b, w) ≡ byte_at v → b ≡ 0

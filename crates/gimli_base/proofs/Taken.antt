@@ -83,9 +83,9 @@ ok_takes {A} n size v p t a w h =
     subst P (sym same) t
 
 -- the same read, after n bytes
-pub behind_takes : {A : Type 0} → (n k total : ℕ) (v : View) (r : Reads A) → n + k ≡ total
+pub after_takes : {A : Type 0} → (n k total : ℕ) (v : View) (r : Reads A) → n + k ≡ total
     → Takes k v r → TakesAfter n (λ _. total) v r
-behind_takes n k total v r e h x w is =
+after_takes n k total v r e h x w is =
     let t = h x w is in
     record { count = t.count; sum = omega (arith, t.sum, e); within = t.within; is = t.is }
 
@@ -182,15 +182,15 @@ text_at-takes v = either (find_at 0 v)
     size : View → ℕ
     size a = length a.bytes + 1
 
-    behind : (n : ℕ) (r : Reads View) → Takes n v r
+    after : (n : ℕ) (r : Reads View) → Takes n v r
         → ((a w : View) → Ok (a, w) ≡ r → length a.bytes ≡ n)
         → TakesAfter 0 size v (r >>= λ p. map_read (λ _. p.0) (byte_at p.1))
-    behind n (Err e) h k = err_takes {A = View} 0 size v e
-    behind n (Ok p) h k =
+    after n (Err e) h k = err_takes {A = View} 0 size v e
+    after n (Ok p) h k =
         let bytes : length p.0.bytes ≡ n = k p.0 p.1 refl in
         made_takes 0 size v (λ _. p.0) (byte_at p.1)
         (λ b w e. TakenAfter-trans 0 n (size p.0) v p.1 w (h p.0 p.1 refl)
-        (behind_takes n 1 (size p.0) p.1 (byte_at p.1) (omega (arith, bytes))
+        (after_takes n 1 (size p.0) p.1 (byte_at p.1) (omega (arith, bytes))
         (byte_at-takes p.1) b w e))
 
     either : (r : Result ℕ Error)
@@ -200,7 +200,7 @@ text_at-takes v = either (find_at 0 v)
               >>= (λ p. map_read (λ _. p.0) (byte_at p.1))
           | Err e ↦ Err e
         ])
-    either (Ok n) = behind n (split_at n v) (split_at-takes n v) (split_at-front n v)
+    either (Ok n) = after n (split_at n v) (split_at-takes n v) (split_at-front n v)
     either (Err e) = err_takes {A = View} 0 size v e
 
 -- a length field takes as many bytes as its format says

@@ -173,7 +173,7 @@ impl<'a, E: Endianity> WholeSlice<'a, E> {
     // The reader of the bytes after the first `n`
     #[inline]
     #[tactic(auto, using(crate::proofs::Ranges::drop_range))]
-    fn behind(&self, n: u32) -> Self
+    fn after(&self, n: u32) -> Self
         requires { n ≤ self.now.end - self.now.begin }
         ensures { ⟦<WholeSlice<'a, E> as Reader>⟧.view result
             ≡ cut n (⟦<WholeSlice<'a, E> as Reader>⟧.view self.now) }
@@ -232,7 +232,7 @@ impl<'a, E: Endianity> Reader for WholeSlice<'a, E> {
     #[inline]
     fn skip(&mut self, n: u32) -> Result<()> {
         if n as usize <= self.end - self.begin {
-            *self = self.behind(n);
+            *self = self.after(n);
             Ok(())
         } else {
             Err(Error::UnexpectedEof(self.offset_id()))
@@ -244,7 +244,7 @@ impl<'a, E: Endianity> Reader for WholeSlice<'a, E> {
     fn split(&mut self, n: u32) -> Result<Self> {
         if n as usize <= self.end - self.begin {
             let front = self.before(n);
-            *self = self.behind(n);
+            *self = self.after(n);
             Ok(front)
         } else {
             Err(Error::UnexpectedEof(self.offset_id()))
@@ -258,7 +258,7 @@ impl<'a, E: Endianity> Reader for WholeSlice<'a, E> {
             return Err(Error::UnexpectedEof(self.offset_id()));
         }
         let byte = self.whole[self.begin];
-        *self = self.behind(1);
+        *self = self.after(1);
         Ok(byte)
     }
 
@@ -269,7 +269,7 @@ impl<'a, E: Endianity> Reader for WholeSlice<'a, E> {
         let slice = self.slice();
         if n <= slice.len() {
             into.copy_from_slice(&slice[..n]);
-            *self = self.behind(n as u32);
+            *self = self.after(n as u32);
             Ok(())
         } else {
             Err(Error::UnexpectedEof(self.offset_id()))

@@ -21,8 +21,8 @@ use Rattle.gimli_units.specs.Unit.{entries_in, entries_from}
 use Rattle.gimli_c.specs.declared.rows.GimliRow.{GimliRow}
 use Rattle.gimli_c.specs.declared.rows.GimliPlace.{GimliPlace}
 use Rattle.gimli_c.specs.Status.{end, too_deep, refusal_status, memory_refused}
-use Rattle.gimli_c.specs.Fronts.{ahead_of, unit_ahead, declared_ahead, Filled, ToldRows}
-use Rattle.gimli_c.specs.Fronts.{ToldRowsIf}
+use Rattle.gimli_c.specs.Fronts.{ahead_of, unit_ahead, declared_ahead, Filled, IsRowsOutcome}
+use Rattle.gimli_c.specs.Fronts.{IsRowsOutcomeIf}
 use Rattle.gimli_c.proofs.Front.{first_at}
 
 -- the reader of a place that is in bounds
@@ -85,9 +85,9 @@ bytes_left u offset fit h =
 
 module _ (limit : ℕ) (u : UnitView) (t : Table) (place : GimliPlace) (old : List GimliRow) where
   -- at the unit's end
-  pub told_ended : length u.entries.bytes ≤ whole_length u → place.offset ≡ whole_length u
-      → ToldRows (unit_ahead limit u (codes_of t) place) place old place old 0 end
-  told_ended fit here =
+  pub outcome_ended : length u.entries.bytes ≤ whole_length u → place.offset ≡ whole_length u
+      → IsRowsOutcome (unit_ahead limit u (codes_of t) place) place old place old 0 end
+  outcome_ended fit here =
       let test : (place.offset == whole_length u) ≡ true = eq-eqb _ _ here in
       let rest = cut (place.offset - header_size u) u.entries in
       let none : length rest.bytes ≡ 0 = let e =
@@ -100,7 +100,7 @@ module _ (limit : ℕ) (u : UnitView) (t : Table) (place : GimliPlace) (old : Li
       let stop : whole_length u - length rest.bytes ≡ place.offset = omega (arith, none, here) in
       rw (test, is, stop) (record {
         rows = refl;
-        behind = refl;
+        after = refl;
         fits = omega arith;
         none = λ _. refl;
         whole =
@@ -109,9 +109,9 @@ module _ (limit : ℕ) (u : UnitView) (t : Table) (place : GimliPlace) (old : Li
 
   module _ (apart : place.offset ≡ whole_length u → ⊥) where
     -- before the entries, or after the unit
-    pub told_outside : (e : Error) → Err e ≡ entries_from u t (Some place.offset)
-        → ToldRows (unit_ahead limit u (codes_of t) place) place old place old 0 (refusal_status e)
-    told_outside e is =
+    pub outcome_outside : (e : Error) → Err e ≡ entries_from u t (Some place.offset)
+        → IsRowsOutcome (unit_ahead limit u (codes_of t) place) place old place old 0 (refusal_status e)
+    outcome_outside e is =
         let test : (place.offset == whole_length u) ≡ false = ne_eqb _ _ apart in
         let no = unread_bounds u t place.offset e is in
         rw (test, no.0, no.1) (record {
@@ -123,10 +123,10 @@ module _ (limit : ℕ) (u : UnitView) (t : Table) (place : GimliPlace) (old : Li
         })
 
     -- where depths may be out of range
-    pub told_deep : (p : RawPlace) → Ok p ≡ entries_from u t (Some place.offset) → 2 ^ 63
+    pub outcome_deep : (p : RawPlace) → Ok p ≡ entries_from u t (Some place.offset) → 2 ^ 63
         ≤ unsigned_abs place.depth + (whole_length u - place.offset)
-        → ToldRows (unit_ahead limit u (codes_of t) place) place old place old 0 too_deep
-    told_deep p is deep =
+        → IsRowsOutcome (unit_ahead limit u (codes_of t) place) place old place old 0 too_deep
+    outcome_deep p is deep =
         let test : (place.offset == whole_length u) ≡ false = ne_eqb _ _ apart in
         let yes = read_bounds u t place.offset p is in
         let range : nat_lt (unsigned_abs place.depth + (whole_length u - place.offset)) (2 ^ 63)
@@ -140,12 +140,12 @@ module _ (limit : ℕ) (u : UnitView) (t : Table) (place : GimliPlace) (old : Li
         })
 
     -- elsewhere the rows of the reader are told
-    pub told_filled : (P : Type 0) (p : RawPlace) (behind : GimliPlace) (new : List GimliRow)
+    pub outcome_filled : (P : Type 0) (p : RawPlace) (after : GimliPlace) (new : List GimliRow)
         (n status : ℕ) → Ok p ≡ entries_from u t (Some place.offset) → unsigned_abs place.depth
         + (whole_length u - place.offset) < 2 ^ 63
-        → (P → Filled (ahead_of limit place.depth p) old behind new n status)
-        → ToldRowsIf P (unit_ahead limit u (codes_of t) place) place old behind new n status
-    told_filled P p behind new n status is shallow f =
+        → (P → Filled (ahead_of limit place.depth p) old after new n status)
+        → IsRowsOutcomeIf P (unit_ahead limit u (codes_of t) place) place old after new n status
+    outcome_filled P p after new n status is shallow f =
         let test : (place.offset == whole_length u) ≡ false = ne_eqb _ _ apart in
         let yes = read_bounds u t place.offset p is in
         let range : nat_lt (unsigned_abs place.depth + (whole_length u - place.offset)) (2 ^ 63)
@@ -154,41 +154,41 @@ module _ (limit : ℕ) (u : UnitView) (t : Table) (place : GimliPlace) (old : Li
         rw (test, yes.0, range) (λ given. let f' = rw (yes.1) at (f given) in rw zero_more at f')
 
 -- what is told is told under any premise, and under one that holds
-pub told_any : (P : Type 0) (r : Result Ahead ℕ) (from : GimliPlace) (old : List GimliRow)
+pub outcome_any : (P : Type 0) (r : Result Ahead ℕ) (from : GimliPlace) (old : List GimliRow)
     (place : GimliPlace) (new : List GimliRow) (n status : ℕ)
-    → ToldRows r from old place new n status → ToldRowsIf P r from old place new n status
-told_any P (Ok ahead) from old place new n status h = λ _. h
-told_any P (Err stop) from old place new n status h = h
+    → IsRowsOutcome r from old place new n status → IsRowsOutcomeIf P r from old place new n status
+outcome_any P (Ok ahead) from old place new n status h = λ _. h
+outcome_any P (Err stop) from old place new n status h = h
 
-pub told_given : (P : Type 0) (r : Result Ahead ℕ) (from : GimliPlace) (old : List GimliRow)
+pub outcome_given : (P : Type 0) (r : Result Ahead ℕ) (from : GimliPlace) (old : List GimliRow)
     (place : GimliPlace) (new : List GimliRow) (n status : ℕ)
-    → ToldRowsIf P r from old place new n status → P → ToldRows r from old place new n status
-told_given P (Ok ahead) from old place new n status h given = h given
-told_given P (Err stop) from old place new n status h given = h
+    → IsRowsOutcomeIf P r from old place new n status → P → IsRowsOutcome r from old place new n status
+outcome_given P (Ok ahead) from old place new n status h given = h given
+outcome_given P (Err stop) from old place new n status h given = h
 
-pub told_under : (P Q : Type 0) (r : Result Ahead ℕ) (from : GimliPlace) (old : List GimliRow)
+pub outcome_under : (P Q : Type 0) (r : Result Ahead ℕ) (from : GimliPlace) (old : List GimliRow)
     (place : GimliPlace) (new : List GimliRow) (n status : ℕ)
-    → ToldRowsIf P r from old place new n status → (Q → P)
-    → ToldRowsIf Q r from old place new n status
-told_under P Q (Ok ahead) from old place new n status h other = λ given. h (other given)
-told_under P Q (Err stop) from old place new n status h other = h
+    → IsRowsOutcomeIf P r from old place new n status → (Q → P)
+    → IsRowsOutcomeIf Q r from old place new n status
+outcome_under P Q (Ok ahead) from old place new n status h other = λ given. h (other given)
+outcome_under P Q (Err stop) from old place new n status h other = h
 
 -- where memory is refused, no row is written
 module _ (limit : ℕ) (u : UnitView) (place : GimliPlace) (old : List GimliRow) where
   none_filled : (declared : Map) → place.offset ≡ whole_length u
       - length (cut (place.offset - header_size u) u.entries).bytes
-      → ToldRows
+      → IsRowsOutcome
       (Ok (unit_rows_from limit u declared place.offset place.depth)) place old place old 0 memory_refused
   none_filled declared here = record {
     rows = refl;
-    behind = first_at limit u.encoding declared (whole_length u) place.depth
+    after = first_at limit u.encoding declared (whole_length u) place.depth
         (cut (place.offset - header_size u) u.entries) place here refl;
     fits = omega arith;
     none = λ _. refl;
     whole = λ h. absurd (h refl);
   }
 
-  none_stopped : (stop : ℕ) → ToldRows (Err stop) place old place old 0 memory_refused
+  none_stopped : (stop : ℕ) → IsRowsOutcome (Err stop) place old place old 0 memory_refused
   none_stopped stop = record {
     rows = refl;
     none = refl;
@@ -197,10 +197,10 @@ module _ (limit : ℕ) (u : UnitView) (place : GimliPlace) (old : List GimliRow)
         λ h. absurd (h refl);
   }
 
-  pub told_memory : length u.entries.bytes ≤ whole_length u → (r : Result Map Error)
-      → ToldRows (declared_ahead limit u r place) place old place old 0 memory_refused
-  told_memory fit (Err e) = none_stopped (refusal_status e)
-  told_memory fit (Ok declared) = elim (eqb_tells place.offset (whole_length u)) [
+  pub outcome_memory : length u.entries.bytes ≤ whole_length u → (r : Result Map Error)
+      → IsRowsOutcome (declared_ahead limit u r place) place old place old 0 memory_refused
+  outcome_memory fit (Err e) = none_stopped (refusal_status e)
+  outcome_memory fit (Ok declared) = elim (eqb_tells place.offset (whole_length u)) [
     | inl here ↦
         let e = length-drop (place.offset - header_size u) u.entries.bytes in
         rw here.0 (none_filled declared (omega (arith, e, here.1, fit)))
@@ -208,7 +208,7 @@ module _ (limit : ℕ) (u : UnitView) (place : GimliPlace) (old : List GimliRow)
   ]
     where
       deep : in_bounds u place.offset ≡ true → (b : Bool)
-          → ToldRows
+          → IsRowsOutcome
           (if b then Ok (unit_rows_from limit u declared place.offset place.depth) else Err too_deep)
           place old
           place old 0 memory_refused
@@ -219,7 +219,7 @@ module _ (limit : ℕ) (u : UnitView) (place : GimliPlace) (old : List GimliRow)
       deep sure false = none_stopped too_deep
 
       inside : (b : Bool) → b ≡ in_bounds u place.offset
-          → ToldRows (if b then (if nat_lt (unsigned_abs place.depth
+          → IsRowsOutcome (if b then (if nat_lt (unsigned_abs place.depth
           + (whole_length u - place.offset)) (2 ^ 63)
           then Ok (unit_rows_from limit u declared place.offset place.depth)
           else Err too_deep) else Err (refusal_status (OffsetOutOfBounds place.offset))) place old
@@ -229,11 +229,11 @@ module _ (limit : ℕ) (u : UnitView) (place : GimliPlace) (old : List GimliRow)
       inside false other = none_stopped (refusal_status (OffsetOutOfBounds place.offset))
 
   -- where the declarations are refused
-  pub told_undeclared : length u.entries.bytes ≤ whole_length u → (e : Error) (r : Result Map Error)
+  pub outcome_undeclared : length u.entries.bytes ≤ whole_length u → (e : Error) (r : Result Map Error)
       → ((e ≡ OutOfMemory → ⊥) → Err e ≡ r)
-      → ToldRows (declared_ahead limit u r place) place old place old 0 (refusal_status e)
-  told_undeclared fit e r h = elim (eqb_tells (refusal_status e) memory_refused) [
-    | inl memory ↦ rw memory.1 (told_memory fit r)
+      → IsRowsOutcome (declared_ahead limit u r place) place old place old 0 (refusal_status e)
+  outcome_undeclared fit e r h = elim (eqb_tells (refusal_status e) memory_refused) [
+    | inl memory ↦ rw memory.1 (outcome_memory fit r)
     | inr other ↦ rw (← h (λ is. other.1 (ap refusal_status is))) (record {
       rows = refl;
       none = refl;

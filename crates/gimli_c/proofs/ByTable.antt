@@ -30,7 +30,7 @@ use Rattle.gimli_c.specs.declared.table.GimliSpecification.{GimliSpecification}
 use Rattle.gimli_c.specs.Attrs.{attr_of}
 use Rattle.gimli_c.specs.Heads.{null_head, declared_head, head_in_c, AreRead, IsReadPast, IsReadWith}
 use Rattle.gimli_c.specs.Tables.{specification_in, declaration_in, table_of}
-use Rattle.gimli_c.specs.TableReads.{told_head, depth_behind_head, IsHeadRead, IsHeadReadWith}
+use Rattle.gimli_c.specs.TableReads.{table_head, depth_after_head, IsHeadRead, IsHeadReadWith}
 
 -- what a caller's table has under a code
 pub code_in : (ds : List GimliDeclaration) (ss : List GimliSpecification) (code : ℕ) → 0 < code
@@ -118,7 +118,7 @@ null_read limit e m v w h = record {
   entry = null_entry;
   is = rw (← h) refl;
   head_is = refl;
-  behind = λ depth. refl;
+  after = λ depth. refl;
 }
 
 pub null_read_with : (limit : ℕ) (e : Encoding) (m : Map) (v w : View) (ns : List GimliAttr)
@@ -139,7 +139,7 @@ module _ (limit : ℕ) (e : Encoding) (m : Map) (v a w : View) (d : Declaration)
   unfolding entry_at
   entry_is = rw (← h, ← r.are) refl
 
-  tell_alike : told_head d ≡ head_in_c entry_read
+  tell_alike : table_head d ≡ head_in_c entry_read
   tell_alike = cases (d.tag.0 == 0)
     where
       cases : (b : Bool)
@@ -150,7 +150,7 @@ module _ (limit : ℕ) (e : Encoding) (m : Map) (v a w : View) (d : Declaration)
       cases true = refl
       cases false = refl
 
-  depth_is : (depth : ℤ) → depth_behind_head (told_head d) depth ≡ depth_after entry_read depth
+  depth_is : (depth : ℤ) → depth_after_head (table_head d) depth ≡ depth_after entry_read depth
   depth_is depth = cases (d.tag.0 == 0) refl
     where
       flag : (f : Bool) → below_flag (not (cond f 1 0 == 0)) depth ≡ below_flag f depth
@@ -158,7 +158,7 @@ module _ (limit : ℕ) (e : Encoding) (m : Map) (v a w : View) (d : Declaration)
       flag false = refl
 
       cases : (b : Bool) → (d.tag.0 == 0) ≡ b
-          → depth_behind_head (if b then null_head else declared_head d) depth
+          → depth_after_head (if b then null_head else declared_head d) depth
           ≡ depth_after
           (if b then null_entry
           else record { tag = d.tag; has_children = d.has_children; attributes = r.attributes })
@@ -166,12 +166,12 @@ module _ (limit : ℕ) (e : Encoding) (m : Map) (v a w : View) (d : Declaration)
       cases true known = refl
       cases false known = rw known (flag d.has_children)
 
-  pub entry_by : IsHeadRead limit e m v (told_head d) w
-  entry_by = record { entry = entry_read; is = entry_is; head_is = tell_alike; behind = depth_is }
+  pub entry_by : IsHeadRead limit e m v (table_head d) w
+  entry_by = record { entry = entry_read; is = entry_is; head_is = tell_alike; after = depth_is }
 
   pub entry_by_with : (ns : List GimliAttr)
       → ns ≡ (if d.tag.0 == 0 then [] else map attr_of r.attributes)
-      → IsHeadReadWith limit e m v (told_head d) ns w
+      → IsHeadReadWith limit e m v (table_head d) ns w
   unfolding entry_by
   entry_by_with ns are = record { read = entry_by; numbers_are = are ∙ cases (d.tag.0 == 0) }
     where
@@ -183,24 +183,24 @@ module _ (limit : ℕ) (e : Encoding) (m : Map) (v a w : View) (d : Declaration)
       cases true = refl
       cases false = refl
 
--- a reader that was moved behind what was read
+-- a reader that was moved after what was read
 module _ (limit : ℕ) (p : RawPlace) (head : Head) (w : View)
     (r : IsHeadRead limit p.encoding (codes_of p.abbreviations) p.rest head w) where
-  abbrev behind_read : RawPlace
-  behind_read = record p { rest = w; depth = depth_behind_head head p.depth }
+  abbrev after_read : RawPlace
+  after_read = record p { rest = w; depth = depth_after_head head p.depth }
 
-  read_here : IsReadPast limit p head behind_read
+  read_here : IsReadPast limit p head after_read
   read_here = record {
     entry = r.entry;
     is = r.is;
     head_is = r.head_is;
-    moved = ap (λ (k : ℤ). record p { rest = w; depth = k }) (r.behind p.depth);
+    moved = ap (λ (k : ℤ). record p { rest = w; depth = k }) (r.after p.depth);
   }
 
-  pub read_past : (q : RawPlace) → q ≡ behind_read → IsReadPast limit p head q
+  pub read_past : (q : RawPlace) → q ≡ after_read → IsReadPast limit p head q
   read_past q moved = rw moved read_here
 
-  pub read_with : (q : RawPlace) → q ≡ behind_read → (ns : List GimliAttr)
+  pub read_with : (q : RawPlace) → q ≡ after_read → (ns : List GimliAttr)
       → ns ≡ map attr_of r.entry.attributes → IsReadWith limit p head ns q
   unfolding read_here
   read_with q moved ns are = rw moved (record { past = read_here; numbers_are = are })

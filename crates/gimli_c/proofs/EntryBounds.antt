@@ -22,7 +22,7 @@ use Rattle.gimli_c.specs.declared.attrs.GimliAttr.{GimliAttr}
 use Rattle.gimli_c.specs.declared.rows.GimliPlace.{GimliPlace}
 use Rattle.gimli_c.specs.Status.{end, too_deep, refusal_status, memory_refused}
 use Rattle.gimli_c.specs.Fronts.{ahead_of, unit_ahead, declared_ahead}
-use Rattle.gimli_c.specs.Entries.{fit, wrote, FilledEntries, AreTold}
+use Rattle.gimli_c.specs.Entries.{fit, wrote, FilledEntries, IsEntriesOutcome}
 use Rattle.gimli_c.proofs.EntryFront.{fit-nil, none_wanted}
 use Rattle.gimli_c.proofs.Bounds.{read_bounds, unread_bounds, below_end, bytes_left}
 use Rattle.gimli_c.proofs.Front.{first_at}
@@ -30,11 +30,11 @@ use Rattle.gimli_c.proofs.Front.{first_at}
 module _ (limit : ℕ) (u : UnitView) (t : Table) (place : GimliPlace) (old : List GimliEntry)
     (attrs : List GimliAttr) where
   -- at the unit's end
-  pub told_ended : length u.entries.bytes ≤ whole_length u → place.offset ≡ whole_length u
-      → AreTold (unit_ahead limit u (codes_of t) place) place old attrs place old attrs
+  pub outcome_ended : length u.entries.bytes ≤ whole_length u → place.offset ≡ whole_length u
+      → IsEntriesOutcome (unit_ahead limit u (codes_of t) place) place old attrs place old attrs
       (wrote 0 0 0)
       end
-  told_ended fit here =
+  outcome_ended fit here =
       let test : (place.offset == whole_length u) ≡ true = eq-eqb _ _ here in
       let rest = cut (place.offset - header_size u) u.entries in
       let none : length rest.bytes ≡ 0 = let e =
@@ -49,7 +49,7 @@ module _ (limit : ℕ) (u : UnitView) (t : Table) (place : GimliPlace) (old : Li
         rows = refl;
         attributes = refl;
         used_is = refl;
-        behind = refl;
+        after = refl;
         fits = omega arith;
         none = λ _. refl;
         short = λ h. absurd (omega (arith, h));
@@ -62,11 +62,11 @@ module _ (limit : ℕ) (u : UnitView) (t : Table) (place : GimliPlace) (old : Li
 
   module _ (apart : place.offset ≡ whole_length u → ⊥) where
     -- before the entries, or after the unit
-    pub told_outside : (e : Error) → Err e ≡ entries_from u t (Some place.offset)
-        → AreTold (unit_ahead limit u (codes_of t) place) place old attrs place old attrs
+    pub outcome_outside : (e : Error) → Err e ≡ entries_from u t (Some place.offset)
+        → IsEntriesOutcome (unit_ahead limit u (codes_of t) place) place old attrs place old attrs
         (wrote 0 0 0)
         (refusal_status e)
-    told_outside e is =
+    outcome_outside e is =
         let test : (place.offset == whole_length u) ≡ false = ne_eqb _ _ apart in
         let no = unread_bounds u t place.offset e is in
         rw (test, no.0, no.1) (record {
@@ -79,12 +79,12 @@ module _ (limit : ℕ) (u : UnitView) (t : Table) (place : GimliPlace) (old : Li
         })
 
     -- where depths may be out of range
-    pub told_deep : (p : RawPlace) → Ok p ≡ entries_from u t (Some place.offset) → 2 ^ 63
+    pub outcome_deep : (p : RawPlace) → Ok p ≡ entries_from u t (Some place.offset) → 2 ^ 63
         ≤ unsigned_abs place.depth + (whole_length u - place.offset)
-        → AreTold (unit_ahead limit u (codes_of t) place) place old attrs place old attrs
+        → IsEntriesOutcome (unit_ahead limit u (codes_of t) place) place old attrs place old attrs
         (wrote 0 0 0)
         too_deep
-    told_deep p is deep =
+    outcome_deep p is deep =
         let test : (place.offset == whole_length u) ≡ false = ne_eqb _ _ apart in
         let yes = read_bounds u t place.offset p is in
         let range : nat_lt (unsigned_abs place.depth + (whole_length u - place.offset)) (2 ^ 63)
@@ -99,14 +99,14 @@ module _ (limit : ℕ) (u : UnitView) (t : Table) (place : GimliPlace) (old : Li
         })
 
     -- elsewhere the rows of the reader are told
-    pub told_filled : (p : RawPlace) (behind : GimliPlace) (new : List GimliEntry)
+    pub outcome_filled : (p : RawPlace) (after : GimliPlace) (new : List GimliEntry)
         (new_attrs : List GimliAttr) (n : GimliFilled) (status : ℕ)
         → Ok p ≡ entries_from u t (Some place.offset) → unsigned_abs place.depth
         + (whole_length u - place.offset) < 2 ^ 63
-        → FilledEntries (ahead_of limit place.depth p) old attrs behind new new_attrs n status
-        → AreTold (unit_ahead limit u (codes_of t) place) place old attrs behind new new_attrs n
+        → FilledEntries (ahead_of limit place.depth p) old attrs after new new_attrs n status
+        → IsEntriesOutcome (unit_ahead limit u (codes_of t) place) place old attrs after new new_attrs n
         status
-    told_filled p behind new new_attrs n status is shallow f =
+    outcome_filled p after new new_attrs n status is shallow f =
         let test : (place.offset == whole_length u) ≡ false = ne_eqb _ _ apart in
         let yes = read_bounds u t place.offset p is in
         let range : nat_lt (unsigned_abs place.depth + (whole_length u - place.offset)) (2 ^ 63)
@@ -120,14 +120,14 @@ module _ (limit : ℕ) (u : UnitView) (place : GimliPlace) (old : List GimliEntr
     (attrs : List GimliAttr) where
   none_filled : (declared : Map) → place.offset ≡ whole_length u
       - length (cut (place.offset - header_size u) u.entries).bytes
-      → AreTold
+      → IsEntriesOutcome
       (Ok (unit_rows_from limit u declared place.offset place.depth)) place old attrs place old attrs
       (wrote 0 0 0) memory_refused
   none_filled declared here = record {
     rows = refl;
     attributes = refl;
     used_is = refl;
-    behind = first_at limit u.encoding declared (whole_length u) place.depth
+    after = first_at limit u.encoding declared (whole_length u) place.depth
         (cut (place.offset - header_size u) u.entries) place here refl;
     fits = omega arith;
     none = λ _. refl;
@@ -135,7 +135,7 @@ module _ (limit : ℕ) (u : UnitView) (place : GimliPlace) (old : List GimliEntr
     whole = λ h _. absurd (h refl);
   }
 
-  none_stopped : (stop : ℕ) → AreTold (Err stop) place old attrs place old attrs (wrote 0 0 0)
+  none_stopped : (stop : ℕ) → IsEntriesOutcome (Err stop) place old attrs place old attrs (wrote 0 0 0)
       memory_refused
   none_stopped stop = record {
     rows = refl;
@@ -145,11 +145,11 @@ module _ (limit : ℕ) (u : UnitView) (place : GimliPlace) (old : List GimliEntr
     whole = λ h. absurd (h refl);
   }
 
-  pub told_memory : length u.entries.bytes ≤ whole_length u → (r : Result Map Error)
-      → AreTold (declared_ahead limit u r place) place old attrs place old attrs (wrote 0 0 0)
+  pub outcome_memory : length u.entries.bytes ≤ whole_length u → (r : Result Map Error)
+      → IsEntriesOutcome (declared_ahead limit u r place) place old attrs place old attrs (wrote 0 0 0)
       memory_refused
-  told_memory fit (Err e) = none_stopped (refusal_status e)
-  told_memory fit (Ok declared) = elim (eqb_tells place.offset (whole_length u)) [
+  outcome_memory fit (Err e) = none_stopped (refusal_status e)
+  outcome_memory fit (Ok declared) = elim (eqb_tells place.offset (whole_length u)) [
     | inl here ↦
         let e = length-drop (place.offset - header_size u) u.entries.bytes in
         rw here.0 (none_filled declared (omega (arith, e, here.1, fit)))
@@ -157,7 +157,7 @@ module _ (limit : ℕ) (u : UnitView) (place : GimliPlace) (old : List GimliEntr
   ]
     where
       deep : in_bounds u place.offset ≡ true → (b : Bool)
-          → AreTold
+          → IsEntriesOutcome
           (if b then Ok (unit_rows_from limit u declared place.offset place.depth) else Err too_deep)
           place old
           attrs place old attrs (wrote 0 0 0) memory_refused
@@ -168,7 +168,7 @@ module _ (limit : ℕ) (u : UnitView) (place : GimliPlace) (old : List GimliEntr
       deep sure false = none_stopped too_deep
 
       inside : (b : Bool) → b ≡ in_bounds u place.offset
-          → AreTold (if b then (if nat_lt (unsigned_abs place.depth
+          → IsEntriesOutcome (if b then (if nat_lt (unsigned_abs place.depth
           + (whole_length u - place.offset)) (2 ^ 63)
           then Ok (unit_rows_from limit u declared place.offset place.depth)
           else Err too_deep) else Err (refusal_status (OffsetOutOfBounds place.offset))) place old
@@ -178,12 +178,12 @@ module _ (limit : ℕ) (u : UnitView) (place : GimliPlace) (old : List GimliEntr
       inside false other = none_stopped (refusal_status (OffsetOutOfBounds place.offset))
 
   -- where the declarations are refused
-  pub told_undeclared : length u.entries.bytes ≤ whole_length u → (e : Error) (r : Result Map Error)
+  pub outcome_undeclared : length u.entries.bytes ≤ whole_length u → (e : Error) (r : Result Map Error)
       → ((e ≡ OutOfMemory → ⊥) → Err e ≡ r)
-      → AreTold (declared_ahead limit u r place) place old attrs place old attrs (wrote 0 0 0)
+      → IsEntriesOutcome (declared_ahead limit u r place) place old attrs place old attrs (wrote 0 0 0)
       (refusal_status e)
-  told_undeclared fit e r h = elim (eqb_tells (refusal_status e) memory_refused) [
-    | inl memory ↦ rw memory.1 (told_memory fit r)
+  outcome_undeclared fit e r h = elim (eqb_tells (refusal_status e) memory_refused) [
+    | inl memory ↦ rw memory.1 (outcome_memory fit r)
     | inr other ↦ rw (← h (λ is. other.1 (ap refusal_status is))) (record {
       rows = refl;
       attributes = refl;

@@ -197,7 +197,7 @@ module _ (limit : ℕ) (base : ℤ) where
       ++ map attr_of e.attributes) ++ drop (used + length (map attr_of e.attributes))
       (map attr_of (all_attributes f.taken) ++ drop used old_attrs)
       = rw (many, ← f.attributes) wrote in
-      let behind = written_more (map attr_of (all_attributes f.taken)) (map attr_of e.attributes)
+      let after = written_more (map attr_of (all_attributes f.taken)) (map attr_of e.attributes)
       old_attrs
       new_attrs used done wrote_here in
       record {
@@ -208,7 +208,7 @@ module _ (limit : ℕ) (base : ℤ) where
         rows = ap (λ t. slice_set t n x) f.rows
             ∙ slot (number_rows 0 f.taken) old n x (length-numbered 0 f.taken ∙ f.count) room
             ∙ rw (numbered-append 0 f.taken r, zero-add, f.used_is, is) refl;
-        attributes = rw (flat-append f.taken r, map-append) (rw many at behind);
+        attributes = rw (flat-append f.taken r, map-append) (rw many at after);
         used_is = rw (
           flat-append f.taken r,
           length-append,
@@ -249,7 +249,7 @@ entries_if : (taken : List Row) (left : Ahead) (old new : List GimliEntry)
     → FilledEntries (before_rows taken left) old old_attrs place new attrs (wrote n used wanted)
     status
 entries_if taken left old new old_attrs attrs place n used wanted status count room used_is space
-    rows attributes behind never short whole =
+    rows attributes after never short whole =
     let front : take n (taken ++ left.rows) ≡ taken =
     rw (← count) (take-append_seam taken left.rows) in
     let others : drop n (taken ++ left.rows) ≡ left.rows =
@@ -265,7 +265,7 @@ entries_if taken left old new old_attrs attrs place n used wanted status count r
           ∙ ap (λ (t : List Row). map attr_of (all_attributes t) ++ drop used old_attrs)
           (sym front);
       used_is = sym used_is ∙ ap (λ (t : List Row). length (all_attributes t)) (sym front);
-      behind = behind ∙ ap (λ (t : List Row). first_place t left.stop left.stop_depth) (sym others);
+      after = after ∙ ap (λ (t : List Row). first_place t left.stop left.stop_depth) (sym others);
       fits = omega (arith, room, all);
       none = λ h. absurd (never h);
       short = λ h. let s = short h in (
@@ -280,14 +280,14 @@ module _ (limit : ℕ) (base : ℤ) (start now : RawPlace) (old new : List Gimli
     (old_attrs attrs : List GimliAttr) (place : GimliPlace) (n used : ℕ)
     (f : EntryFront limit base start now old new old_attrs attrs n used) (offset : place.offset
     ≡ next_offset_of now) (depth : place.depth ≡ base +ℤ now.depth) where
-  told : (wanted status : ℕ) → (status ≡ memory_refused → ⊥)
+  outcome : (wanted status : ℕ) → (status ≡ memory_refused → ⊥)
       → (status ≡ row_memory_refused → (n < length old) × (wanted ≡ 0)
       × AskMemory (ahead_of limit base now).rows (ahead_of limit base now).refusal)
       → ((status ≡ memory_refused → ⊥) → (status ≡ row_memory_refused → ⊥)
       → Said old old_attrs (ahead_of limit base now) n used wanted status)
       → FilledEntries (ahead_of limit base start) old old_attrs place new attrs
       (wrote n used wanted) status
-  told wanted status never short whole =
+  outcome wanted status never short whole =
       rw f.ahead (entries_if f.taken (ahead_of limit base now) old new old_attrs attrs place n used
       wanted status f.count f.room f.used_is f.space f.rows f.attributes
       (first_ahead limit base now place offset depth) never short whole)
@@ -299,7 +299,7 @@ module _ (limit : ℕ) (base : ℤ) (start now : RawPlace) (old new : List Gimli
       let is : ahead_of limit base now ≡ no_row None (next_offset_of now) (base +ℤ now.depth) =
       ahead_ended (entry_at limit now.encoding (codes_of now.abbreviations)) now.end
       (base +ℤ now.depth) now.rest none in
-      told 0 end (λ h. omega (arith, h)) (λ h. absurd (omega (arith, h))) (λ _ _. rw is (
+      outcome 0 end (λ h. omega (arith, h)) (λ h. absurd (omega (arith, h))) (λ _ _. rw is (
         fit-nil (length old - n) (length old_attrs - used),
         none_wanted (length old) n,
         rw add-zero (at_end (length old) n),
@@ -312,7 +312,7 @@ module _ (limit : ℕ) (base : ℤ) (start now : RawPlace) (old new : List Gimli
   entries_full some full =
       let left = ahead_of limit base now in
       let none : length old - n ≡ 0 = omega (arith, full) in
-      told 0 more (λ h. omega (arith, h)) (λ h. absurd (omega (arith, h))) (λ _ _. (
+      outcome 0 more (λ h. omega (arith, h)) (λ h. absurd (omega (arith, h))) (λ _ _. (
         rw none refl,
         rw (le-ltb n (length old) full) refl,
         at_more (length old) n (n + length left.rows) left.refusal full (λ is. let k =
@@ -327,7 +327,7 @@ module _ (limit : ℕ) (base : ℤ) (start now : RawPlace) (old new : List Gimli
       → FilledEntries (ahead_of limit base start) old old_attrs place new attrs (wrote n used 0)
       (row_refused e)
   entries_refused e some room read asks =
-      told 0 (row_refused e) (λ h. omega (arith, h))
+      outcome 0 (row_refused e) (λ h. omega (arith, h))
       (λ _. (room, refl, ask_ahead limit base now some asks)) (λ _ other. whole
       (ahead_refused (entry_at limit now.encoding (codes_of now.abbreviations)) now.end
       (base +ℤ now.depth) now.rest e some (read other)))
@@ -347,7 +347,7 @@ module _ (limit : ℕ) (base : ℤ) (start now : RawPlace) (old new : List Gimli
       → FilledEntries (ahead_of limit base start) old old_attrs place new attrs
       (wrote n used (length e.attributes)) more
   entries_large e w some room read large =
-      let behind = ahead_of limit base (record now { rest = w; depth = depth_after e now.depth }) in
+      let after = ahead_of limit base (record now { rest = w; depth = depth_after e now.depth }) in
       let r : Row = record {
         offset = next_offset_of now;
         next = offset_of_view now.end w;
@@ -355,9 +355,9 @@ module _ (limit : ℕ) (base : ℤ) (start now : RawPlace) (old new : List Gimli
             base +ℤ now.depth;
         entry = e;
       } in
-      told (length e.attributes) more (λ h. omega (arith, h)) (λ h. absurd (omega (arith, h)))
+      outcome (length e.attributes) more (λ h. omega (arith, h)) (λ h. absurd (omega (arith, h)))
       (λ _ _. rw (step limit base now e w some read) (
-        fit-large (length old - n) (length old_attrs - used) r behind.rows large,
+        fit-large (length old - n) (length old_attrs - used) r after.rows large,
         rw (lt-ltb n (length old) room) refl,
-        at_some (length old) n (n + suc (length behind.rows)) behind.refusal (omega arith),
+        at_some (length old) n (n + suc (length after.rows)) after.refusal (omega arith),
       ))

@@ -23,7 +23,7 @@ use Rattle.gimli_units.proofs.RowChain.{AreRows, exist_rows}
 use Rattle.gimli_c.specs.declared.rows.GimliRow.{GimliRow}
 use Rattle.gimli_c.specs.declared.rows.GimliPlace.{GimliPlace}
 use Rattle.gimli_c.specs.Status.{more, end, row_refused, memory_refused}
-use Rattle.gimli_c.specs.Fronts.{told_row, ahead_of, first_place, status_at, Filled}
+use Rattle.gimli_c.specs.Fronts.{row_in_c, ahead_of, first_place, status_at, Filled}
 use Rattle.gimli_c.specs.Fronts.{WritesFirst}
 
 -- these rows before others
@@ -42,7 +42,7 @@ pub record Front (limit : ℕ) (base : ℤ) (start now : RawPlace) (old new : Li
   pub count : length taken ≡ n
   pub room : n ≤ length old
   pub ahead : ahead_of limit base start ≡ before_rows taken (ahead_of limit base now)
-  pub rows : new ≡ map told_row taken ++ drop n old
+  pub rows : new ≡ map row_in_c taken ++ drop n old
   pub fits : unsigned_abs base + unsigned_abs now.depth + length now.rest.bytes < 2 ^ 63
 
 -- a depth that is counted from another base
@@ -147,7 +147,7 @@ module _ (limit : ℕ) (base : ℤ) where
         room = omega (arith, room);
         ahead = f.ahead ∙ ap (before_rows f.taken) step ∙ rw append_assoc refl;
         rows = ap (λ t. slice_set t n x) f.rows
-            ∙ slot (map told_row f.taken) old n x (length-map f.taken told_row ∙ f.count) room
+            ∙ slot (map row_in_c f.taken) old n x (length-map f.taken row_in_c ∙ f.count) room
             ∙ rw (map-append, is) refl;
         fits = omega (arith, f.fits, shorter, near);
       }
@@ -194,21 +194,21 @@ at_more room count (Some e) h k = rw (le-ltb count room h) refl
 -- what was written, with what is left
 filled_if : (taken : List Row) (left : Ahead) (old new : List GimliRow) (place : GimliPlace)
     (n status : ℕ)
-    → length taken ≡ n → new ≡ map told_row taken ++ drop n old → place
+    → length taken ≡ n → new ≡ map row_in_c taken ++ drop n old → place
     ≡ first_place left.rows left.stop left.stop_depth
     → n ≤ length old → (status ≡ memory_refused → n ≡ 0)
     → ((status ≡ memory_refused → ⊥) → (n ≡ min (length old) (n + length left.rows))
     × (status ≡ status_at (length old) (n + length left.rows) left.refusal))
     → Filled (before_rows taken left) old place new n status
-filled_if taken left old new place n status count rows behind room none whole =
+filled_if taken left old new place n status count rows after room none whole =
     let front : take n (taken ++ left.rows) ≡ taken =
     rw (← count) (take-append_seam taken left.rows) in
     let others : drop n (taken ++ left.rows) ≡ left.rows =
     rw (← count) (drop-append_seam taken left.rows) in
     let all : length (taken ++ left.rows) ≡ n + length left.rows = rw (length-append, count) refl in
     record {
-      rows = rows ∙ ap (λ (t : List Row). map told_row t ++ drop n old) (sym front);
-      behind = behind ∙ ap (λ (t : List Row). first_place t left.stop left.stop_depth) (sym others);
+      rows = rows ∙ ap (λ (t : List Row). map row_in_c t ++ drop n old) (sym front);
+      after = after ∙ ap (λ (t : List Row). first_place t left.stop left.stop_depth) (sym others);
       fits = omega (arith, room, all);
       none = none;
       whole = rw all whole;

@@ -224,16 +224,16 @@ same_answer {A} {r} {s} is = cases r ∙ is
     cases (Err e) = refl
 
 -- what a row tells of a head
-abbrev told : RowHead → Head
-told x = record { tag = x.tag.0; has_children = cond x.has_children 1 0 }
+abbrev outcome : RowHead → Head
+outcome x = record { tag = x.tag.0; has_children = cond x.has_children 1 0 }
 
 -- the head of the next entry was read
 pub past_head : (limit : ℕ) (p q : RawPlace) (o : Option Declaration) (h : Head)
-    → EntryOf limit p o q.rest q.depth → h ≡ told (head_of o)
+    → EntryOf limit p o q.rest q.depth → h ≡ outcome (head_of o)
     → q ≡ record p { rest = q.rest; depth = q.depth } → IsReadPast limit p h q
 past_head limit p q o h e is same = record {
   entry = e.entry;
   is = e.reads;
-  head_is = is ∙ ap told e.same;
-  moved = same ∙ ap (λ (d : ℤ). record p { rest = q.rest; depth = d }) e.behind;
+  head_is = is ∙ ap outcome e.same;
+  moved = same ∙ ap (λ (d : ℤ). record p { rest = q.rest; depth = d }) e.after;
 }

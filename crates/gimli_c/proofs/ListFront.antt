@@ -96,9 +96,9 @@ module _ {X Y : Type 0} (f : X → Y) where
 
   module _ (start now : List (Result X Error)) (old new : List Y) (n : ℕ)
       (p : ListFront f start now old new n) where
-    told : (last : Option Error) → before_refusal now ≡ [] → first_refusal now ≡ last
+    outcome : (last : Option Error) → before_refusal now ≡ [] → first_refusal now ≡ last
         → IsListed f start old new n (list_status (length old) n (list_end_status last))
-    told last none refusal =
+    outcome last none refusal =
         let all : before_refusal start ≡ p.taken =
         ap before_refusal p.ahead ∙ before-taken p.taken now ∙ rw (none, append-nil) refl in
         let ends : first_refusal start ≡ last = ap first_refusal p.ahead ∙ refusal-taken p.taken now
@@ -111,9 +111,9 @@ module _ {X Y : Type 0} (f : X → Y) where
 
     -- the list ends
     pub list_ended : now ≡ [] → IsListed f start old new n (list_status (length old) n end)
-    list_ended is = told None (ap before_refusal is) (ap first_refusal is)
+    list_ended is = outcome None (ap before_refusal is) (ap first_refusal is)
 
     -- the next answer is a refusal
     pub list_refused : (e : Error) (rest : List (Result X Error)) → now ≡ Err e ∷ rest
         → IsListed f start old new n (list_status (length old) n (row_refused e))
-    list_refused e rest is = told (Some e) (ap before_refusal is) (ap first_refusal is)
+    list_refused e rest is = outcome (Some e) (ap before_refusal is) (ap first_refusal is)

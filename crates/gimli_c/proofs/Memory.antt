@@ -18,7 +18,7 @@ use Rattle.gimli_base.proofs.Later.{IsLater-none, IsLater-trans, IsLater-weaker}
 use Rattle.gimli_base.proofs.Later.{cut-cut}
 use Rattle.gimli_base.proofs.Memory.{Never, never_then, never_if, never_ok, uleb_at-never}
 use Rattle.gimli_base.proofs.Memory.{map_at-never}
-use Rattle.gimli_units.specs.CursorMoves.{CursorView, view_from, takes_memory_at, IsRefused}
+use Rattle.gimli_units.specs.CursorModel.{CursorView, view_from, takes_memory_at, IsRefused}
 use Rattle.gimli_units.specs.CursorStart.{before_first, cursor_from}
 use Rattle.gimli_units.specs.Entry.{Attr, Entry, attributes_at, abbreviation_at, entry_at}
 use Rattle.gimli_units.specs.Entry.{takes_memory}
@@ -41,14 +41,14 @@ number_memory OutOfMemory h = refl
 number_memory e h = absurd (omega arith)
 
 pub refusal_memory : (e : Error) → refusal_status e ≡ memory_refused → e ≡ OutOfMemory
-refusal_memory e told = number_memory e (omega (arith, told))
+refusal_memory e outcome = number_memory e (omega (arith, outcome))
 
 pub row_memory : (e : Error) → row_refused e ≡ row_memory_refused → e ≡ OutOfMemory
-row_memory e told = number_memory e (omega (arith, told))
+row_memory e outcome = number_memory e (omega (arith, outcome))
 
 -- a refusal before the first row is none of a row
 pub refusal_no_row : (e : Error) → refusal_status e ≡ row_memory_refused → ⊥
-refusal_no_row e told = let small = number_small e in omega (arith, told, small)
+refusal_no_row e outcome = let small = number_small e in omega (arith, outcome, small)
 
 -- what is refused for memory takes some, where what it reads is never refused for it
 takes_some : {A : Type 0} → (takes : Bool) (r : Result A Error) → Never r
@@ -61,9 +61,9 @@ pub table_takes : (e : Error) (offset : ℕ) (v : View)
     → (table_takes_memory_at offset v ≡ false
     → ◌≡◌ {A = Result Map Error} (Err e) (map_at offset v))
     → refusal_status e ≡ memory_refused → table_takes_memory_at offset v ≡ true
-table_takes e offset v bare told =
+table_takes e offset v bare outcome =
     let is : ◌≡◌ {A = Result Map Error} (Err OutOfMemory) (Err e) =
-    ap Err (sym (refusal_memory e told)) in
+    ap Err (sym (refusal_memory e outcome)) in
     takes_some (table_takes_memory_at offset v) (map_at offset v) (map_at-never offset v)
     (λ none. is ∙ bare none)
 
@@ -230,10 +230,10 @@ module _ (u : UnitView) (t : Table) (follows : Bool) (offset : ℕ) where
   -- an offset out of bounds is no want of memory
   pub cursor_no_memory : (e : Error) → Err e ≡ cursor_from u t follows offset
       → refusal_status e ≡ memory_refused → ⊥
-  cursor_no_memory e is told =
+  cursor_no_memory e is outcome =
       let out : e ≡ OffsetOutOfBounds offset =
       (unread_bounds u t offset e (cases (entries_from u t (Some offset)) is)).1 in
-      let memory = refusal_memory e told in
+      let memory = refusal_memory e outcome in
       let no : OffsetOutOfBounds offset ≡ OutOfMemory = sym out ∙ memory in cc
     where
       cases : (r : Result RawPlace Error) → Err e ≡ answer_of (before_first follows) r → Err e ≡ r

@@ -22,10 +22,10 @@ use Rattle.gimli_c.specs.declared.attrs.GimliAttr.{GimliAttr}
 use Rattle.gimli_c.specs.declared.entries.GimliEntry.{GimliEntry}
 use Rattle.gimli_c.specs.declared.entries.GimliFilled.{GimliFilled}
 use Rattle.gimli_c.specs.declared.rows.GimliRow.{GimliRow}
-use Rattle.gimli_c.specs.Entries.{AreTold}
+use Rattle.gimli_c.specs.Entries.{IsEntriesOutcome}
 use Rattle.gimli_c.specs.declared.rows.GimliPlace.{GimliPlace}
 use Rattle.gimli_c.specs.Status.{too_deep, refusal_status}
-use Rattle.gimli_c.specs.Fronts.{at, unit_ahead, first_place, behind_rows, ToldRows}
+use Rattle.gimli_c.specs.Fronts.{at, unit_ahead, first_place, ahead_after, IsRowsOutcome}
 use Rattle.gimli_c.specs.Fronts.{Resumes}
 use Rattle.gimli_c.proofs.Bounds.{below_end}
 use Rattle.gimli_c.proofs.Front.{depth_near}
@@ -37,16 +37,16 @@ HasMoved (Err stop) from place n = place ≡ from
 
 pub moved_rows : (r : Result Ahead ℕ) (from : GimliPlace) (old : List GimliRow) (place : GimliPlace)
     (new : List GimliRow) (n status : ℕ)
-    → ToldRows r from old place new n status → HasMoved r from place n
-moved_rows (Ok a) from old place new n status told = told.behind
-moved_rows (Err stop) from old place new n status told = told.place_stays
+    → IsRowsOutcome r from old place new n status → HasMoved r from place n
+moved_rows (Ok a) from old place new n status outcome = outcome.after
+moved_rows (Err stop) from old place new n status outcome = outcome.place_stays
 
 pub moved_entries : (r : Result Ahead ℕ) (from : GimliPlace) (old : List GimliEntry)
     (old_attrs : List GimliAttr) (place : GimliPlace) (new : List GimliEntry)
     (attrs : List GimliAttr) (n : GimliFilled) (status : ℕ)
-    → AreTold r from old old_attrs place new attrs n status → HasMoved r from place n.rows
-moved_entries (Ok a) from old old_attrs place new attrs n status told = told.behind
-moved_entries (Err stop) from old old_attrs place new attrs n status told = told.place_stays
+    → IsEntriesOutcome r from old old_attrs place new attrs n status → HasMoved r from place n.rows
+moved_entries (Ok a) from old old_attrs place new attrs n status outcome = outcome.after
+moved_entries (Err stop) from old old_attrs place new attrs n status outcome = outcome.place_stays
 
 abbrev Shallow : ℤ → View → Type 0
 Shallow d v = (length v.bytes ≡ 0) ⊎ (unsigned_abs d + length v.bytes < 2 ^ 63)
@@ -130,11 +130,11 @@ module _ (limit : ℕ) (u : UnitView) (declared : Map) (fits : length u.entries.
       let later : IsLater 0 u.entries w =
       IsLater-weaker (0 + 1) 0 u.entries w (omega arith) (IsLater-trans 0 1 u.entries v w l
       step) in
-      let behind : Shallow (depth_after r.entry d) w = elim shallow [
+      let after : Shallow (depth_after r.entry d) w = elim shallow [
         | inl none ↦ absurd (is.some none)
         | inr h ↦ inr (omega (arith, h, shorter, near))
       ] in
-      chain n rest w (depth_after r.entry d) refusal stop stop_depth others later behind
+      chain n rest w (depth_after r.entry d) refusal stop stop_depth others later after
 
   module _ (place : GimliPlace) where
     abbrev from : View
@@ -201,11 +201,11 @@ module _ (limit : ℕ) (u : UnitView) (declared : Map) (fits : length u.entries.
           rw (apart, ← other) refl,
         )
 
-    module _ (behind : GimliPlace) (n : ℕ) where
+    module _ (after : GimliPlace) (n : ℕ) where
       goes : IsLater 0 u.entries from → Shallow place.depth from
-          → HasMoved (Ok (unit_rows_from limit u declared place.offset place.depth)) place behind n
-          → unit_ahead limit u declared behind
-          ≡ Ok (behind_rows n (unit_rows_from limit u declared place.offset place.depth))
+          → HasMoved (Ok (unit_rows_from limit u declared place.offset place.depth)) place after n
+          → unit_ahead limit u declared after
+          ≡ Ok (ahead_after n (unit_rows_from limit u declared place.offset place.depth))
       goes l shallow moved =
           let next = entry_at limit u.encoding declared in
           let a = unit_rows_from limit u declared place.offset place.depth in
@@ -214,21 +214,21 @@ module _ (limit : ℕ) (u : UnitView) (declared : Map) (fits : length u.entries.
           (exist_rows next (whole_length u) (λ x w y. entry_at-shorter limit u.encoding declared
           x w y) from place.depth) l shallow
 
-      stays : (stop : ℕ) → unit_ahead limit u declared place ≡ Err stop → behind ≡ place
-          → unit_ahead limit u declared behind ≡ Err stop
+      stays : (stop : ℕ) → unit_ahead limit u declared place ≡ Err stop → after ≡ place
+          → unit_ahead limit u declared after ≡ Err stop
       stays stop is same = ap (λ (p : GimliPlace). unit_ahead limit u declared p) same ∙ is
 
-      pub unit_resumes : HasMoved (unit_ahead limit u declared place) place behind n
-          → Resumes (unit_ahead limit u declared place) n (unit_ahead limit u declared behind)
+      pub unit_resumes : HasMoved (unit_ahead limit u declared place) place after n
+          → Resumes (unit_ahead limit u declared place) n (unit_ahead limit u declared after)
       unit_resumes moved = elim classify [
         | inl (is, l, shallow) ↦
-            let P : Result Ahead ℕ → Type 0 = λ r. HasMoved r place behind n in
+            let P : Result Ahead ℕ → Type 0 = λ r. HasMoved r place after n in
             let Q : Result Ahead ℕ → Type 0 =
-            λ r. Resumes r n (unit_ahead limit u declared behind) in
+            λ r. Resumes r n (unit_ahead limit u declared after) in
             subst Q (sym is) (goes l shallow (subst P is moved))
         | inr (stop, is) ↦
-            let P : Result Ahead ℕ → Type 0 = λ r. HasMoved r place behind n in
+            let P : Result Ahead ℕ → Type 0 = λ r. HasMoved r place after n in
             let Q : Result Ahead ℕ → Type 0 =
-            λ r. Resumes r n (unit_ahead limit u declared behind) in
+            λ r. Resumes r n (unit_ahead limit u declared after) in
             subst Q (sym is) (stays stop is (subst P is moved))
       ]

@@ -21,7 +21,7 @@ use Rattle.gimli_units.proofs.EntryReads.{entry_at-shorter}
 use Rattle.gimli_units.proofs.Memory.{attribute_at-never, attributes_at-never, entry_at-never}
 use Rattle.gimli_c.specs.declared.reading.Head.{Head}
 use Rattle.gimli_c.specs.Heads.{IsReadPast, GoesOn}
-use Rattle.gimli_c.specs.TableReads.{depth_behind_head}
+use Rattle.gimli_c.specs.TableReads.{depth_after_head}
 use Rattle.gimli_c.proofs.Front.{depth_near}
 
 -- what passed attributes leave,
@@ -82,7 +82,7 @@ later_place p q end within less = omega (arith, end, within, less)
 
 -- a depth after a head is another by one at most
 pub head_near : (h : Head) (depth : ℤ)
-    → unsigned_abs (depth_behind_head h depth) ≤ unsigned_abs depth + 1
+    → unsigned_abs (depth_after_head h depth) ≤ unsigned_abs depth + 1
 head_near h depth = cases (h.tag == 0) (not (h.has_children == 0))
   where
     cases : (null flag : Bool)

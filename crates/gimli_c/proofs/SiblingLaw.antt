@@ -6,10 +6,10 @@ use Rattle.gimli_base.specs.declared.error.Error.TheVariants.{OffsetOutOfBounds}
 use Rattle.gimli_base.specs.Offset.{answer_of}
 use Rattle.gimli_base.specs.View.{cut}
 use Rattle.gimli_base.specs.Table.{Table, codes_of}
-use Rattle.gimli_units.specs.CursorLent.{HasReadOn}
-use Rattle.gimli_units.specs.CursorMoves.{CursorView, place_of, IsHonestFor}
+use Rattle.gimli_units.specs.CursorContracts.{HasReadOn}
+use Rattle.gimli_units.specs.CursorModel.{CursorView, place_of, IsHonestFor}
 use Rattle.gimli_units.specs.CursorPlace.{Place, Moved, next_row, next_of_depth}
-use Rattle.gimli_units.specs.CursorMoves.{IsHonestCursor}
+use Rattle.gimli_units.specs.CursorModel.{IsHonestCursor}
 use Rattle.gimli_units.proofs.PlaceLaw.{honest_for, honest_next}
 use Rattle.gimli_units.proofs.Bounds.{begins_at}
 use Rattle.gimli_units.specs.RawPlace.{RawPlace, next_offset_of}
@@ -17,7 +17,7 @@ use Rattle.gimli_units.specs.CursorStart.{before_first, cursor_from}
 use Rattle.gimli_units.specs.Unit.{UnitView, whole_length, header_size, in_bounds, range_from}
 use Rattle.gimli_units.specs.Unit.{entries_in, entries_from}
 use Rattle.gimli_c.specs.declared.rows.GimliRow.{GimliRow}
-use Rattle.gimli_c.specs.Siblings.{current_told, moved_told, behind_told, place_sibling}
+use Rattle.gimli_c.specs.Siblings.{current_outcome, moved_outcome, outcome_after, place_sibling}
 use Rattle.gimli_c.specs.Siblings.{unit_sibling}
 use Rattle.gimli_c.specs.Status.{refusal_status, row_refused}
 
@@ -25,7 +25,7 @@ use Rattle.gimli_c.specs.Status.{refusal_status, row_refused}
 module _ (stop : ℕ) (p q : Place) (depth : ℤ) (old : GimliRow) where
   pub entry_refused : (e : Error) → record { outcome = Err e; place = q } ≡ next_row stop p
       → (row_refused e, old) ≡ place_sibling stop p depth old
-  entry_refused e is = ap (λ (m : Moved). behind_told stop m depth old) is
+  entry_refused e is = ap (λ (m : Moved). outcome_after stop m depth old) is
 
   module _ (b : Bool) (first : record { outcome = Ok b; place = q } ≡ next_row stop p) (r : Place)
     where
@@ -33,14 +33,14 @@ module _ (stop : ℕ) (p q : Place) (depth : ℤ) (old : GimliRow) where
           → record { outcome = Err e; place = r } ≡ next_of_depth stop q
           → (row_refused e, old) ≡ place_sibling stop p depth old
       sibling_stopped e second =
-          ap (λ (m : Moved). moved_told depth m old) second
-          ∙ ap (λ (m : Moved). behind_told stop m depth old) first
+          ap (λ (m : Moved). moved_outcome depth m old) second
+          ∙ ap (λ (m : Moved). outcome_after stop m depth old) first
 
-      pub sibling_told : (a : Bool) → record { outcome = Ok a; place = r } ≡ next_of_depth stop q
-          → current_told depth r old ≡ place_sibling stop p depth old
-      sibling_told a second =
-          ap (λ (m : Moved). moved_told depth m old) second
-          ∙ ap (λ (m : Moved). behind_told stop m depth old) first
+      pub sibling_outcome : (a : Bool) → record { outcome = Ok a; place = r } ≡ next_of_depth stop q
+          → current_outcome depth r old ≡ place_sibling stop p depth old
+      sibling_outcome a second =
+          ap (λ (m : Moved). moved_outcome depth m old) second
+          ∙ ap (λ (m : Moved). outcome_after stop m depth old) first
 
 -- a step by the same end
 pub at_stop : (s t : ℕ) (q : Place) (m : Moved) → s ≡ t → m ≡ next_of_depth s q

@@ -85,6 +85,6 @@ module _ (limit : ℕ) (e : Encoding) (all left : List GimliSpecification) (star
 
     pub more_has : HasSteps more
     more_has =
-        let behind : drop (s.step.values + 1) left ≡ more =
+        let after : drop (s.step.values + 1) left ≡ more =
         sym (drop-drop 1 s.step.values left) ∙ ap (drop 1) (others ∙ there) in
-        rw behind at (has-drop (s.step.values + 1) left has)
+        rw after at (has-drop (s.step.values + 1) left has)

@@ -21,14 +21,14 @@ use Rattle.gimli_c.specs.declared.table.GimliDeclaration.{GimliDeclaration}
 use Rattle.gimli_c.specs.declared.table.GimliSpecification.{GimliSpecification}
 use Rattle.gimli_c.specs.Status.{more, end, unordered, refusal_status}
 use Rattle.gimli_c.specs.Tables.{specification_in, in_order, all_specifications, numbered}
-use Rattle.gimli_c.specs.Tables.{number_declarations, count_of, have_room, table_told, AreWritten}
-use Rattle.gimli_c.specs.TableReads.{AreBehind, OwnSteps, HaveSteps, WroteNext, IsScanned}
+use Rattle.gimli_c.specs.Tables.{number_declarations, count_of, have_room, table_outcome, AreWritten}
+use Rattle.gimli_c.specs.TableReads.{AreWrittenAfter, OwnSteps, HaveSteps, WroteNext, IsScanned}
 use Rattle.gimli_c.proofs.TableSteps.{steps-append, own_steps}
 use Rattle.gimli_c.proofs.Slots.{slot}
 
 -- none is written yet
-pub behind_none : (from : ℕ) (old : List GimliSpecification) → AreBehind from [] old old
-behind_none from old = record {
+pub after_none : (from : ℕ) (old : List GimliSpecification) → AreWrittenAfter from [] old old
+after_none from old = record {
   long = refl;
   front = refl;
   written = λ _. rw (add-zero, append-nil) refl;
@@ -36,11 +36,11 @@ behind_none from old = record {
 }
 
 -- one more attribute is written, where there is room for it
-pub behind_more : (from : ℕ) (ss : List Specification) (old new : List GimliSpecification)
-    (g : GimliSpecification) (s : Specification) → AreBehind from ss old new
+pub after_more : (from : ℕ) (ss : List Specification) (old new : List GimliSpecification)
+    (g : GimliSpecification) (s : Specification) → AreWrittenAfter from ss old new
     → from + length ss < length new → specification_in g ≡ s
-    → AreBehind from (ss ++ s ∷ []) old (slice_set new (from + length ss) g)
-behind_more from ss old new g s b room is =
+    → AreWrittenAfter from (ss ++ s ∷ []) old (slice_set new (from + length ss) g)
+after_more from ss old new g s b room is =
     let at = from + length ss in
     let longer : length (ss ++ s ∷ []) ≡ length ss + 1 = rw (length-append) refl in
     let next : from + length (ss ++ s ∷ []) ≡ at + 1 = omega (arith, longer) in
@@ -60,10 +60,10 @@ behind_more from ss old new g s b room is =
     }
 
 -- and where there is none
-pub behind_counted : (from : ℕ) (ss : List Specification) (old new : List GimliSpecification)
-    (s : Specification) → AreBehind from ss old new → length new ≤ from + length ss
-    → AreBehind from (ss ++ s ∷ []) old new
-behind_counted from ss old new s b full =
+pub after_counted : (from : ℕ) (ss : List Specification) (old new : List GimliSpecification)
+    (s : Specification) → AreWrittenAfter from ss old new → length new ≤ from + length ss
+    → AreWrittenAfter from (ss ++ s ∷ []) old new
+after_counted from ss old new s b full =
     let longer : length (ss ++ s ∷ []) ≡ length ss + 1 = rw (length-append) refl in
     record {
       long = b.long;
@@ -74,7 +74,7 @@ behind_counted from ss old new s b full =
 
 -- the steps of attributes that are written are put
 module _ (from : ℕ) (ss : List Specification) (old new part : List GimliSpecification)
-    (b : AreBehind from ss old new) (fits : from + length ss ≤ length new)
+    (b : AreWrittenAfter from ss old new) (fits : from + length ss ≤ length new)
     (same : map specification_in part ≡ map specification_in (take (length ss) (drop from new)))
   where
     abbrev put : List GimliSpecification
@@ -101,8 +101,8 @@ module _ (from : ℕ) (ss : List Specification) (old new part : List GimliSpecif
         let last = length-drop (length ss) (drop from new) in
         omega (arith, parts, front, others, as_many, last, length-drop from new, fits)
 
-    pub behind_put : AreBehind from ss old put
-    behind_put = record {
+    pub after_put : AreWrittenAfter from ss old put
+    after_put = record {
       long = long ∙ b.long;
       front =
           take-put_mid_below from (length ss) new part from (omega arith) inside ∙ b.front;
@@ -217,7 +217,7 @@ module _ (all : Items Declaration) (old : List GimliDeclaration)
 
       -- one of another code than the next
       pub scan_unordered : (g.code ≡ count + 1 → ⊥)
-          → (unordered, count_of []) ≡ table_told (length old) (length old_s) all
+          → (unordered, count_of []) ≡ table_outcome (length old) (length old_s) all
       scan_unordered other =
           let code : g.code ≡ d.code = ap (λ (x : GimliDeclaration). x.code) n.is in
           let apart : (d.code == 1 + length s.taken) ≡ false =
@@ -271,7 +271,7 @@ module _ (all : Items Declaration) (old : List GimliDeclaration)
             ≡ all_specifications (s.taken ++ d ∷ [])
         written le =
             ap (λ k. map specification_in (take (used + k) new_s')) own
-            ∙ (n.behind.written (fits le)
+            ∙ (n.after.written (fits le)
             ∙ ap (λ t. t ++ d.attributes) (s.specifications (fitted le))
             ∙ sym specifications)
 
@@ -282,7 +282,7 @@ module _ (all : Items Declaration) (old : List GimliDeclaration)
             → drop (used + g.attributes) new_s' ≡ drop (used + g.attributes) old_s
         left le =
             ap (λ k. drop (used + k) new_s') own
-            ∙ (n.behind.rest (fits le)
+            ∙ (n.after.rest (fits le)
             ∙ sym (drop-drop (length d.attributes) used new_s)
             ∙ ap (drop (length d.attributes)) (s.rest (fitted le))
             ∙ drop-drop (length d.attributes) used old_s
@@ -308,7 +308,7 @@ module _ (all : Items Declaration) (old : List GimliDeclaration)
           count_is = longer;
           used_is = many;
           long = long;
-          long_s = n.behind.long ∙ s.long_s;
+          long_s = n.after.long ∙ s.long_s;
           declarations = is;
           specifications = written;
           steps = with_steps;
@@ -332,7 +332,7 @@ module _ (all : Items Declaration) (old : List GimliDeclaration)
 
     -- a refusal
     pub scan_refused : (e : Error) → Err e ≡ declaration_at v
-        → (refusal_status e, count_of []) ≡ table_told (length old) (length old_s) all
+        → (refusal_status e, count_of []) ≡ table_outcome (length old) (length old_s) all
     scan_refused e h =
         let is = items_refused declaration_at all s.taken v e s.read h in
         rw (is, s.ordered) refl
@@ -351,14 +351,14 @@ module _ (all : Items Declaration) (old : List GimliDeclaration)
       counted : count_of s.taken ≡ n
       counted = rw (s.count_is, s.used_is) refl
 
-      abbrev told_of : GimliCounted → ℕ × GimliCounted
-      told_of m = (if have_room (length old) (length old_s) m then end else more, m)
+      abbrev outcome_of : GimliCounted → ℕ × GimliCounted
+      outcome_of m = (if have_room (length old) (length old_s) m then end else more, m)
 
-      told : ◌≡◌ {A = ℕ × GimliCounted} (table_told (length old) (length old_s) all)
-          (told_of (count_of s.taken))
-      told =
+      outcome : ◌≡◌ {A = ℕ × GimliCounted} (table_outcome (length old) (length old_s) all)
+          (outcome_of (count_of s.taken))
+      outcome =
           let is = items_end declaration_at all s.taken v w s.read h in
-          ap (table_told (length old) (length old_s)) is ∙ rw s.ordered refl
+          ap (table_outcome (length old) (length old_s)) is ∙ rw s.ordered refl
 
       room_for : (x y z t : ℕ) → true ≡ (nat_le x y && nat_le z t) → (x ≤ y) × (z ≤ t)
       room_for x y z t h = grind (arith, h)
@@ -379,7 +379,7 @@ module _ (all : Items Declaration) (old : List GimliDeclaration)
       scan_ended =
           let is = items_end declaration_at all s.taken v w s.read h in
           record {
-            told = ap (λ (t : Bool). (if t then end else more, n)) room_is ∙ ap told_of (sym counted)
-                ∙ sym told;
+            outcome = ap (λ (t : Bool). (if t then end else more, n)) room_is ∙ ap outcome_of (sym counted)
+                ∙ sym outcome;
             written = λ ended. rw is (all_written b room_is ended);
           }

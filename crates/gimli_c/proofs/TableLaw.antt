@@ -25,7 +25,7 @@ use Rattle.gimli_c.specs.declared.table.GimliSpecification.{GimliSpecification}
 use Rattle.gimli_c.specs.Status.{more, end, unordered, refusal_status}
 use Rattle.gimli_c.specs.Tables.{specification_in, declared_in, declaration_in, table_of, in_order}
 use Rattle.gimli_c.specs.Tables.{all_specifications, numbered, number_declarations, count_of}
-use Rattle.gimli_c.specs.Tables.{have_room, table_told, AreWritten, IsTableIn, IsTableAt}
+use Rattle.gimli_c.specs.Tables.{have_room, table_outcome, AreWritten, IsTableIn, IsTableAt}
 use Rattle.gimli_c.specs.Tables.{HasTableAt, Serves, read_by}
 use Rattle.gimli_c.specs.Fronts.{read_ahead}
 use Rattle.gimli_c.specs.Lists.{section_view}
@@ -123,66 +123,66 @@ finds ds h code = cases (nat_lt 0 code) (nat_lt (code - 1) (length ds)) refl ref
     cases false b i j = sym (unfound 1 ds code h (grind (arith, i)))
 
 -- what is told at the end of the declarations
-abbrev end_told : ℕ → ℕ → Items Declaration → Result View Error → ℕ × GimliCounted
-end_told room space ds (Ok w) =
+abbrev end_outcome : ℕ → ℕ → Items Declaration → Result View Error → ℕ × GimliCounted
+end_outcome room space ds (Ok w) =
     (if have_room room space (count_of ds.items) then end else more, count_of ds.items)
-end_told room space ds (Err e) = (refusal_status e, count_of [])
+end_outcome room space ds (Err e) = (refusal_status e, count_of [])
 
 -- a status that tells of the end tells that the codes are in order, and none was refused
 pub ended : (room space : ℕ) (ds : Items Declaration) (n : GimliCounted)
-    → ◌≡◌ {A = ℕ × GimliCounted} (end, n) (table_told room space ds)
+    → ◌≡◌ {A = ℕ × GimliCounted} (end, n) (table_outcome room space ds)
     → (in_order 1 ds.items ≡ true) × (n ≡ count_of ds.items) × (map_of ds
     ≡ Ok (declaration_of ds.items))
 ended room space ds n is = ordered (in_order 1 ds.items) refl is
   where
-    told : (ending : Result View Error)
-        → ◌≡◌ {A = ℕ × GimliCounted} (end, n) (end_told room space ds ending)
+    outcome : (ending : Result View Error)
+        → ◌≡◌ {A = ℕ × GimliCounted} (end, n) (end_outcome room space ds ending)
         → (n ≡ count_of ds.items)
         × ◌≡◌ {A = Result Map Error}
         (elim ending [ Ok w ↦ Ok (declaration_of ds.items) | Err e ↦ Err e ])
         (Ok (declaration_of ds.items))
-    told (Ok w) h = (ap (λ (p : ℕ × GimliCounted). p.1) h, refl)
-    told (Err e) h =
+    outcome (Ok w) h = (ap (λ (p : ℕ × GimliCounted). p.1) h, refl)
+    outcome (Err e) h =
         let status : end ≡ refusal_status e = ap (λ (p : ℕ × GimliCounted). p.0) h in
         absurd (omega (arith, status))
 
     ordered : (b : Bool) → in_order 1 ds.items ≡ b
         → ◌≡◌ {A = ℕ × GimliCounted} (end, n)
-        (if b then end_told room space ds ds.ending else (unordered, count_of []))
+        (if b then end_outcome room space ds ds.ending else (unordered, count_of []))
         → (in_order 1 ds.items ≡ true) × (n ≡ count_of ds.items) × (map_of ds
         ≡ Ok (declaration_of ds.items))
     ordered true known h =
-        let t = told ds.ending h in
+        let t = outcome ds.ending h in
         (known, t.0, rw (apart 1 ds.items known) t.1)
     ordered false known h =
         let status : end ≡ unordered = ap (λ (p : ℕ × GimliCounted). p.0) h in
         absurd (omega (arith, status))
 
 -- what is told with room, by what is told with none
-pub told_again : (room space : ℕ) (ds : Items Declaration) (status : ℕ) (n : GimliCounted)
-    → ◌≡◌ {A = ℕ × GimliCounted} (status, n) (table_told 0 0 ds)
-    → (end < status → ◌≡◌ {A = ℕ × GimliCounted} (status, n) (table_told room space ds))
-    × (status ≤ end → ◌≡◌ {A = ℕ × GimliCounted} (table_told room space ds)
+pub outcome_again : (room space : ℕ) (ds : Items Declaration) (status : ℕ) (n : GimliCounted)
+    → ◌≡◌ {A = ℕ × GimliCounted} (status, n) (table_outcome 0 0 ds)
+    → (end < status → ◌≡◌ {A = ℕ × GimliCounted} (status, n) (table_outcome room space ds))
+    × (status ≤ end → ◌≡◌ {A = ℕ × GimliCounted} (table_outcome room space ds)
     (if have_room room space n then end else more, n))
-told_again room space ds status n is = ordered (in_order 1 ds.items) refl is
+outcome_again room space ds status n is = ordered (in_order 1 ds.items) refl is
   where
     small : (b : Bool) → (if b then end else more) ≤ end
     small true = omega arith
     small false = omega arith
 
-    told : (ending : Result View Error)
-        → ◌≡◌ {A = ℕ × GimliCounted} (status, n) (end_told 0 0 ds ending)
-        → (end < status → ◌≡◌ {A = ℕ × GimliCounted} (status, n) (end_told room space ds ending))
-        × (status ≤ end → ◌≡◌ {A = ℕ × GimliCounted} (end_told room space ds ending)
+    outcome : (ending : Result View Error)
+        → ◌≡◌ {A = ℕ × GimliCounted} (status, n) (end_outcome 0 0 ds ending)
+        → (end < status → ◌≡◌ {A = ℕ × GimliCounted} (status, n) (end_outcome room space ds ending))
+        × (status ≤ end → ◌≡◌ {A = ℕ × GimliCounted} (end_outcome room space ds ending)
         (if have_room room space n then end else more, n))
-    told (Ok w) h =
+    outcome (Ok w) h =
         let status_is = ap (λ (p : ℕ × GimliCounted). p.0) h in
         let count_is : n ≡ count_of ds.items = ap (λ (p : ℕ × GimliCounted). p.1) h in
         let few = small (have_room 0 0 (count_of ds.items)) in (
           λ many. absurd (omega (arith, many, status_is, few)),
           λ _. rw count_is refl,
         )
-    told (Err e) h =
+    outcome (Err e) h =
         let status_is : status ≡ refusal_status e = ap (λ (p : ℕ × GimliCounted). p.0) h in (
           λ _. h,
           λ le. absurd (omega (arith, le, status_is)),
@@ -190,11 +190,11 @@ told_again room space ds status n is = ordered (in_order 1 ds.items) refl is
 
     ordered : (b : Bool) → in_order 1 ds.items ≡ b
         → ◌≡◌ {A = ℕ × GimliCounted} (status, n)
-        (if b then end_told 0 0 ds ds.ending else (unordered, count_of []))
-        → (end < status → ◌≡◌ {A = ℕ × GimliCounted} (status, n) (table_told room space ds))
-        × (status ≤ end → ◌≡◌ {A = ℕ × GimliCounted} (table_told room space ds)
+        (if b then end_outcome 0 0 ds ds.ending else (unordered, count_of []))
+        → (end < status → ◌≡◌ {A = ℕ × GimliCounted} (status, n) (table_outcome room space ds))
+        × (status ≤ end → ◌≡◌ {A = ℕ × GimliCounted} (table_outcome room space ds)
         (if have_room room space n then end else more, n))
-    ordered true known h = rw known (told ds.ending h)
+    ordered true known h = rw known (outcome ds.ending h)
     ordered false known h =
         let status_is : status ≡ unordered = ap (λ (p : ℕ × GimliCounted). p.0) h in (
           λ _. rw known h,
@@ -239,8 +239,8 @@ pub serves : (s : GimliSections) (unit offset : ℕ) (old new : List GimliDeclar
     → HasTableAt offset (section_unit s unit)
     → Serves s unit (table_of (take n.declarations new) (take n.specifications new_s))
 unfolding map_at
-serves s unit offset old new old_s new_s n status told is has =
-    skipped (skip_at offset (abbreviations_view s)) refl told
+serves s unit offset old new old_s new_s n status outcome is has =
+    skipped (skip_at offset (abbreviations_view s)) refl outcome
   where
     t : Table
     t = table_of (take n.declarations new) (take n.specifications new_s)
@@ -258,10 +258,10 @@ serves s unit offset old new old_s new_s n status told is has =
         → IsTableIn r old old_s new new_s n status → Serves s unit t
     skipped (Ok p) known table =
         let ds = declarations_at p.1 in
-        let told_end : ◌≡◌ {A = ℕ × GimliCounted} (end, n)
-        (table_told (length old) (length old_s) ds) =
-        ap (λ (k : ℕ). (k, n)) (sym is) ∙ table.told in
-        let e = ended (length old) (length old_s) ds n told_end in
+        let outcome_end : ◌≡◌ {A = ℕ × GimliCounted} (end, n)
+        (table_outcome (length old) (length old_s) ds) =
+        ap (λ (k : ℕ). (k, n)) (sym is) ∙ table.outcome in
+        let e = ended (length old) (length old_s) ds n outcome_end in
         let same : t ≡ written old new old_s new_s ds.items (table.written is) =
         ap (λ (c : GimliCounted). table_of (take c.declarations new)
         (take c.specifications new_s)) e.1 in

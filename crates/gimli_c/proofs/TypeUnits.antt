@@ -61,11 +61,11 @@ module _ (limit : ℕ) (section : SectionId) (n : ℕ) where
   no_unit v none = rw none refl
 
   -- the next unit of what is left is the one there, at another offset
-  next_told : (v : View)
+  next_outcome : (v : View)
       → found_unit n v (next_unit limit section (record { rest = v; offset = 0 })).0
       ≡ without_rest (unit_at limit section n v)
   unfolding next_unit
-  next_told v = elim (eqb_tells (length v.bytes) 0) [
+  next_outcome v = elim (eqb_tells (length v.bytes) 0) [
     | inl none ↦ rw none.0 (sym (no_unit v none.1))
     | inr some ↦ rw some.0 (read (unit_at limit section 0 v) (placed 0 v))
   ]
@@ -87,7 +87,7 @@ module _ (limit : ℕ) (section : SectionId) (n : ℕ) where
   unfolding header_at
   next_is v w a q there is =
       ap (found_unit n w) (ap (λ (p : Result (Option UnitView) Error × UnitsPlace). p.0) is)
-      ∙ next_told w ∙ rw (← there) refl
+      ∙ next_outcome w ∙ rw (← there) refl
 
   -- where the offset lies after the end
   pub not_there : (v : View) (e : Error) → Err e ≡ skip_at n v → Err e ≡ header_at limit section n v

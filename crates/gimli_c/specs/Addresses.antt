@@ -7,12 +7,12 @@ use Rattle.gimli_c.specs.Status.{more, end, refusal_status}
 use Rattle.gimli_c.specs.Units.{view_in}
 
 -- the status, and the offset that the caller has then
-abbrev pub holding_told : Result (Option ℕ) Error → ℕ → ℕ × ℕ
-holding_told (Ok (Some offset)) old = (more, offset)
-holding_told (Ok None) old = (end, old)
-holding_told (Err e) old = (refusal_status e, old)
+abbrev pub holding_outcome : Result (Option ℕ) Error → ℕ → ℕ × ℕ
+holding_outcome (Ok (Some offset)) old = (more, offset)
+holding_outcome (Ok None) old = (end, old)
+holding_outcome (Err e) old = (refusal_status e, old)
 
 -- the unit of an address in a caller's sections
 abbrev pub section_holding : GimliSections → ℕ → ℕ → ℕ × ℕ
 section_holding s address old =
-    holding_told (unit_holding (2 ^ 64) address (view_in s s.aranges.now)) old
+    holding_outcome (unit_holding (2 ^ 64) address (view_in s s.aranges.now)) old

@@ -83,7 +83,7 @@ pub record FilledEntries (ahead : Ahead) (old : List GimliEntry) (old_attrs : Li
   pub attributes : attrs
       ≡ map attr_of (all_attributes (take n.rows ahead.rows)) ++ drop n.attributes old_attrs
   pub used_is : n.attributes ≡ length (all_attributes (take n.rows ahead.rows))
-  pub behind : place ≡ first_place (drop n.rows ahead.rows) ahead.stop ahead.stop_depth
+  pub after : place ≡ first_place (drop n.rows ahead.rows) ahead.stop ahead.stop_depth
   pub fits : n.rows ≤ min (length old) (length ahead.rows)
   pub none : status ≡ memory_refused → n ≡ wrote 0 0 0
   pub short : status ≡ row_memory_refused → (n.rows < length old) × (n.wanted ≡ 0)
@@ -104,9 +104,9 @@ pub record StoppedEntries (stop : ℕ) (from : GimliPlace) (old : List GimliEntr
   pub whole : (status ≡ memory_refused → ⊥) → status ≡ stop
 
 -- what a call does
-abbrev pub AreTold : Result Ahead ℕ → GimliPlace → List GimliEntry → List GimliAttr → GimliPlace
-    → List GimliEntry → List GimliAttr → GimliFilled → ℕ → Type 0
-AreTold (Ok ahead) from old old_attrs place new attrs n status =
+abbrev pub IsEntriesOutcome : Result Ahead ℕ → GimliPlace → List GimliEntry → List GimliAttr
+    → GimliPlace → List GimliEntry → List GimliAttr → GimliFilled → ℕ → Type 0
+IsEntriesOutcome (Ok ahead) from old old_attrs place new attrs n status =
     FilledEntries ahead old old_attrs place new attrs n status
-AreTold (Err stop) from old old_attrs place new attrs n status =
+IsEntriesOutcome (Err stop) from old old_attrs place new attrs n status =
     StoppedEntries stop from old old_attrs place new attrs n status

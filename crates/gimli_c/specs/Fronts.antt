@@ -20,8 +20,8 @@ use Rattle.gimli_c.specs.declared.rows.GimliPlace.{GimliPlace}
 use Rattle.gimli_c.specs.Units.{units_id, units_view, abbreviations_view}
 use Rattle.gimli_c.specs.Status.{more, end, too_deep, refusal_status, row_refused, memory_refused}
 
-abbrev pub told_row : Row → GimliRow
-told_row r = record {
+abbrev pub row_in_c : Row → GimliRow
+row_in_c r = record {
   offset = r.offset;
   depth = r.depth;
   tag = r.entry.tag.0;
@@ -67,8 +67,8 @@ section_rows s unit place =
     rows_ahead (2 ^ 64) (units_id s) (units_view s) (abbreviations_view s) unit place
 
 -- what is ahead after so many rows
-abbrev pub behind_rows : ℕ → Ahead → Ahead
-behind_rows count a = record {
+abbrev pub ahead_after : ℕ → Ahead → Ahead
+ahead_after count a = record {
   rows = drop count a.rows;
   refusal = a.refusal;
   stop = a.stop;
@@ -90,8 +90,8 @@ status_at room count (Some e) = if nat_lt count room then row_refused e else mor
 -- is none.
 pub record Filled (ahead : Ahead) (old : List GimliRow) (place : GimliPlace) (new : List GimliRow)
     (count status : ℕ) : Type 0 where
-  pub rows : new ≡ map told_row (take count ahead.rows) ++ drop count old
-  pub behind : place ≡ first_place (drop count ahead.rows) ahead.stop ahead.stop_depth
+  pub rows : new ≡ map row_in_c (take count ahead.rows) ++ drop count old
+  pub after : place ≡ first_place (drop count ahead.rows) ahead.stop ahead.stop_depth
   pub fits : count ≤ min (length old) (length ahead.rows)
   pub none : status ≡ memory_refused → count ≡ 0
   pub whole : (status ≡ memory_refused → ⊥)
@@ -113,20 +113,22 @@ pub record Stopped (stop : ℕ) (from : GimliPlace) (old : List GimliRow) (place
   pub whole : (status ≡ memory_refused → ⊥) → status ≡ stop
 
 -- what a call does
-abbrev pub ToldRows : Result Ahead ℕ → GimliPlace → List GimliRow → GimliPlace → List GimliRow → ℕ
-    → ℕ → Type 0
-ToldRows (Ok ahead) from old place new count status = Filled ahead old place new count status
-ToldRows (Err stop) from old place new count status = Stopped stop from old place new count status
+abbrev pub IsRowsOutcome : Result Ahead ℕ → GimliPlace → List GimliRow → GimliPlace
+    → List GimliRow → ℕ → ℕ → Type 0
+IsRowsOutcome (Ok ahead) from old place new count status =
+    Filled ahead old place new count status
+IsRowsOutcome (Err stop) from old place new count status =
+    Stopped stop from old place new count status
 
 -- the same, where of the rows nothing is said without a premise
-abbrev pub ToldRowsIf : Type 0 → Result Ahead ℕ → GimliPlace → List GimliRow → GimliPlace
+abbrev pub IsRowsOutcomeIf : Type 0 → Result Ahead ℕ → GimliPlace → List GimliRow → GimliPlace
     → List GimliRow → ℕ → ℕ → Type 0
-ToldRowsIf P (Ok ahead) from old place new count status =
+IsRowsOutcomeIf P (Ok ahead) from old place new count status =
     P → Filled ahead old place new count status
-ToldRowsIf P (Err stop) from old place new count status =
+IsRowsOutcomeIf P (Err stop) from old place new count status =
     Stopped stop from old place new count status
 
 -- from the place after so many rows the next call goes on with the others
 abbrev pub Resumes : Result Ahead ℕ → ℕ → Result Ahead ℕ → Type 0
-Resumes (Ok ahead) count next = next ≡ Ok (behind_rows count ahead)
+Resumes (Ok ahead) count next = next ≡ Ok (ahead_after count ahead)
 Resumes (Err stop) count next = next ≡ Err stop

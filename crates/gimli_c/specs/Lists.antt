@@ -75,11 +75,11 @@ pub record IsUnlisted {Y : Type 0} (stop : ℕ) (old new : List Y) (count status
   pub stopped : status ≡ stop
 
 -- what a call does
-abbrev pub IsToldList : {X Y : Type 0} → (X → Y) → Result (List (Result X Error)) ℕ → List Y
+abbrev pub IsListOutcome : {X Y : Type 0} → (X → Y) → Result (List (Result X Error)) ℕ → List Y
     → List Y
     → ℕ → ℕ → Type 0
-IsToldList f (Ok answers) old new count status = IsListed f answers old new count status
-IsToldList f (Err stop) old new count status = IsUnlisted stop old new count status
+IsListOutcome f (Ok answers) old new count status = IsListed f answers old new count status
+IsListOutcome f (Err stop) old new count status = IsUnlisted stop old new count status
 
 -- the view of a section's bytes in a byte order
 abbrev pub section_view : Bool → List ℕ → View

@@ -5,7 +5,7 @@ use Rattle.gimli_base.specs.View.{View}
 use Rattle.gimli_base.specs.Abbreviations.{Map, map_at, table_takes_memory_at}
 use Rattle.gimli_units.specs.Honest.{usable_target}
 use Rattle.gimli_units.specs.RawPlace.{RawPlace, next_offset_of}
-use Rattle.gimli_units.specs.CursorMoves.{takes_memory_at}
+use Rattle.gimli_units.specs.CursorModel.{takes_memory_at}
 use Rattle.gimli_units.specs.Unit.{UnitView, whole_length, in_bounds, range_from, takes_memory_in}
 use Rattle.gimli_units.specs.UnitRows.{unit_rows}
 use Rattle.gimli_c.specs.Status.{refusal_status, memory_refused}

@@ -17,8 +17,8 @@ use Rattle.gimli_c.specs.Status.{more, end, refusal_status, row_refused}
 use Rattle.gimli_c.specs.Units.{section_unit, abbreviations_view}
 
 -- the status and the row where a walk stands: the current entry, as a row of this depth, or none
-abbrev pub current_told : ℤ → Place → GimliRow → ℕ × GimliRow
-current_told depth p old = elim p.current [
+abbrev pub current_outcome : ℤ → Place → GimliRow → ℕ × GimliRow
+current_outcome depth p old = elim p.current [
   | Some e ↦ (
     more,
     record {
@@ -32,22 +32,22 @@ current_told depth p old = elim p.current [
 ]
 
 -- the same after a step, which may be refused
-abbrev pub moved_told : ℤ → Moved → GimliRow → ℕ × GimliRow
-moved_told depth m old = elim m.outcome [
-  | Ok b ↦ current_told depth m.place old
+abbrev pub moved_outcome : ℤ → Moved → GimliRow → ℕ × GimliRow
+moved_outcome depth m old = elim m.outcome [
+  | Ok b ↦ current_outcome depth m.place old
   | Err e ↦ (row_refused e, old)
 ]
 
 -- a step after another
-abbrev pub behind_told : ℕ → Moved → ℤ → GimliRow → ℕ × GimliRow
-behind_told stop m depth old = elim m.outcome [
-  | Ok b ↦ moved_told depth (next_of_depth stop m.place) old
+abbrev pub outcome_after : ℕ → Moved → ℤ → GimliRow → ℕ × GimliRow
+outcome_after stop m depth old = elim m.outcome [
+  | Ok b ↦ moved_outcome depth (next_of_depth stop m.place) old
   | Err e ↦ (row_refused e, old)
 ]
 
 -- the next sibling of the row that is read at a place
 abbrev pub place_sibling : ℕ → Place → ℤ → GimliRow → ℕ × GimliRow
-place_sibling stop p depth old = behind_told stop (next_row stop p) depth old
+place_sibling stop p depth old = outcome_after stop (next_row stop p) depth old
 
 -- the next sibling of the row at an offset of a unit, as a row of this depth
 abbrev pub unit_sibling : ℕ → UnitView → Map → ℕ → ℤ → GimliRow → ℕ × GimliRow
@@ -89,13 +89,13 @@ section_sibling s unit offset depth old =
     read_sibling (2 ^ 64) (section_unit s unit) (abbreviations_view s) offset depth old
 
 -- the offset of the first row whose reference is false
-abbrev pub offset_told : Option ℕ → ℕ → ℕ × ℕ
-offset_told (Some offset) old = (more, offset)
-offset_told None old = (end, old)
+abbrev pub offset_outcome : Option ℕ → ℕ → ℕ × ℕ
+offset_outcome (Some offset) old = (more, offset)
+offset_outcome None old = (end, old)
 
 abbrev pub declared_false : ℕ → UnitView → Result Map Error → ℕ → ℕ × ℕ
 declared_false limit u (Ok declared) old =
-    offset_told (first_false (whole_length u) (unit_rows limit u declared)) old
+    offset_outcome (first_false (whole_length u) (unit_rows limit u declared)) old
 declared_false limit u (Err e) old = (refusal_status e, old)
 
 abbrev pub read_false : ℕ → Result UnitView Error → View → ℕ → ℕ × ℕ

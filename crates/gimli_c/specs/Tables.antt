@@ -107,8 +107,8 @@ abbrev pub have_room : ℕ → ℕ → GimliCounted → Bool
 have_room room space n = nat_le n.declarations room && nat_le n.specifications space
 
 -- the status, and how many are counted, where declarations are read and there is so much room
-abbrev pub table_told : ℕ → ℕ → Items Declaration → ℕ × GimliCounted
-table_told room space ds = if in_order 1 ds.items then elim ds.ending [
+abbrev pub table_outcome : ℕ → ℕ → Items Declaration → ℕ × GimliCounted
+table_outcome room space ds = if in_order 1 ds.items then elim ds.ending [
   | Ok w ↦ (if have_room room space (count_of ds.items) then end else more, count_of ds.items)
   | Err e ↦ (refusal_status e, count_of [])
 ] else (unordered, count_of [])
@@ -128,7 +128,7 @@ pub record AreWritten (ds : List Declaration) (old : List GimliDeclaration)
 pub record IsTable (ds : Items Declaration) (old : List GimliDeclaration)
     (old_s : List GimliSpecification) (new : List GimliDeclaration)
     (new_s : List GimliSpecification) (n : GimliCounted) (status : ℕ) : Type 0 where
-  pub told : (status, n) ≡ table_told (length old) (length old_s) ds
+  pub outcome : (status, n) ≡ table_outcome (length old) (length old_s) ds
   pub written : status ≡ end → AreWritten ds.items old old_s new new_s
   pub kept : (status ≡ end → ⊥) → (new ≡ old) × (new_s ≡ old_s)
 

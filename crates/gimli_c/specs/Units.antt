@@ -71,13 +71,13 @@ unit_numbers u = record {
 }
 
 -- the status, and the unit that the caller has then
-abbrev pub told_unit : Result UnitView Error → GimliUnit → ℕ × GimliUnit
-told_unit (Ok u) old = (more, unit_numbers u)
-told_unit (Err e) old = (refusal_status e, old)
+abbrev pub unit_in_c : Result UnitView Error → GimliUnit → ℕ × GimliUnit
+unit_in_c (Ok u) old = (more, unit_numbers u)
+unit_in_c (Err e) old = (refusal_status e, old)
 
-abbrev pub unit_told : View → ℕ → Result UnitView Error → GimliUnit → ℕ × GimliUnit
-unit_told section offset read old =
-    if offset == length section.bytes then (end, old) else told_unit read old
+abbrev pub unit_outcome : View → ℕ → Result UnitView Error → GimliUnit → ℕ × GimliUnit
+unit_outcome section offset read old =
+    if offset == length section.bytes then (end, old) else unit_in_c read old
 
 -- the unit at an offset of a caller's units
 abbrev pub section_unit : GimliSections → ℕ → Result UnitView Error

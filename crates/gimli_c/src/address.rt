@@ -2,7 +2,7 @@
 
 ghost use Rattle.std.specs.Prelude.{◌≡◌};
 ghost use Rattle.gimli_walk.specs.UnitOfAddress.{unit_holding};
-ghost use Rattle.gimli_c.specs.Addresses.{holding_told};
+ghost use Rattle.gimli_c.specs.Addresses.{holding_outcome};
 
 use crate::status::{END, MORE, refusal_status};
 use gimli_base::{Reader, ReaderOffset, Section};
@@ -13,7 +13,7 @@ use gimli_walk::unit_of_address;
 pub(crate) fn find_unit<R: Reader>(aranges: &DebugAranges<R>, address: u64, offset: &mut u64) -> u32
     ensures { let section = ⟦<DebugAranges<R> as Section<R>>⟧.content aranges.now in
         (result, offset.new)
-        ≡ holding_told (unit_holding R.Offset.limit address section) offset.old }
+        ≡ holding_outcome (unit_holding R.Offset.limit address section) offset.old }
 {
     match unit_of_address(aranges, address) {
         Ok(Some(unit)) => {

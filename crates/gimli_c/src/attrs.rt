@@ -8,7 +8,7 @@ ghost use Rattle.gimli_units.specs.Entry.{with_value};
 ghost use Rattle.gimli_c.specs.Attrs.{numbers, place_numbers, values_of, attr_of};
 
 use gimli_base::{AttributeSpecification, Reader, ReaderOffset};
-use gimli_units::{AttributeValue, TakeAttribute};
+use gimli_units::{AttributeSink, AttributeValue};
 use std::alloc::Allocator;
 
 /// An attribute of an entry.
@@ -137,7 +137,7 @@ fn values_of<R: Reader>(value: &AttributeValue<R>) -> ValueNumbers
 pub(crate) struct Numbers<A: Allocator>(pub(crate) Vec<GimliAttr, A>);
 
 // A list that has room: it stands for what it holds, and for how many they are and may be.
-impl<R: Reader, A: Allocator> TakeAttribute<R> for Numbers<A> {
+impl<R: Reader, A: Allocator> AttributeSink<R> for Numbers<A> {
     ghost use Rattle.gimli_c.specs.declared.attrs.GimliAttr.{GimliAttr};
 
     type Answer = ();

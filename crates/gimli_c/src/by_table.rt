@@ -18,7 +18,7 @@ ghost use Rattle.gimli_c.specs.Attrs.{attr_of};
 ghost use Rattle.gimli_c.specs.Heads.{IsOpened, AsksMemory, GoesOn};
 ghost use Rattle.gimli_c.specs.Tables.{specification_in, declaration_in, declared_in, table_in};
 ghost use Rattle.gimli_c.specs.Tables.{HasSteps};
-ghost use Rattle.gimli_c.specs.TableReads.{told_head, depth_behind_head, PlaceBy};
+ghost use Rattle.gimli_c.specs.TableReads.{table_head, depth_after_head, PlaceBy};
 ghost use Rattle.gimli_c.specs.TableReads.{IsHeadRead, IsHeadReadWith};
 
 use crate::attrs::Numbers;
@@ -83,14 +83,14 @@ pub(crate) fn entries_by<'t, R: Reader>(
 }
 
 impl<'t, R: Reader> EntriesBy<'t, R> {
-    // Goes behind an entry of which a row tells this.
+    // Goes past an entry of which a row tells this.
     #[inline(always)]
-    fn go_behind(&mut self, rest: R, head: Head)
+    fn go_past(&mut self, rest: R, head: Head)
         requires { length (R.view rest).bytes < length self.old.place.rest.bytes }
         ensures { let p = self.old.place in
             self.new
             ≡ record self.old {
-              place = record p { rest = R.view rest; depth = depth_behind_head head p.depth };
+              place = record p { rest = R.view rest; depth = depth_after_head head p.depth };
             } }
     {
         self.input = rest;
@@ -125,23 +125,27 @@ impl<'t, R: Reader> ReadEntries<R> for EntriesBy<'t, R> {
     #[inline(always)]
     fn pass(&mut self) -> Result<Head> {
         let mut rest = self.input.copy();
-        let head = pass_entry(&mut rest, self.encoding, self.table)?;
-        self.go_behind(rest, head);
+        let head = pass_entry_by(&mut rest, self.encoding, self.table)?;
+        self.go_past(rest, head);
         Ok(head)
     }
 
     #[inline(always)]
     fn read<A: Allocator>(&mut self, numbers: &mut Numbers<A>) -> Result<Head> {
         let mut rest = self.input.copy();
-        let head = read_numbers(&mut rest, self.encoding, self.table, numbers)?;
-        self.go_behind(rest, head);
+        let head = read_numbers_by(&mut rest, self.encoding, self.table, numbers)?;
+        self.go_past(rest, head);
         Ok(head)
     }
 }
 
 // Passes the next entry, and keeps its head; where it is refused, the input is left anywhere.
 #[inline(always)]
-fn pass_entry<R: Reader>(input: &mut R, encoding: Encoding, table: GimliTable<'_>) -> Result<Head>
+fn pass_entry_by<R: Reader>(
+    input: &mut R,
+    encoding: Encoding,
+    table: GimliTable<'_>,
+) -> Result<Head>
     ensures past { let declared = codes_of (table_in table.entry) in
         HasSteps table.entry.specifications.now →
         IfOk result (λ head. IsHeadRead R.Offset.limit encoding declared (R.view input.old) head
@@ -157,7 +161,7 @@ fn pass_entry<R: Reader>(input: &mut R, encoding: Encoding, table: GimliTable<'_
     let Some(declared) = next_declared(input, table)? else {
         return Ok(Head::null());
     };
-    pass_steps(
+    pass_steps_by(
         input,
         encoding,
         declared.attributes_in(table.specifications),
@@ -169,7 +173,7 @@ fn pass_entry<R: Reader>(input: &mut R, encoding: Encoding, table: GimliTable<'_
 // theirs; where one is refused, the input is left anywhere. From a step on whose bytes are not
 // there, or which reading may refuse, values are passed one by one.
 #[inline(always)]
-fn pass_steps<R: Reader>(
+fn pass_steps_by<R: Reader>(
     input: &mut R,
     encoding: Encoding,
     specifications: &[GimliSpecification],
@@ -187,12 +191,12 @@ fn pass_steps<R: Reader>(
         let step = first.step;
         let count = count_of(step);
         if left.len() < count || !Attribute::pass_step(input, encoding, &step) {
-            return pass_values(input, encoding, left);
+            return pass_values_by(input, encoding, left);
         }
         let Some((value, others)) = left[count..].split_first() else {
             return Ok(());
         };
-        pass_value(input, encoding, value)?;
+        pass_value_by(input, encoding, value)?;
         left = others;
     }
     Ok(())
@@ -209,18 +213,22 @@ fn count_of(step: Step) -> usize
 // Passes the value of an attribute as it is read; where it is refused, the input stays. (As a
 // function of its own, so that its places are cleared where there is such a value.)
 #[inline(always)]
-fn pass_value<R: Reader>(input: &mut R, encoding: Encoding, told: &GimliSpecification) -> Result<()>
+fn pass_value_by<R: Reader>(
+    input: &mut R,
+    encoding: Encoding,
+    attribute: &GimliSpecification,
+) -> Result<()>
     ensures { read_of result (R.view input.new)
         ≡ left_by
-        (attribute_at R.Offset.limit encoding (specification_in told.now) (R.view input.old)) }
+        (attribute_at R.Offset.limit encoding (specification_in attribute.now) (R.view input.old)) }
 {
-    Attribute::pass(input, encoding, &told.specification())
+    Attribute::pass(input, encoding, &attribute.specification())
 }
 
 // Reads the next entry, and keeps its head, and its attributes in place of those in `numbers`;
 // where it is refused, the input and the list are left anywhere.
 #[inline(always)]
-fn read_numbers<R: Reader, A: Allocator>(
+fn read_numbers_by<R: Reader, A: Allocator>(
     input: &mut R,
     encoding: Encoding,
     table: GimliTable<'_>,
@@ -245,17 +253,18 @@ fn read_numbers<R: Reader, A: Allocator>(
     };
     let specifications = declared.attributes_in(table.specifications);
     if declared.tag == 0 {
-        pass_values(input, encoding, specifications)?;
+        pass_values_by(input, encoding, specifications)?;
         return Ok(Head::null());
     }
-    push_values(input, encoding, specifications, numbers)?;
+    push_values_by(input, encoding, specifications, numbers)?;
     Ok(head_by(declared))
 }
 
 // What a row tells of an entry of this declaration; one of the tag 0 is a null.
 #[inline(always)]
 fn head_by(declared: &GimliDeclaration) -> Head
-    ensures { (ss : List GimliSpecification) → result ≡ told_head (declaration_in ss declared.now) }
+    ensures { (ss : List GimliSpecification)
+        → result ≡ table_head (declaration_in ss declared.now) }
 {
     if declared.tag == 0 {
         return Head::null();
@@ -275,8 +284,8 @@ fn next_declared<'t, R: Reader>(
     table: GimliTable<'t>,
 ) -> Result<Option<&'t GimliDeclaration>>
     ensures { let ss = table.entry.specifications.now in
-        let told = option_map (λ d. declaration_in ss d.now) in
-        read_of (answer_of told result) (R.view input.new)
+        let shown = option_map (λ d. declaration_in ss d.now) in
+        read_of (answer_of shown result) (R.view input.new)
         ≡ abbreviation_at (codes_of (table_in table.entry)) (R.view input.old) }
 {
     let code = input.read_uleb128()?;
@@ -293,7 +302,7 @@ fn next_declared<'t, R: Reader>(
 // refusals; where one is refused, the input stays. It is a call that gets a reader of its own, so
 // that the caller's stays in registers.
 #[inline(always)]
-fn pass_values<R: Reader>(
+fn pass_values_by<R: Reader>(
     input: &mut R,
     encoding: Encoding,
     specifications: &[GimliSpecification],
@@ -303,14 +312,14 @@ fn pass_values<R: Reader>(
         ≡ left_by (attributes_at R.Offset.limit encoding declared (R.view input.old)) }
 {
     let mut rest = input.copy();
-    pass_each(&mut rest, encoding, specifications)?;
+    pass_each_by(&mut rest, encoding, specifications)?;
     *input = rest;
     Ok(())
 }
 
 // The same; where one is refused, the input is left anywhere.
 #[inline(never)]
-fn pass_each<R: Reader>(
+fn pass_each_by<R: Reader>(
     input: &mut R,
     encoding: Encoding,
     specifications: &[GimliSpecification],
@@ -320,8 +329,8 @@ fn pass_each<R: Reader>(
         ≡ left_by (attributes_at R.Offset.limit encoding declared (R.view input.old)) }
 {
     let mut rest = input.copy();
-    'each: for told in specifications {
-        pass_value(&mut rest, encoding, told)?;
+    'each: for attribute in specifications {
+        pass_value_by(&mut rest, encoding, attribute)?;
     }
     *input = rest;
     Ok(())
@@ -330,7 +339,7 @@ fn pass_each<R: Reader>(
 // Reads the attributes of these specifications into an empty list; where one is refused, the input
 // and the list are left anywhere.
 #[inline(always)]
-fn push_values<R: Reader, A: Allocator>(
+fn push_values_by<R: Reader, A: Allocator>(
     input: &mut R,
     encoding: Encoding,
     specifications: &[GimliSpecification],
@@ -346,8 +355,8 @@ fn push_values<R: Reader, A: Allocator>(
 {
     numbers.0.reserve(specifications.len())?;
     let mut rest = input.copy();
-    'each: for told in specifications {
-        Attribute::read_to(&mut rest, encoding, &told.specification(), numbers)?;
+    'each: for attribute in specifications {
+        Attribute::read_to(&mut rest, encoding, &attribute.specification(), numbers)?;
     }
     *input = rest;
     Ok(())

@@ -9,7 +9,7 @@ ghost use Rattle.gimli_c.specs.Heads.{IsOpened};
 ghost use Rattle.gimli_c.specs.Status.{memory_refused, row_memory_refused};
 ghost use Rattle.gimli_c.specs.Tables.{table_in, read_by, NoTableRefused};
 ghost use Rattle.gimli_c.specs.Fronts.{at, ahead_of, unit_ahead, rows_ahead, Resumes};
-ghost use Rattle.gimli_c.specs.Entries.{wrote, FilledEntries, AreTold};
+ghost use Rattle.gimli_c.specs.Entries.{wrote, FilledEntries, IsEntriesOutcome};
 ghost use Rattle.gimli_c.specs.Memory.{TableMemory, DeclaredTakesMemory, RowTakesMemory};
 ghost use Rattle.gimli_c.specs.Memory.{RowTakesMemoryBy, TakesMemoryAhead};
 
@@ -57,7 +57,7 @@ pub struct GimliFilled {
 
 /// What a call answers.
 #[derive(Clone, Copy)]
-pub(crate) struct ToldEntries {
+pub(crate) struct EntriesOutcome {
     pub(crate) status: u32,
     pub(crate) filled: GimliFilled,
     pub(crate) place: GimliPlace,
@@ -72,12 +72,12 @@ pub(crate) fn read_entries<R: Reader, A: Allocator + Copy>(
     depth: isize,
     rows: &mut [GimliEntry],
     attrs: &mut [GimliAttr],
-) -> ToldEntries
-    ensures told { let place = at (R.Offset.number offset) depth in
+) -> EntriesOutcome
+    ensures outcome { let place = at (R.Offset.number offset) depth in
         let declarations = ⟦<DebugAbbrev<R> as Section<R>>⟧.content sections.now.abbreviations in
         let ahead = rows_ahead R.Offset.limit (section_id sections.now.types)
         (R.view sections.now.units) declarations (R.Offset.number unit) in
-        AreTold (ahead place) place rows.old attrs.old result.place rows.new attrs.new
+        IsEntriesOutcome (ahead place) place rows.old attrs.old result.place rows.new attrs.new
         result.filled result.status }
     ensures resumes { let place = at (R.Offset.number offset) depth in
         let declarations = ⟦<DebugAbbrev<R> as Section<R>>⟧.content sections.now.abbreviations in
@@ -116,12 +116,12 @@ pub(crate) fn read_entries_by<R: Reader, A: Allocator>(
     depth: isize,
     rows: &mut [GimliEntry],
     attrs: &mut [GimliAttr],
-) -> ToldEntries
-    ensures told { let place = at (R.Offset.number offset) depth in
+) -> EntriesOutcome
+    ensures outcome { let place = at (R.Offset.number offset) depth in
         let u = header_at R.Offset.limit (section_id sections.now.types) (R.Offset.number unit)
         (R.view sections.now.units) in
         let ahead = read_by R.Offset.limit u (table_in table.entry) in
-        AreTold (ahead place) place rows.old attrs.old result.place rows.new attrs.new
+        IsEntriesOutcome (ahead place) place rows.old attrs.old result.place rows.new attrs.new
         result.filled result.status }
     ensures resumes { let place = at (R.Offset.number offset) depth in
         let u = header_at R.Offset.limit (section_id sections.now.types) (R.Offset.number unit)
@@ -146,7 +146,7 @@ pub(crate) fn read_entries_by<R: Reader, A: Allocator>(
 }
 
 // No row.
-fn no_entries<O: ReaderOffset>(offset: O, depth: isize, status: u32) -> ToldEntries
+fn no_entries<O: ReaderOffset>(offset: O, depth: isize, status: u32) -> EntriesOutcome
     ensures { let place = at (O.number offset) depth in
         result ≡ record { status = status; filled = wrote 0 0 0; place = place } }
 {
@@ -154,7 +154,7 @@ fn no_entries<O: ReaderOffset>(offset: O, depth: isize, status: u32) -> ToldEntr
         offset: offset.into_u64(),
         depth,
     };
-    told_entries(status, wrote(0, 0, 0), place)
+    outcome_entries(status, wrote(0, 0, 0), place)
 }
 
 // Fills rows and attributes of a unit by a reader of its entries that was opened at an offset.
@@ -166,13 +166,13 @@ fn unit_entries<R: Reader, T: ReadEntries<R> + Drop, A: Allocator>(
     depth: isize,
     rows: &mut [GimliEntry],
     attrs: &mut [GimliAttr],
-) -> ToldEntries
+) -> EntriesOutcome
     requires { (t : Table)
         × IsOpened T.place (unit_view unit.now) t (R.Offset.number offset) opened }
-    ensures told { let u = unit_view unit.now in let number = R.Offset.number offset in
+    ensures outcome { let u = unit_view unit.now in let number = R.Offset.number offset in
         let place = at number depth in
         (t : Table) → IsOpened T.place u t number opened
-        → AreTold (unit_ahead R.Offset.limit u (codes_of t) place) place rows.old attrs.old
+        → IsEntriesOutcome (unit_ahead R.Offset.limit u (codes_of t) place) place rows.old attrs.old
         result.place rows.new attrs.new result.filled result.status }
     ensures memory { result.status ≡ memory_refused → ⊥ }
     ensures row_memory { let u = unit_view unit.now in
@@ -204,10 +204,10 @@ fn fill_entries<R: Reader, T: ReadEntries<R>, A: Allocator>(
     base: isize,
     rows: &mut [GimliEntry],
     attrs: &mut [GimliAttr],
-) -> ToldEntries
+) -> EntriesOutcome
     requires { let p = T.place entries.old in
         unsigned_abs base + unsigned_abs p.depth + length p.rest.bytes < 2 ^ 63 }
-    ensures told { let ahead = ahead_of R.Offset.limit base (T.place entries.old) in
+    ensures outcome { let ahead = ahead_of R.Offset.limit base (T.place entries.old) in
         FilledEntries ahead rows.old attrs.old result.place rows.new attrs.new
         result.filled result.status }
     ensures memory { result.status ≡ memory_refused → ⊥ }
@@ -222,12 +222,12 @@ fn fill_entries<R: Reader, T: ReadEntries<R>, A: Allocator>(
         let place = place_of(entries, base);
         let head = match entries.read(&mut numbers) {
             Ok(head) => head,
-            Err(error) => return told_entries(row_refused(error), wrote(count, used, 0), place),
+            Err(error) => return outcome_entries(row_refused(error), wrote(count, used, 0), place),
         };
         let numbers_read = numbers.0.as_slice();
         let attributes = numbers_read.len();
         if attributes > attrs.len() - used {
-            return told_entries(MORE, wrote(count, used, attributes), place);
+            return outcome_entries(MORE, wrote(count, used, attributes), place);
         }
         write_attrs(numbers_read, attrs, used);
         rows[count] = GimliEntry {
@@ -242,7 +242,7 @@ fn fill_entries<R: Reader, T: ReadEntries<R>, A: Allocator>(
         used += attributes;
     }
     let status = if entries.is_empty() { END } else { MORE };
-    told_entries(status, wrote(count, used, 0), place_of(entries, base))
+    outcome_entries(status, wrote(count, used, 0), place_of(entries, base))
 }
 
 // How much was written.
@@ -259,10 +259,10 @@ fn wrote(rows: usize, attributes: usize, wanted: usize) -> GimliFilled
 
 // The answer of a call.
 #[inline(always)]
-fn told_entries(status: u32, filled: GimliFilled, place: GimliPlace) -> ToldEntries
+fn outcome_entries(status: u32, filled: GimliFilled, place: GimliPlace) -> EntriesOutcome
     ensures { result ≡ record { status = status; filled = filled; place = place } }
 {
-    ToldEntries {
+    EntriesOutcome {
         status,
         filled,
         place,

@@ -20,7 +20,7 @@ pub(crate) fn find_false<R: Reader, A: Allocator + Copy>(
     unit: R::Offset,
     offset: &mut u64,
 ) -> u32
-    ensures told { let id = section_id sections.now.types in
+    ensures outcome { let id = section_id sections.now.types in
         let read = header_at R.Offset.limit id (R.Offset.number unit) (R.view sections.now.units) in
         let declarations = ⟦<DebugAbbrev<R> as Section<R>>⟧.content sections.now.abbreviations in
         (result ≡ memory_refused → ⊥) →

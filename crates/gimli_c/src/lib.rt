@@ -7,11 +7,11 @@
 
 ghost use Rattle.std.specs.Prelude.{◌≡◌, ◌<◌, ◌^◌, ℕ, take, length};
 ghost use Rattle.gimli_base.specs.Table.{codes_of};
-ghost use Rattle.gimli_c.specs.Units.{units_view, abbreviations_view, unit_told, section_unit};
+ghost use Rattle.gimli_c.specs.Units.{units_view, abbreviations_view, unit_outcome, section_unit};
 ghost use Rattle.gimli_c.specs.Tables.{table_in, table_of, rows_by, IsTableAt, HasTableAt, Serves};
 ghost use Rattle.gimli_c.specs.Tables.{HasSteps, NoTableRefused};
-ghost use Rattle.gimli_c.specs.Fronts.{section_rows, ToldRows, ToldRowsIf, Resumes, WritesFirst};
-ghost use Rattle.gimli_c.specs.Entries.{AreTold};
+ghost use Rattle.gimli_c.specs.Fronts.{section_rows, IsRowsOutcome, IsRowsOutcomeIf, Resumes, WritesFirst};
+ghost use Rattle.gimli_c.specs.Entries.{IsEntriesOutcome};
 ghost use Rattle.gimli_c.specs.Status.{more, end, memory_refused, row_memory_refused};
 ghost use Rattle.gimli_c.specs.Status.{UnlessRefused};
 ghost use Rattle.gimli_c.specs.Memory.{TableMemory, RowTakesMemory, RowTakesMemoryBy, RowsTakeMemory};
@@ -19,7 +19,7 @@ ghost use Rattle.gimli_c.specs.Memory.{CheckMemory};
 ghost use Rattle.gimli_c.specs.Siblings.{section_sibling, section_false, IsRowOf, UnitIsHonest};
 ghost use Rattle.gimli_c.specs.Addresses.{section_holding};
 ghost use Rattle.gimli_c.specs.Lists.{section_is_big, range_row, location_row, ranges_at, locations_at};
-ghost use Rattle.gimli_c.specs.Lists.{IsToldList};
+ghost use Rattle.gimli_c.specs.Lists.{IsListOutcome};
 
 mod address;
 mod attrs;
@@ -53,7 +53,7 @@ pub use unit::GimliUnit;
 pub extern "C" fn gimli_unit(sections: &GimliSections<'_>, offset: u64, unit: &mut GimliUnit) -> u32
     ensures { let s = sections.now in
         (result, unit.new)
-        ≡ unit_told (units_view s) offset (section_unit s offset) unit.old }
+        ≡ unit_outcome (units_view s) offset (section_unit s offset) unit.old }
 {
     let offset = offset as usize;
     if sections.big == 0 {
@@ -81,8 +81,8 @@ pub extern "C" fn gimli_rows(
     rows: &mut [GimliRow],
     count: &mut usize,
 ) -> u32
-    ensures told { let ahead = section_rows sections.now unit place.old in
-        ToldRows ahead place.old rows.old place.new rows.new count.new result }
+    ensures outcome { let ahead = section_rows sections.now unit place.old in
+        IsRowsOutcome ahead place.old rows.old place.new rows.new count.new result }
     ensures resumes { let ahead = section_rows sections.now unit place.old in
         Resumes ahead count.new (section_rows sections.now unit place.new) }
     ensures memory { let u = section_unit sections.now unit in
@@ -90,16 +90,16 @@ pub extern "C" fn gimli_rows(
 {
     let unit = unit as usize;
     let offset = place.offset as usize;
-    let told = if sections.big == 0 {
+    let outcome = if sections.big == 0 {
         let opened = unit_sections(sections, LittleEndian);
         rows::read_rows(alloc, &opened, unit, offset, place.depth, rows)
     } else {
         let opened = unit_sections(sections, BigEndian);
         rows::read_rows(alloc, &opened, unit, offset, place.depth, rows)
     };
-    *count = told.count;
-    *place = told.place;
-    told.status
+    *count = outcome.count;
+    *place = outcome.place;
+    outcome.status
 }
 
 /// The same with the attributes of each row in `attrs`; `filled` says how many of each were
@@ -117,8 +117,8 @@ pub extern "C" fn gimli_entries(
     attrs: &mut [GimliAttr],
     filled: &mut GimliFilled,
 ) -> u32
-    ensures told { let ahead = section_rows sections.now unit place.old in
-        AreTold ahead place.old rows.old attrs.old place.new rows.new attrs.new filled.new
+    ensures outcome { let ahead = section_rows sections.now unit place.old in
+        IsEntriesOutcome ahead place.old rows.old attrs.old place.new rows.new attrs.new filled.new
         result }
     ensures resumes { let ahead = section_rows sections.now unit place.old in
         Resumes ahead filled.new.rows (section_rows sections.now unit place.new) }
@@ -130,16 +130,16 @@ pub extern "C" fn gimli_entries(
 {
     let unit = unit as usize;
     let offset = place.offset as usize;
-    let told = if sections.big == 0 {
+    let outcome = if sections.big == 0 {
         let opened = unit_sections(sections, LittleEndian);
         entries::read_entries(alloc, &opened, unit, offset, place.depth, rows, attrs)
     } else {
         let opened = unit_sections(sections, BigEndian);
         entries::read_entries(alloc, &opened, unit, offset, place.depth, rows, attrs)
     };
-    *filled = told.filled;
-    *place = told.place;
-    told.status
+    *filled = outcome.filled;
+    *place = outcome.place;
+    outcome.status
 }
 
 /// Reads the table of abbreviations at an offset of `abbreviations` into the caller's buffers, for
@@ -159,7 +159,7 @@ pub extern "C" fn gimli_table(
     specifications: &mut [GimliSpecification],
     counted: &mut GimliCounted,
 ) -> u32
-    ensures told { IsTableAt offset (abbreviations_view sections.now) declarations.old
+    ensures outcome { IsTableAt offset (abbreviations_view sections.now) declarations.old
         specifications.old declarations.new specifications.new counted.new result }
     ensures serves { let ds = take counted.new.declarations declarations.new in
         let ss = take counted.new.specifications specifications.new in
@@ -172,7 +172,7 @@ pub extern "C" fn gimli_table(
 {
     let offset = offset as usize;
     let abbreviations = sections.abbreviations;
-    let told = if sections.big == 0 {
+    let outcome = if sections.big == 0 {
         table::read_table(
             abbreviations,
             LittleEndian,
@@ -189,8 +189,8 @@ pub extern "C" fn gimli_table(
             specifications,
         )
     };
-    *counted = told.counted;
-    told.status
+    *counted = outcome.counted;
+    outcome.status
 }
 
 /// The same as `gimli_rows` by a table in the caller's buffers: the rows are those that its
@@ -208,8 +208,8 @@ pub extern "C" fn gimli_rows_by(
     rows: &mut [GimliRow],
     count: &mut usize,
 ) -> u32
-    ensures told { let ahead = rows_by sections.now unit (table_in table.now) in
-        ToldRowsIf (HasSteps table.now.specifications.now) (ahead place.old) place.old rows.old
+    ensures outcome { let ahead = rows_by sections.now unit (table_in table.now) in
+        IsRowsOutcomeIf (HasSteps table.now.specifications.now) (ahead place.old) place.old rows.old
         place.new rows.new count.new result }
     ensures resumes { let ahead = rows_by sections.now unit (table_in table.now) in
         HasSteps table.now.specifications.now →
@@ -221,16 +221,16 @@ pub extern "C" fn gimli_rows_by(
 {
     let unit = unit as usize;
     let offset = place.offset as usize;
-    let told = if sections.big == 0 {
+    let outcome = if sections.big == 0 {
         let opened = unit_sections(sections, LittleEndian);
         rows::read_rows_by(&opened, unit, *table, offset, place.depth, rows)
     } else {
         let opened = unit_sections(sections, BigEndian);
         rows::read_rows_by(&opened, unit, *table, offset, place.depth, rows)
     };
-    *count = told.count;
-    *place = told.place;
-    told.status
+    *count = outcome.count;
+    *place = outcome.place;
+    outcome.status
 }
 
 /// The same as `gimli_entries` by a table in the caller's buffers, as `gimli_rows_by`. Memory is
@@ -247,8 +247,8 @@ pub extern "C" fn gimli_entries_by(
     attrs: &mut [GimliAttr],
     filled: &mut GimliFilled,
 ) -> u32
-    ensures told { let ahead = rows_by sections.now unit (table_in table.now) in
-        AreTold (ahead place.old) place.old rows.old attrs.old place.new rows.new attrs.new
+    ensures outcome { let ahead = rows_by sections.now unit (table_in table.now) in
+        IsEntriesOutcome (ahead place.old) place.old rows.old attrs.old place.new rows.new attrs.new
         filled.new result }
     ensures resumes { let ahead = rows_by sections.now unit (table_in table.now) in
         Resumes (ahead place.old) filled.new.rows (ahead place.new) }
@@ -260,16 +260,16 @@ pub extern "C" fn gimli_entries_by(
     let unit = unit as usize;
     let offset = place.offset as usize;
     let depth = place.depth;
-    let told = if sections.big == 0 {
+    let outcome = if sections.big == 0 {
         let opened = unit_sections(sections, LittleEndian);
         entries::read_entries_by(alloc, &opened, unit, *table, offset, depth, rows, attrs)
     } else {
         let opened = unit_sections(sections, BigEndian);
         entries::read_entries_by(alloc, &opened, unit, *table, offset, depth, rows, attrs)
     };
-    *filled = told.filled;
-    *place = told.place;
-    told.status
+    *filled = outcome.filled;
+    *place = outcome.place;
+    outcome.status
 }
 
 /// Finds the next sibling of the row at a place in a unit of `units`: the next entry of its depth,
@@ -280,7 +280,7 @@ pub extern "C" fn gimli_entries_by(
 /// where they are honest, as `gimli_first_false` finds out, the answer is the same.
 ///
 /// Status 0: `row` is the sibling, where references are honest or none is followed; whatever they
-/// are, it stands behind the place. Otherwise `row` is as it was. Status 1: there is none, or a
+/// are, it stands after the place. Otherwise `row` is as it was. Status 1: there is none, or a
 /// null stands at the place. From 512 on: what is read at the place or after it was refused. Any
 /// other: the unit, its abbreviations or the offset was refused. 280 says that memory was refused
 /// for the abbreviations, as at `gimli_rows`, and 536 that it was for the attributes of an entry at
@@ -297,7 +297,7 @@ pub extern "C" fn gimli_sibling(
     ensures plain { follows ≡ 0 →
         UnlessRefused result ((result, row.new)
         ≡ section_sibling sections.now unit place.now.offset place.now.depth row.old) }
-    ensures behind { result ≡ more → place.now.offset < row.new.offset }
+    ensures after { result ≡ more → place.now.offset < row.new.offset }
     ensures followed { UnitIsHonest sections.now unit place.now.offset →
         UnlessRefused result ((result, row.new)
         ≡ section_sibling sections.now unit place.now.offset place.now.depth row.old) }
@@ -335,7 +335,7 @@ pub extern "C" fn gimli_first_false(
     unit: u64,
     offset: &mut u64,
 ) -> u32
-    ensures told { (result ≡ memory_refused → ⊥) →
+    ensures outcome { (result ≡ memory_refused → ⊥) →
         (result, offset.new) ≡ section_false sections.now unit offset.old }
     ensures starts { result ≡ end → (at : ℕ) → IsRowOf sections.now unit at →
         UnitIsHonest sections.now unit at }
@@ -394,16 +394,16 @@ pub extern "C" fn gimli_ranges(
     count: &mut usize,
 ) -> u32
     ensures { let s = sections.now in
-        let told = ranges_at (section_is_big s) s unit.now attribute.now bases.now in
-        IsToldList range_row told into.old into.new count.new result }
+        let outcome = ranges_at (section_is_big s) s unit.now attribute.now bases.now in
+        IsListOutcome range_row outcome into.old into.new count.new result }
 {
-    let told = if sections.big == 0 {
+    let outcome = if sections.big == 0 {
         lists::find_ranges(sections, LittleEndian, unit, attribute, bases, into)
     } else {
         lists::find_ranges(sections, BigEndian, unit, attribute, bases, into)
     };
-    *count = told.count;
-    told.status
+    *count = outcome.count;
+    outcome.status
 }
 
 /// The same of locations, whose expressions are told by where they lie in their section: in
@@ -418,14 +418,14 @@ pub extern "C" fn gimli_locations(
     count: &mut usize,
 ) -> u32
     ensures { let s = sections.now in
-        let told = locations_at (section_is_big s) s unit.now attribute.now bases.now in
-        IsToldList location_row told into.old into.new count.new result }
+        let outcome = locations_at (section_is_big s) s unit.now attribute.now bases.now in
+        IsListOutcome location_row outcome into.old into.new count.new result }
 {
-    let told = if sections.big == 0 {
+    let outcome = if sections.big == 0 {
         lists::find_locations(sections, LittleEndian, unit, attribute, bases, into)
     } else {
         lists::find_locations(sections, BigEndian, unit, attribute, bases, into)
     };
-    *count = told.count;
-    told.status
+    *count = outcome.count;
+    outcome.status
 }

@@ -6,7 +6,7 @@ ghost use Rattle.gimli_base.specs.Reading.{is_size};
 ghost use Rattle.gimli_lists.specs.Locations.{locations_ahead};
 ghost use Rattle.gimli_lists.specs.Ranges.{ranges_ahead};
 ghost use Rattle.gimli_c.specs.Lists.{encoding_in, range_row, location_row, list_status, IsListed};
-ghost use Rattle.gimli_c.specs.Lists.{IsToldList, ranges_at, locations_at};
+ghost use Rattle.gimli_c.specs.Lists.{IsListOutcome, ranges_at, locations_at};
 
 use crate::attrs::GimliAttr;
 use crate::sections::GimliSections;
@@ -100,7 +100,7 @@ fn no_items(status: u32) -> Listed
 }
 
 // The status where there is room for so many, and this is the status after the last.
-fn status_behind(room: usize, count: usize, last: u32) -> u32
+fn status_after(room: usize, count: usize, last: u32) -> u32
     ensures { result ≡ list_status room count last }
 {
     if room < count { MORE } else { last }
@@ -116,8 +116,9 @@ pub(crate) fn find_ranges<E: Endianity>(
     bases: &GimliBases,
     ranges: &mut [GimliRange],
 ) -> Listed
-    ensures { let told = ranges_at (E.big endian) sections.now unit.now attribute.now bases.now in
-        IsToldList range_row told ranges.old ranges.new result.count result.status }
+    ensures { let outcome = ranges_at (E.big endian) sections.now unit.now attribute.now bases.now
+        in
+        IsListOutcome range_row outcome ranges.old ranges.new result.count result.status }
 {
     let encoding = encoding_of(unit);
     if !is_address_size(unit.address_size) {
@@ -168,13 +169,13 @@ fn fill_ranges<R: Reader>(list: &mut RngListIter<R>, ranges: &mut [GimliRange]) 
             Ok(None) => {
                 return Listed {
                     count,
-                    status: status_behind(room, count, END),
+                    status: status_after(room, count, END),
                 };
             }
             Err(error) => {
                 return Listed {
                     count,
-                    status: status_behind(room, count, row_refused(error)),
+                    status: status_after(room, count, row_refused(error)),
                 };
             }
         }
@@ -191,9 +192,9 @@ pub(crate) fn find_locations<E: Endianity>(
     bases: &GimliBases,
     locations: &mut [GimliLocation],
 ) -> Listed
-    ensures { let told = locations_at (E.big endian) sections.now unit.now attribute.now bases.now
+    ensures { let outcome = locations_at (E.big endian) sections.now unit.now attribute.now bases.now
         in
-        IsToldList location_row told locations.old locations.new result.count result.status }
+        IsListOutcome location_row outcome locations.old locations.new result.count result.status }
 {
     let encoding = encoding_of(unit);
     if !is_address_size(unit.address_size) {
@@ -251,13 +252,13 @@ fn fill_locations<R: Reader>(list: &mut LocListIter<R>, locations: &mut [GimliLo
             Ok(None) => {
                 return Listed {
                     count,
-                    status: status_behind(room, count, END),
+                    status: status_after(room, count, END),
                 };
             }
             Err(error) => {
                 return Listed {
                     count,
-                    status: status_behind(room, count, row_refused(error)),
+                    status: status_after(room, count, row_refused(error)),
                 };
             }
         }

@@ -11,7 +11,7 @@ ghost use Rattle.gimli_c.specs.Units.{section_id};
 ghost use Rattle.gimli_c.specs.Heads.{IsOpened};
 ghost use Rattle.gimli_c.specs.Status.{more, memory_refused, row_memory_refused};
 ghost use Rattle.gimli_c.specs.Tables.{table_in, read_by, HasSteps, NoTableRefused};
-ghost use Rattle.gimli_c.specs.Fronts.{at, ahead_of, unit_ahead, rows_ahead, Filled, ToldRows, ToldRowsIf};
+ghost use Rattle.gimli_c.specs.Fronts.{at, ahead_of, unit_ahead, rows_ahead, Filled, IsRowsOutcome, IsRowsOutcomeIf};
 ghost use Rattle.gimli_c.specs.Fronts.{Resumes, WritesFirst};
 ghost use Rattle.gimli_c.specs.Memory.{TableMemory};
 
@@ -50,7 +50,7 @@ pub struct GimliRow {
 
 /// What a call answers.
 #[derive(Clone, Copy)]
-pub(crate) struct Told {
+pub(crate) struct RowsOutcome {
     pub(crate) status: u32,
     pub(crate) count: usize,
     pub(crate) place: GimliPlace,
@@ -64,12 +64,13 @@ pub(crate) fn read_rows<R: Reader, A: Allocator + Copy>(
     offset: R::Offset,
     depth: isize,
     rows: &mut [GimliRow],
-) -> Told
-    ensures told { let place = at (R.Offset.number offset) depth in
+) -> RowsOutcome
+    ensures outcome { let place = at (R.Offset.number offset) depth in
         let declarations = ⟦<DebugAbbrev<R> as Section<R>>⟧.content sections.now.abbreviations in
         let ahead = rows_ahead R.Offset.limit (section_id sections.now.types)
         (R.view sections.now.units) declarations (R.Offset.number unit) in
-        ToldRows (ahead place) place rows.old result.place rows.new result.count result.status }
+        IsRowsOutcome (ahead place) place rows.old result.place rows.new result.count
+        result.status }
     ensures resumes { let place = at (R.Offset.number offset) depth in
         let declarations = ⟦<DebugAbbrev<R> as Section<R>>⟧.content sections.now.abbreviations in
         let ahead = rows_ahead R.Offset.limit (section_id sections.now.types)
@@ -101,12 +102,12 @@ pub(crate) fn read_rows_by<R: Reader>(
     offset: R::Offset,
     depth: isize,
     rows: &mut [GimliRow],
-) -> Told
-    ensures told { let place = at (R.Offset.number offset) depth in
+) -> RowsOutcome
+    ensures outcome { let place = at (R.Offset.number offset) depth in
         let u = header_at R.Offset.limit (section_id sections.now.types) (R.Offset.number unit)
         (R.view sections.now.units) in
         let ahead = read_by R.Offset.limit u (table_in table.entry) in
-        ToldRowsIf (HasSteps table.entry.specifications.now) (ahead place) place rows.old
+        IsRowsOutcomeIf (HasSteps table.entry.specifications.now) (ahead place) place rows.old
         result.place rows.new result.count result.status }
     ensures resumes { let place = at (R.Offset.number offset) depth in
         let u = header_at R.Offset.limit (section_id sections.now.types) (R.Offset.number unit)
@@ -132,10 +133,10 @@ pub(crate) fn read_rows_by<R: Reader>(
 }
 
 // No row.
-fn no_rows<O: ReaderOffset>(offset: O, depth: isize, status: u32) -> Told
+fn no_rows<O: ReaderOffset>(offset: O, depth: isize, status: u32) -> RowsOutcome
     ensures { result ≡ record { status = status; count = 0; place = at (O.number offset) depth } }
 {
-    Told {
+    RowsOutcome {
         status,
         count: 0,
         place: GimliPlace {
@@ -152,13 +153,13 @@ fn unit_rows<R: Reader, T: ReadEntries<R> + Drop>(
     offset: R::Offset,
     depth: isize,
     rows: &mut [GimliRow],
-) -> Told
+) -> RowsOutcome
     requires { (t : Table)
         × IsOpened T.place (unit_view unit.now) t (R.Offset.number offset) opened }
-    ensures told { let u = unit_view unit.now in let number = R.Offset.number offset in
+    ensures outcome { let u = unit_view unit.now in let number = R.Offset.number offset in
         let place = at number depth in
         (t : Table) → IsOpened T.place u t number opened
-        → ToldRowsIf (IfOk opened T.has_steps) (unit_ahead R.Offset.limit u (codes_of t) place)
+        → IsRowsOutcomeIf (IfOk opened T.has_steps) (unit_ahead R.Offset.limit u (codes_of t) place)
         place rows.old result.place rows.new result.count result.status }
     ensures first { WritesFirst rows.old rows.new result.count }
     ensures further { result.status ≡ more → 0 < length rows.old
@@ -188,11 +189,11 @@ fn fill_rows<R: Reader, T: ReadEntries<R>>(
     entries: &mut T,
     base: isize,
     rows: &mut [GimliRow],
-) -> Told
+) -> RowsOutcome
     requires fits { let p = T.place entries.old in
         unsigned_abs base + unsigned_abs p.depth + length p.rest.bytes < 2 ^ 63 }
     requires within { let p = T.place entries.old in length p.rest.bytes ≤ p.end }
-    ensures told { let ahead = ahead_of R.Offset.limit base (T.place entries.old) in
+    ensures outcome { let ahead = ahead_of R.Offset.limit base (T.place entries.old) in
         T.has_steps entries.old →
         Filled ahead rows.old result.place rows.new result.count result.status }
     ensures first { WritesFirst rows.old rows.new result.count }
@@ -215,7 +216,7 @@ fn fill_rows<R: Reader, T: ReadEntries<R>>(
                 count += 1;
             }
             Err(error) => {
-                return Told {
+                return RowsOutcome {
                     status: row_refused(error),
                     count,
                     place,
@@ -224,7 +225,7 @@ fn fill_rows<R: Reader, T: ReadEntries<R>>(
         }
     }
     let status = if entries.is_empty() { END } else { MORE };
-    Told {
+    RowsOutcome {
         status,
         count,
         place: place_of(entries, base),

@@ -2,13 +2,13 @@
 
 ghost use Rattle.std.specs.Prelude.{◌≡◌, ℕ, ◌<◌, ◌≤◌, length, true, false, Some, Ok, IfErr};
 ghost use Rattle.gimli_base.specs.Table.{codes_of};
-ghost use Rattle.gimli_units.specs.CursorMoves.{place_of, Goes, IsHonestFor};
+ghost use Rattle.gimli_units.specs.CursorModel.{place_of, Goes, IsHonestFor};
 ghost use Rattle.gimli_units.specs.CursorPlace.{next_of_depth};
 ghost use Rattle.gimli_units.specs.Entry.{is_null};
 ghost use Rattle.gimli_units.specs.RawPlace.{next_offset_of};
 ghost use Rattle.gimli_units.specs.UnitHeld.{unit_view};
 ghost use Rattle.gimli_units.specs.UnitRows.{IsHonestFrom, start_view};
-ghost use Rattle.gimli_units.specs.CursorMoves.{IsHonestCursor, IsRefused};
+ghost use Rattle.gimli_units.specs.CursorModel.{IsHonestCursor, IsRefused};
 ghost use Rattle.gimli_base.specs.Reading.{UnlessMemory};
 ghost use Rattle.gimli_headers.specs.Units.{header_at};
 ghost use Rattle.gimli_c.specs.Units.{section_id};
@@ -34,7 +34,7 @@ pub(crate) fn find_sibling<R: Reader, A: Allocator + Copy>(
     follows: bool,
     row: &mut GimliRow,
 ) -> u32
-    ensures told { let id = section_id sections.now.types in
+    ensures outcome { let id = section_id sections.now.types in
         let read = header_at R.Offset.limit id (R.Offset.number unit) (R.view sections.now.units) in
         let declarations = ⟦<DebugAbbrev<R> as Section<R>>⟧.content sections.now.abbreviations in
         let number = R.Offset.number offset in
@@ -42,7 +42,7 @@ pub(crate) fn find_sibling<R: Reader, A: Allocator + Copy>(
         UnlessRefused result ((result, row.new)
         ≡ read_sibling R.Offset.limit read declarations number depth row.old) }
     ensures kept { (result ≡ more → ⊥) → row.new ≡ row.old }
-    ensures behind { result ≡ more → R.Offset.number offset < row.new.offset }
+    ensures after { result ≡ more → R.Offset.number offset < row.new.offset }
     ensures memory { let id = section_id sections.now.types in
         let read = header_at R.Offset.limit id (R.Offset.number unit) (R.view sections.now.units) in
         let declarations = ⟦<DebugAbbrev<R> as Section<R>>⟧.content sections.now.abbreviations in
@@ -72,14 +72,14 @@ fn find_in_unit<R: Reader, A: Allocator + Copy>(
     follows: bool,
     row: &mut GimliRow,
 ) -> u32
-    ensures told { let u = unit_view unit.now in
+    ensures outcome { let u = unit_view unit.now in
         let number = R.Offset.number offset in
         (follows ≡ true →
         IsHonestFrom R.Offset.limit u (codes_of table.now) (start_view u (Some number))) →
         UnlessRefused result ((result, row.new)
         ≡ unit_sibling R.Offset.limit u (codes_of table.now) number depth row.old) }
     ensures kept { (result ≡ more → ⊥) → row.new ≡ row.old }
-    ensures behind { result ≡ more → R.Offset.number offset < row.new.offset }
+    ensures after { result ≡ more → R.Offset.number offset < row.new.offset }
     ensures memory { result ≡ memory_refused → ⊥ }
     ensures row_memory { let u = unit_view unit.now in
         result ≡ row_memory_refused
@@ -91,22 +91,22 @@ fn find_in_unit<R: Reader, A: Allocator + Copy>(
         unit.entries_plain_at_offset(alloc, table, UnitOffset(offset))
     };
     match cursor {
-        Ok(mut cursor) => find_behind(&mut cursor, depth, row),
+        Ok(mut cursor) => find_after(&mut cursor, depth, row),
         Err(error) => refusal_status(error),
     }
 }
 
 // Finds it by a cursor that stands before the row.
-fn find_behind<R: Reader, A: Allocator>(
+fn find_after<R: Reader, A: Allocator>(
     cursor: &mut EntriesCursor<'_, R, A>,
     depth: isize,
     row: &mut GimliRow,
 ) -> u32
-    ensures told { (cursor.old.follows ≡ true → IsHonestCursor R.Offset.limit cursor.old) →
+    ensures outcome { (cursor.old.follows ≡ true → IsHonestCursor R.Offset.limit cursor.old) →
         UnlessRefused result ((result, row.new)
         ≡ place_sibling cursor.old.raw.end (place_of R.Offset.limit cursor.old) depth row.old) }
     ensures kept { (result ≡ more → ⊥) → row.new ≡ row.old }
-    ensures behind { result ≡ more → next_offset_of cursor.old.raw < row.new.offset }
+    ensures after { result ≡ more → next_offset_of cursor.old.raw < row.new.offset }
     ensures memory { result ≡ memory_refused → ⊥ }
     ensures row_memory { let p = cursor.old.raw in
         length p.rest.bytes ≤ p.end → result ≡ row_memory_refused
@@ -134,9 +134,9 @@ fn find_behind<R: Reader, A: Allocator>(
     }
 }
 
-// Goes to the next sibling, which stands behind what was read last, whatever the references.
+// Goes to the next sibling, which stands after what was read last, whatever the references.
 fn step<R: Reader, A: Allocator>(cursor: &mut EntriesCursor<'_, R, A>) -> Result<bool>
-    ensures behind { result ≡ Ok true → next_offset_of cursor.old.raw ≤ cursor.new.offset }
+    ensures after { result ≡ Ok true → next_offset_of cursor.old.raw ≤ cursor.new.offset }
     ensures idle { is_null cursor.old.entry ≡ true → result ≡ Ok false }
     ensures none { result ≡ Ok false → is_null cursor.new.entry ≡ true }
     ensures moves { (cursor.old.follows ≡ true →

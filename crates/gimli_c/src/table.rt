@@ -107,23 +107,23 @@ pub(crate) fn part_of(
     ensures { result.now ≡ take count (drop first specifications.now) }
 {
     let first = first.min(specifications.len());
-    let behind = &specifications[first..];
-    let count = count.min(behind.len());
-    &behind[..count]
+    let after = &specifications[first..];
+    let count = count.min(after.len());
+    &after[..count]
 }
 
 /// What a reading of a table tells.
 #[derive(Clone, Copy)]
-pub(crate) struct ToldTable {
+pub(crate) struct TableOutcome {
     pub(crate) status: u32,
     pub(crate) counted: GimliCounted,
 }
 
 // A status where nothing is counted.
-fn none_told(status: u32) -> ToldTable
+fn no_table(status: u32) -> TableOutcome
     ensures { result ≡ record { status = status; counted = count_of [] } }
 {
-    ToldTable {
+    TableOutcome {
         status,
         counted: GimliCounted {
             declarations: 0,
@@ -140,7 +140,7 @@ pub(crate) fn read_table<E: Endianity>(
     offset: usize,
     declarations: &mut [GimliDeclaration],
     specifications: &mut [GimliSpecification],
-) -> ToldTable
+) -> TableOutcome
     ensures { let v = section_view (E.big endian) abbreviations.now in
         IsTableAt offset v declarations.old specifications.old declarations.new
         specifications.new result.counted result.status }
@@ -148,18 +148,18 @@ pub(crate) fn read_table<E: Endianity>(
     let mut input = EndianSlice::new(abbreviations, endian);
     match input.skip(offset) {
         Ok(()) => {}
-        Err(error) => return none_told(refusal_status(error)),
+        Err(error) => return no_table(refusal_status(error)),
     }
-    let told = scan(&mut input.copy(), &mut [], &mut []);
-    if told.status > END {
-        return told;
+    let outcome = scan(&mut input.copy(), &mut [], &mut []);
+    if outcome.status > END {
+        return outcome;
     }
-    if has_room(told.counted, declarations.len(), specifications.len()) {
+    if has_room(outcome.counted, declarations.len(), specifications.len()) {
         return scan(&mut input, declarations, specifications);
     }
-    ToldTable {
+    TableOutcome {
         status: MORE,
-        counted: told.counted,
+        counted: outcome.counted,
     }
 }
 
@@ -177,7 +177,7 @@ fn scan<R: Reader>(
     input: &mut R,
     declarations: &mut [GimliDeclaration],
     specifications: &mut [GimliSpecification],
-) -> ToldTable
+) -> TableOutcome
     requires { length (R.view input.old).bytes < 2 ^ 63 }
     ensures { IsScanned (declarations_at (R.view input.old)) declarations.old specifications.old
         declarations.new specifications.new result.counted result.status }
@@ -188,7 +188,7 @@ fn scan<R: Reader>(
         match read_declaration(input, used, specifications) {
             Ok(Some(declared)) => {
                 if declared.code != count as u64 + 1 {
-                    return none_told(UNORDERED);
+                    return no_table(UNORDERED);
                 }
                 if count < declarations.len() {
                     declarations[count] = declared;
@@ -203,14 +203,14 @@ fn scan<R: Reader>(
                 };
                 let fits = has_room(counted, declarations.len(), specifications.len());
                 let status = if fits { END } else { MORE };
-                return ToldTable { status, counted };
+                return TableOutcome { status, counted };
             }
-            Err(error) => return none_told(refusal_status(error)),
+            Err(error) => return no_table(refusal_status(error)),
         }
     }
 }
 
-// The next declaration, whose attributes are written behind the first `from`, as far as there is
+// The next declaration, whose attributes are written after the first `from`, as far as there is
 // room for them; where it is refused, all is left anywhere.
 #[tactic(auto, unfolding(gimli_base::specs::Abbreviations::declared_at, gimli_base::specs::Abbreviations::tag_at, gimli_base::specs::Abbreviations::children_at))]
 fn read_declaration<R: Reader>(
@@ -246,7 +246,7 @@ fn read_declaration<R: Reader>(
     }))
 }
 
-// The attributes of a declaration up to two zeros, written behind the first `from` as far as there
+// The attributes of a declaration up to two zeros, written after the first `from` as far as there
 // is room for them, and their number; where they are refused, all is left anywhere.
 fn read_specifications<R: Reader>(
     input: &mut R,

@@ -4,7 +4,7 @@ ghost use Rattle.std.specs.Prelude.{◌≡◌};
 ghost use Rattle.gimli_headers.specs.Units.{header_at};
 ghost use Rattle.gimli_units.specs.UnitHeld.{unit_view};
 ghost use Rattle.gimli_units.specs.UnitKind.{map_type};
-ghost use Rattle.gimli_c.specs.Units.{section_id, at_offset, unit_told, unit_numbers, type_numbers};
+ghost use Rattle.gimli_c.specs.Units.{section_id, at_offset, unit_outcome, unit_numbers, type_numbers};
 
 use crate::sections::{UnitSections, header_in};
 use crate::status::{END, MORE, refusal_status};
@@ -55,7 +55,7 @@ pub(crate) fn read_unit<R: Reader>(
         let number = R.Offset.number offset in
         let id = section_id sections.now.types in
         (result, unit.new)
-        ≡ unit_told section number (header_at R.Offset.limit id number section) unit.old }
+        ≡ unit_outcome section number (header_at R.Offset.limit id number section) unit.old }
 {
     if offset.into_u64() == sections.units.len().into_u64() {
         return END;

@@ -8,7 +8,7 @@ use Rattle.gimli_base.specs.Abbreviations.{Map}
 use Rattle.gimli_base.specs.Table.{Table, codes_of}
 use Rattle.gimli_units.specs.RawPlace.{RawPlace}
 use Rattle.gimli_units.specs.Rows.{Row}
-use Rattle.gimli_units.specs.CursorMoves.{rows_of}
+use Rattle.gimli_units.specs.CursorModel.{rows_of}
 use Rattle.gimli_units.specs.Unit.{UnitView, whole_length, entries_of}
 use Rattle.gimli_units.specs.UnitRows.{unit_rows, start_view, IsHonestAt, IsHonestFrom, StandsAt}
 use Rattle.gimli_units.specs.FirstFalse.{first_false}

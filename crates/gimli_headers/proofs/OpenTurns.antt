@@ -141,7 +141,7 @@ module _ (end : ℕ) (opens : List OpenRow) (r : Row) (rest : List Row) where
       let same : int_eq r.depth (x.depth +ℤ pos 1)
       ≡ true = (Decides-int_eq r.depth (x.depth +ℤ pos 1)).1 (sym deep) in
       let this : closes x.depth r ≡ true = rw (null, same) refl in
-      let behind : past_closer x.depth (r ∷ rest) ≡ Some r.next = rw this refl in
+      let after : past_closer x.depth (r ∷ rest) ≡ Some r.next = rw this refl in
       let none : (d : ℤ) → (d +ℤ pos 1) ≤ℤ x.depth → closes d r ≡ false = λ d le.
       let ne : r.depth ≡ (d +ℤ pos 1) → ⊥ = λ e. omega (arith, ints, e, le, deep) in
       rw (null, not_equal r.depth (d +ℤ pos 1) ne) refl in
@@ -150,7 +150,7 @@ module _ (end : ℕ) (opens : List OpenRow) (r : Row) (rest : List Row) where
       ∙ ap
       (λ (p : Option ℕ). first_open opens (r ∷ rest)
       (if misses x.target p then Some x.offset else or_else first (first_false end (r ∷ rest))))
-      behind
+      after
       ∙ ap
       (λ (o : Option ℕ). first_open opens (r ∷ rest)
       (if not (r.next == x.target) then Some x.offset else or_else first o)) others

@@ -19,7 +19,7 @@ use Rattle.gimli_units.proofs.EntryReads.{entry_at-shorter}
 use Rattle.gimli_units.specs.RawPlace.{RawPlace, next_offset_of, below_flag, depth_after}
 use Rattle.gimli_units.specs.Rows.{Row, Ahead}
 use Rattle.gimli_units.proofs.RowSteps.{ahead_ended, ahead_refused, ahead_more}
-use Rattle.gimli_units.specs.CursorMoves.{next_of, rows_of}
+use Rattle.gimli_units.specs.CursorModel.{next_of, rows_of}
 use Rattle.gimli_units.specs.Honest.{usable_target}
 use Rattle.gimli_headers.specs.OpenRows.{OpenRow, Checked, Rise, judgement}
 use Rattle.gimli_headers.proofs.OpenTurns.{rise_in, rise_up, entry_found, entry_passed}
@@ -149,7 +149,7 @@ module _ (limit : ℕ) (p : RawPlace) where
       → q ≡ record p { rest = q.rest; depth = depth_after r.entry p.depth }
       → r.offset ≡ next_offset_of p → r.next ≡ next_offset_of q → r.depth ≡ p.depth
       → (rows_of limit p).rows ≡ r ∷ (rows_of limit q).rows
-  more_rows q r some reads next offset behind depth =
+  more_rows q r some reads next offset after depth =
       let left : RawPlace = record p { rest = q.rest; depth = depth_after r.entry p.depth } in
       let row : record {
         offset = next_offset_of p;
@@ -157,7 +157,7 @@ module _ (limit : ℕ) (p : RawPlace) where
         depth = p.depth;
         entry = r.entry;
       } ≡ r =
-      rw (← offset, ← depth, ← (ap next_offset_of next), ← behind) refl in
+      rw (← offset, ← depth, ← (ap next_offset_of next), ← after) refl in
       ap (λ (a : Ahead). a.rows)
       (ahead_more (next_of limit p) p.end
       (λ v u x. entry_at-shorter limit p.encoding (codes_of p.abbreviations) v u x) p.depth p.rest

@@ -14,7 +14,7 @@ use Rattle.gimli_base.specs.Reading.{address_size_at, initial_length_at, initial
 use Rattle.gimli_base.specs.Reading.{split_at, word_size_of}
 use Rattle.gimli_base.proofs.Later.{split_at-front}
 use Rattle.gimli_base.proofs.Taken.{TakenAfter, TakesAfter, Takes, taken, taken_length}
-use Rattle.gimli_base.proofs.Taken.{TakenAfter-none, TakenAfter-trans, behind_takes, then_takes}
+use Rattle.gimli_base.proofs.Taken.{TakenAfter-none, TakenAfter-trans, after_takes, then_takes}
 use Rattle.gimli_base.proofs.Taken.{made_takes, if_takes, ok_takes, err_takes, byte_at-takes}
 use Rattle.gimli_base.proofs.Taken.{uint_at-takes, offset_at-takes, address_size_at-takes}
 use Rattle.gimli_base.proofs.Taken.{initial_length_at-takes, split_at-takes}
@@ -47,11 +47,11 @@ module _ (limit : ℕ) (format : Format) where
   old_common_at-takes section version v old =
       then_takes 2 (λ _. 2 + word_size_of format) (common_size format) v (offset_at limit format v)
       _
-      (behind_takes 2 (word_size_of format) (2 + word_size_of format) v _ refl
+      (after_takes 2 (word_size_of format) (2 + word_size_of format) v _ refl
       (offset_at-takes limit format v))
       (λ abbreviations. then_takes (2 + word_size_of format) (λ _. 2 + word_size_of format + 1)
       (common_size format) abbreviations.1 (address_size_at abbreviations.1) _
-      (behind_takes (2 + word_size_of format) 1 (2 + word_size_of format + 1) abbreviations.1 _ refl
+      (after_takes (2 + word_size_of format) 1 (2 + word_size_of format + 1) abbreviations.1 _ refl
       (address_size_at-takes abbreviations.1))
       (λ size. ok_takes (2 + word_size_of format + 1) (common_size format) size.1 _
       (TakenAfter-none _ _ size.1 (rw old (omega arith)))))
@@ -60,12 +60,12 @@ module _ (limit : ℕ) (format : Format) where
       → TakesAfter 2 (common_size format) v (new_common_at limit format version v)
   unfolding new_common_at
   new_common_at-takes version v new = then_takes 2 (λ _. 3) (common_size format) v (byte_at v) _
-      (behind_takes 2 1 3 v _ refl (byte_at-takes v))
+      (after_takes 2 1 3 v _ refl (byte_at-takes v))
       (λ code. then_takes 3 (λ _. 4) (common_size format) code.1 (address_size_at code.1) _
-      (behind_takes 3 1 4 code.1 _ refl (address_size_at-takes code.1))
+      (after_takes 3 1 4 code.1 _ refl (address_size_at-takes code.1))
       (λ size. then_takes 4 (λ _. 4 + word_size_of format) (common_size format) size.1
       (offset_at limit format size.1) _
-      (behind_takes 4 (word_size_of format) (4 + word_size_of format) size.1 _ refl
+      (after_takes 4 (word_size_of format) (4 + word_size_of format) size.1 _ refl
       (offset_at-takes limit format size.1))
       (λ abbreviations. ok_takes (4 + word_size_of format) (common_size format) abbreviations.1 _
       (TakenAfter-none _ _ abbreviations.1 (rw new (omega arith))))))
@@ -87,9 +87,9 @@ module _ (limit : ℕ) (format : Format) where
     unfolding signature_at
     signature_at-takes v =
         then_takes n (λ _. n + 8) _ v (uint_at 8 v) _
-        (behind_takes n 8 (n + 8) v _ refl (uint_at-takes 8 v))
+        (after_takes n 8 (n + 8) v _ refl (uint_at-takes 8 v))
         (λ signature. made_takes (n + 8) _ signature.1 _ (offset_at limit format signature.1)
-        (behind_takes (n + 8) (word_size_of format) (n + (8 + word_size_of format)) signature.1 _
+        (after_takes (n + 8) (word_size_of format) (n + (8 + word_size_of format)) signature.1 _
         (omega arith) (offset_at-takes limit format signature.1)))
 
     abbrev pub kind_size : UnitType ℕ → ℕ
@@ -99,7 +99,7 @@ module _ (limit : ℕ) (format : Format) where
         → TakesAfter n kind_size v (map_read f (uint_at 8 v))
     id_takes f v e = made_takes n kind_size v f (uint_at 8 v)
         (λ x w is.
-        let t = behind_takes n 8 (n + 8) v (uint_at 8 v) refl (uint_at-takes 8 v) x w is in
+        let t = after_takes n 8 (n + 8) v (uint_at 8 v) refl (uint_at-takes 8 v) x w is in
         record { count = t.count; sum = t.sum ∙ sym (e x); within = t.within; is = t.is })
 
     pub type_at-takes : (code : ℕ) (v : View)
@@ -178,7 +178,7 @@ unit_at-read limit section offset v u w h =
         ≡ (r >>= λ own. unit_in section offset field.0 (fields_at limit section field.0.1 own.0)
         own.1) → UnitRead section offset v u w
     cut_off field (Ok own) whole t takes e =
-        let all = behind_takes (initial_length_size_of field.0.1) field.0.0
+        let all = after_takes (initial_length_size_of field.0.1) field.0.0
         (initial_length_size_of field.0.1 + field.0.0) field.1 (Ok own) refl takes own.0 own.1
         refl in
         built field.0 own.0 own.1 (fields_at limit section field.0.1 own.0) (whole own.0 own.1 refl)

@@ -182,8 +182,8 @@ module _ (limit : ℕ) (section : SectionId) where
     header_at-here o le = let t : nat_le o (length v.bytes) ≡ true = le-leb o (length v.bytes) le in
         rw t refl
 
-    behind-here : (o : ℕ) (u : UnitView) → after_unit u (place_at o) ≡ place_at (o + whole_length u)
-    behind-here o u = ap (λ w. record { rest = w; offset = o + whole_length u })
+    after-here : (o : ℕ) (u : UnitView) → after_unit u (place_at o) ≡ place_at (o + whole_length u)
+    after-here o u = ap (λ w. record { rest = w; offset = o + whole_length u })
         (cut-cut o (whole_length u) v)
 
     -- the units from an offset on tile what is left from there on, and each is the header at its
@@ -235,7 +235,7 @@ module _ (limit : ℕ) (section : SectionId) where
             ≡ Ok u = ap (λ k. header_at limit section k v) known.offset_is
             ∙ header_at-here o le ∙ ap without_rest (sym is) in
             let more = ahead_more (place_at o) u q.1 some is
-            ∙ ap (λ p. then_item u (units_ahead limit section p)) (behind-here o u) in
+            ∙ ap (λ p. then_item u (units_ahead limit section p)) (after-here o u) in
             subst (Lie o) (sym more) (
               (others.0.0, (known.offset_is, others.0.1), others.0.2),
               All-cons (IsHeaderAt limit section v) u _ here others.1,

@@ -34,10 +34,10 @@ check_held g c =
     record { opens = map (open_of g) c.open.items; first = option_map (λ o. g o.0) c.first }
 
 -- a row, of which this was read, with the offset of what is after it
-pub record IsPassedRow {O : Type 0} (g : O → ℕ) (x : Passed O) (behind : ℕ) (r : Row) : Type 0 where
+pub record IsPassedRow {O : Type 0} (g : O → ℕ) (x : Passed O) (after : ℕ) (r : Row) : Type 0 where
   pub null : is_null r.entry ≡ x.is_null
   pub offset : r.offset ≡ g x.offset.0
-  pub next : r.next ≡ behind
+  pub next : r.next ≡ after
   pub depth : r.depth ≡ x.depth
   pub leads : target (kind_of r.entry) ≡ option_map (λ o. g o.0) x.sibling
 

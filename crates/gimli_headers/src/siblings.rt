@@ -9,7 +9,7 @@ ghost use Rattle.gimli_units.specs.Entry.{is_null};
 ghost use Rattle.gimli_units.specs.RawPlace.{depth_after};
 ghost use Rattle.gimli_units.specs.Rows.{Row};
 ghost use Rattle.gimli_units.specs.Honest.{within, usable_target};
-ghost use Rattle.gimli_units.specs.CursorMoves.{rows_of};
+ghost use Rattle.gimli_units.specs.CursorModel.{rows_of};
 ghost use Rattle.gimli_units.specs.Unit.{whole_length};
 ghost use Rattle.gimli_units.specs.UnitHeld.{unit_view};
 ghost use Rattle.gimli_units.specs.UnitRows.{unit_rows, start_view, IsHonestAt, IsHonestFrom};
@@ -54,16 +54,16 @@ struct Passed<Offset> {
 // the end.
 fn usable_target<Offset: ReaderOffset>(
     sibling: Option<UnitOffset<Offset>>,
-    behind: UnitOffset<Offset>,
+    after: UnitOffset<Offset>,
     end: UnitOffset<Offset>,
 ) -> Option<UnitOffset<Offset>>
     ensures { let number = Offset.number in
         let leads = option_map (λ o. number o.0) sibling in
-        option_map (λ o. number o.0) result ≡ within (number behind.0) (number end.0) leads }
+        option_map (λ o. number o.0) result ≡ within (number after.0) (number end.0) leads }
 {
     let target = sibling?;
     let number = target.0.into_u64();
-    if behind.0.into_u64() <= number && number <= end.0.into_u64() {
+    if after.0.into_u64() <= number && number <= end.0.into_u64() {
         Some(target)
     } else {
         None
@@ -82,10 +82,10 @@ impl<Offset: ReaderOffset, A: Allocator> Check<Offset, A> {
     }
 
     // Goes after a null of this depth, which may close the innermost open entry.
-    fn close(&mut self, depth: isize, behind: UnitOffset<Offset>)
+    fn close(&mut self, depth: isize, after: UnitOffset<Offset>)
         requires { Rise depth (check_held Offset.number self.old).opens }
         ensures judged { (end : ℕ) (r : Row) (rest : List Row) → is_null r.entry ≡ true →
-            r.depth ≡ depth → r.next ≡ Offset.number behind.0 →
+            r.depth ≡ depth → r.next ≡ Offset.number after.0 →
             judgement end (check_held Offset.number self.new) rest
             ≡ judgement end (check_held Offset.number self.old) (r ∷ rest) }
         ensures rise { Rise (depth -ℤ pos 1) (check_held Offset.number self.new).opens }
@@ -96,7 +96,7 @@ impl<Offset: ReaderOffset, A: Allocator> Check<Offset, A> {
         if entry.depth + 1 != depth {
             return;
         }
-        let well = entry.target.0.into_u64() == behind.0.into_u64();
+        let well = entry.target.0.into_u64() == after.0.into_u64();
         let offset = entry.offset;
         self.open.pop();
         if well {
@@ -144,33 +144,33 @@ impl<Offset: ReaderOffset, A: Allocator> Check<Offset, A> {
 
 // Goes after an entry or a null, with the offsets of what is after it and of the end. Refusal:
 // `OutOfMemory`.
-fn go_behind<Offset: ReaderOffset, A: Allocator>(
+fn go_past<Offset: ReaderOffset, A: Allocator>(
     check: &mut Check<Offset, A>,
     passed: &Passed<Offset>,
-    behind: UnitOffset<Offset>,
+    after: UnitOffset<Offset>,
     end: UnitOffset<Offset>,
 ) -> Result<()>
     requires { Rise passed.now.depth (check_held Offset.number check.old).opens }
     ensures judged { OnOk result ((r : Row) (rest : List Row) →
-        IsPassedRow Offset.number passed.now (Offset.number behind.0) r →
+        IsPassedRow Offset.number passed.now (Offset.number after.0) r →
         judgement (Offset.number end.0) (check_held Offset.number check.new) rest
         ≡ judgement (Offset.number end.0) (check_held Offset.number check.old) (r ∷ rest)) }
     ensures rise { OnOk result ((r : Row) →
-        IsPassedRow Offset.number passed.now (Offset.number behind.0) r →
+        IsPassedRow Offset.number passed.now (Offset.number after.0) r →
         Rise (depth_after r.entry r.depth) (check_held Offset.number check.new).opens) }
     ensures refusal { IfErr result (λ e. e ≡ OutOfMemory) }
     ensures without_memory { (r : Row) →
-        IsPassedRow Offset.number passed.now (Offset.number behind.0) r →
+        IsPassedRow Offset.number passed.now (Offset.number after.0) r →
         usable_target (Offset.number end.0) r ≡ None → IsOk result }
 {
     if passed.is_null {
-        check.close(passed.depth, behind);
+        check.close(passed.depth, after);
         return Ok(());
     }
     if check.first.is_some() {
         return Ok(());
     }
-    match usable_target(passed.sibling, behind, end) {
+    match usable_target(passed.sibling, after, end) {
         Some(target) => check.enter(passed.offset, passed.depth, target),
         None => Ok(()),
     }
@@ -203,7 +203,7 @@ fn first_false_ahead<R: Reader, A: Allocator>(
                     depth,
                     sibling,
                 };
-                go_behind(&mut check, &passed, entries.next_offset(), end)?;
+                go_past(&mut check, &passed, entries.next_offset(), end)?;
             }
             Err(_) => return Ok(check.finish()),
         }

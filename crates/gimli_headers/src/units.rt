@@ -40,9 +40,9 @@ pub(crate) fn next_header<R: Reader>(
     match parse_unit_header(&mut rest, section, *offset) {
         Ok(header) => {
             let whole_length = header.length_including_self();
-            let behind = offset.0.checked_add(whole_length).unwrap();
+            let after = offset.0.checked_add(whole_length).unwrap();
             *input = rest;
-            *offset = UnitSectionOffset(behind);
+            *offset = UnitSectionOffset(after);
             Ok(Some(header))
         }
         Err(error) => {

@@ -417,9 +417,9 @@ module _ {P : Type 0} (grammar : Grammar P) (takes : TakesBytes grammar) (limit 
   no_items_of l (inr h) = ap (λ (x : RawList P). x.items) h
 
   -- where nothing is left the place stays after no entry
-  behind_none : (p q : ListPlace) → q ≡ record p { raw = q.raw } → entries_ahead grammar p ≡ []
+  after_none : (p q : ListPlace) → q ≡ record p { raw = q.raw } → entries_ahead grammar p ≡ []
       → length q.raw.rest.bytes ≡ 0 → IsAfterEntries grammar limit (read_from grammar limit p) p q
-  behind_none p q same none left =
+  after_none p q same none left =
       let after : entries_ahead grammar q
       ≡ [] = ap (λ l. l.items) (list_ended (entries q) (shorter q) q.raw.rest left) in
       let Q : List (ListEntry P) → Type 0 =
@@ -428,19 +428,19 @@ module _ {P : Type 0} (grammar : Grammar P) (takes : TakesBytes grammar) (limit 
       × (q.base ≡ base_before (look_up_of limit p) p.base es n) in
       subst Q (sym none) (after, ap (λ (x : ListPlace). x.base) same)
 
-  pub behind_end : (p q : ListPlace) → q ≡ record p { raw = q.raw }
+  pub after_end : (p q : ListPlace) → q ≡ record p { raw = q.raw }
       → ◌≡◌ {A = Next P} (Ok None, q.raw) (next_raw grammar p.raw)
       → IsAfterEntries grammar limit (read_from grammar limit p) p q
-  behind_end p q same h =
-      behind_none p q same
+  after_end p q same h =
+      after_none p q same
       (no_items_of (list_at (reads p.raw) p.raw.rest) (list_from p.raw q.raw (Ok None) h).0)
       (next_raw-ended p.raw q.raw h)
 
-  pub behind_refused : (p q : ListPlace) (e : Error) → q ≡ record p { raw = q.raw }
+  pub after_refused : (p q : ListPlace) (e : Error) → q ≡ record p { raw = q.raw }
       → ◌≡◌ {A = Next P} (Err e, q.raw) (next_raw grammar p.raw)
       → IsAfterEntries grammar limit (read_from grammar limit p) p q
-  behind_refused p q e same h =
-      behind_none p q same (ap (λ (l : RawList P). l.items) (list_from p.raw q.raw (Err e) h).0)
+  after_refused p q e same h =
+      after_none p q same (ap (λ (l : RawList P). l.items) (list_from p.raw q.raw (Err e) h).0)
       (next_raw-refused p.raw q.raw e h)
 
   -- the place after an entry, when w is left
@@ -509,18 +509,18 @@ module _ {P : Type 0} (grammar : Grammar P) (takes : TakesBytes grammar) (limit 
     is_resolved = ap (λ (n : Converted P). n.0) made_here
 
     -- after an entry that stands for something
-    pub behind_one : is_nothing a ≡ false
+    pub after_one : is_nothing a ≡ false
         → IsAfterEntries grammar limit (read_from grammar limit p) p s
-    behind_one h =
+    after_one h =
         subst (IsAfterEntries grammar limit (read_from grammar limit p) p) (sym is_past)
         (past_one p e q.raw.rest (list_from p.raw q.raw (Ok (Some e)) read)
         (ap is_nothing (sym is_resolved) ∙ h))
 
     -- after an entry that stands for nothing, and then further
-    pub behind_more : (t : ListPlace) → a ≡ Ok None
+    pub after_more : (t : ListPlace) → a ≡ Ok None
         → IsAfterEntries grammar limit (read_from grammar limit s) s t
         → IsAfterEntries grammar limit (read_from grammar limit p) p t
-    behind_more t h k =
+    after_more t h k =
         past_more p e q.raw.rest (list_from p.raw q.raw (Ok (Some e)) read) t (sym h ∙ is_resolved)
         (subst (λ x. IsAfterEntries grammar limit (read_from grammar limit x) x t) is_past k)
 

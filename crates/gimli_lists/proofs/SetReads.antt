@@ -13,7 +13,7 @@ use Rattle.gimli_base.specs.Reading.{Reads, ◌>>=◌, map_read, byte_at, uint_a
 use Rattle.gimli_base.specs.Reading.{address_size_at, is_size, initial_length_at}
 use Rattle.gimli_base.specs.Reading.{initial_length_size_of, skip_at, split_at}
 use Rattle.gimli_base.proofs.Taken.{TakenAfter, TakesAfter, Takes, taken, TakenAfter-trans}
-use Rattle.gimli_base.proofs.Taken.{behind_takes, initial_length_at-takes, split_at-takes}
+use Rattle.gimli_base.proofs.Taken.{after_takes, initial_length_at-takes, split_at-takes}
 use Rattle.gimli_lists.specs.ArangeSets.{ArangeSet, padding_size, set_fields_at, set_in, set_at}
 use Rattle.gimli_lists.specs.ArangeSets.{set_length}
 
@@ -171,7 +171,7 @@ set_at-read limit offset v s w h =
         ≡ (r >>= λ own. set_in offset field.0.0 (set_fields_at limit field.0.1 own.0) own.1)
         → SetRead offset v s w
     cut_off field (Ok own) t takes e =
-        let all = behind_takes (initial_length_size_of field.0.1) field.0.0 (Total field.0) field.1
+        let all = after_takes (initial_length_size_of field.0.1) field.0.0 (Total field.0) field.1
         (Ok own) refl takes own.0 own.1 refl in
         built field.0 own.1 (set_fields_at limit field.0.1 own.0)
         (set_fields_at-format limit field.0.1 own.0)

@@ -62,14 +62,14 @@ module _ (z : ℕ) (some : 0 < z) where
 
   module _ {B : Type 0} (f : ℕ × ℕ → Option B) where
     -- what is left after n tuples of these and one more, or at the end where there are no more
-    abbrev rest_behind : View → List (ℕ × ℕ) → ℕ → View
-    rest_behind v ts n = if nat_lt n (length ts) then cut ((n + 1) * (2 * z)) v else end_of_view v
+    abbrev rest_after : View → List (ℕ × ℕ) → ℕ → View
+    rest_after v ts n = if nat_lt n (length ts) then cut ((n + 1) * (2 * z)) v else end_of_view v
 
     abbrev First : Type 0
     First = Option B × View
 
     abbrev first_at : View → List (ℕ × ℕ) → ℕ → First
-    first_at v ts n = (option_and_then f (slice_get ts n), rest_behind v ts n)
+    first_at v ts n = (option_and_then f (slice_get ts n), rest_after v ts n)
 
     abbrev first_in : View → List (ℕ × ℕ) → First
     first_in v ts = first_at v ts (count_before_first f ts)
@@ -80,10 +80,10 @@ module _ (z : ℕ) (some : 0 < z) where
         let n : count_before_first f (t ∷ ts) ≡ 0 = rw e refl in
         let lt : nat_lt 0 (length (t ∷ ts)) ≡ true = lt-ltb 0 (length (t ∷ ts)) (omega arith) in
         let one : (0 + 1) * (2 * z) ≡ 2 * z = omega arith in
-        let rest : rest_behind v (t ∷ ts) 0 ≡ cut (2 * z) v = rw lt (ap (λ k. cut k v) one) in
+        let rest : rest_after v (t ∷ ts) 0 ≡ cut (2 * z) v = rw lt (ap (λ k. cut k v) one) in
         let Pair : Type 0 = First in
         ap (first_at v (t ∷ ts)) n
-        ∙ ap (λ (o : Option B). let y : Pair = (o, rest_behind v (t ∷ ts) 0) in y) e
+        ∙ ap (λ (o : Option B). let y : Pair = (o, rest_after v (t ∷ ts) 0) in y) e
         ∙ ap (λ (w : View). let y : Pair = (Some b, w) in y) rest
 
     first_later : (v : View) (t : ℕ × ℕ) (ts : List (ℕ × ℕ)) → f t ≡ None → 2 * z ≤ length v.bytes
@@ -91,8 +91,8 @@ module _ (z : ℕ) (some : 0 < z) where
     first_later v t ts e le =
         let m = count_before_first f ts in
         let n : count_before_first f (t ∷ ts) ≡ suc m = rw e (omega arith) in
-        let rest : rest_behind v (t ∷ ts) (suc m)
-        ≡ rest_behind (cut (2 * z) v) ts m = elim (leb_tells (suc m) (length ts)) [
+        let rest : rest_after v (t ∷ ts) (suc m)
+        ≡ rest_after (cut (2 * z) v) ts m = elim (leb_tells (suc m) (length ts)) [
           | inl inside ↦
               let t1 : nat_lt (suc m) (length (t ∷ ts))
               ≡ true = lt-ltb (suc m) (length (t ∷ ts)) (omega (arith, inside.1)) in
@@ -162,9 +162,9 @@ module _ (z : ℕ) (some : 0 < z) where
             rw (first_short v lt, tuples_of-short v lt, none) refl
 
         more : (v : View) → 2 * z ≤ length v.bytes → Holds (cut (2 * z) v) → Holds v
-        more v le behind = by_cases Holds v (
+        more v le after = by_cases Holds v (
           (λ b e. rw (first_next v b le e, tuples_of-more v le, e) refl),
-          (λ e. rw (first_over v le e, tuples_of-more v le, e) behind),
+          (λ e. rw (first_over v le e, tuples_of-more v le, e) after),
         )
 
     -- where nothing is made of any tuple, there is no first
@@ -179,13 +179,13 @@ module _ (z : ℕ) (some : 0 < z) where
         short v lt none = rw (tuples_of-short v lt) refl
 
         more : (v : View) → 2 * z ≤ length v.bytes → Holds (cut (2 * z) v) → Holds v
-        more v le behind = by_cases Holds v (
+        more v le after = by_cases Holds v (
           (λ b e none.
               let one : Some b ≡ None = sym (ap (λ (p : First). p.0) (first_next v b le e))
               ∙ none in
               absurd (cc)),
           (λ e none. rw (tuples_of-more v le, e)
-              (behind (sym (ap (λ (p : First). p.0) (first_over v le e)) ∙ none))),
+              (after (sym (ap (λ (p : First). p.0) (first_over v le e)) ∙ none))),
         )
 
     -- bytes are taken where something is made
@@ -203,13 +203,13 @@ module _ (z : ℕ) (some : 0 < z) where
             absurd (cc (ap (λ (p : First). p.0) e))
 
         more : (v : View) → 2 * z ≤ length v.bytes → Holds (cut (2 * z) v) → Holds v
-        more v le behind = by_cases Holds v (
+        more v le after = by_cases Holds v (
           (λ c e h.
               let is : ◌≡◌ {A = First} (Some b, w) (Some c, cut (2 * z) v) = h
               ∙ first_next v c le e in
               let left = ap (λ (p : First). length p.1.bytes) is ∙ length-drop (2 * z) v.bytes in
               omega (arith, left, le, some)),
-          (λ e h. let lt = behind (h ∙ first_over v le e) in
+          (λ e h. let lt = after (h ∙ first_over v le e) in
               omega (arith, lt, length-drop (2 * z) v.bytes)),
         )
 
@@ -312,8 +312,8 @@ module _ (z : ℕ) (some : 0 < z) where
             ∙ sym (ap (λ o. continued o (cut (2 * z) v)) h))
 
         more : (v : View) → 2 * z ≤ length v.bytes → Holds (cut (2 * z) v) → Holds v
-        more v le behind = by_cases f Holds v (
+        more v le after = by_cases f Holds v (
           (λ b e. kept v b le e (g b) refl),
           (λ e. rw (first_over f v le e)
-              (first_over both v le (ap (option_and_then g) e) ∙ behind)),
+              (first_over both v le (ap (option_and_then g) e) ∙ after)),
         )

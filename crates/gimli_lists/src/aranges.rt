@@ -357,9 +357,9 @@ fn next_header<R: Reader>(
         Ok(header) => {
             let field = R::Offset::from_u8(header.encoding.format.initial_length_size());
             let whole_length = field.checked_add(header.length).unwrap();
-            let behind = offset.0.checked_add(whole_length).unwrap();
+            let after = offset.0.checked_add(whole_length).unwrap();
             *input = rest;
-            *offset = DebugArangesOffset(behind);
+            *offset = DebugArangesOffset(after);
             Ok(Some(header))
         }
         Err(error) => {

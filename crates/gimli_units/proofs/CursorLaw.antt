@@ -17,8 +17,8 @@ use Rattle.gimli_units.specs.RawPlace.{RawPlace, next_offset_of}
 use Rattle.gimli_units.specs.Unit.{UnitView, whole_length, header_size, in_bounds, range_from}
 use Rattle.gimli_units.specs.Unit.{entries_in, entries_from, entries_of, some_entry, unit_entry_at}
 use Rattle.gimli_units.specs.Unit.{IsUnreadAt}
-use Rattle.gimli_units.specs.CursorMoves.{CursorView, rows_from, view_from, what_at, IsSameUnit}
-use Rattle.gimli_units.specs.CursorMoves.{IsFurther, IsTrueEntry, IsRefused}
+use Rattle.gimli_units.specs.CursorModel.{CursorView, rows_from, view_from, what_at, IsSameUnit}
+use Rattle.gimli_units.specs.CursorModel.{IsFurther, IsTrueEntry, IsRefused}
 use Rattle.gimli_units.specs.CursorStart.{before_first, raw_start}
 
 -- a cursor that reads the entries of a unit

@@ -15,11 +15,11 @@ use Rattle.gimli_units.specs.Rows.{offset_of_view}
 use Rattle.gimli_units.proofs.RowSteps.{then_row, ahead_ended, ahead_refused, ahead_more}
 use Rattle.gimli_units.specs.Rows.{no_row}
 use Rattle.gimli_units.specs.CursorPlace.{next_row}
-use Rattle.gimli_units.specs.CursorMoves.{CursorView, next_of, rows_of, last_row, Goes, view_from}
-use Rattle.gimli_units.specs.CursorMoves.{takes_memory_at, IsSound}
+use Rattle.gimli_units.specs.CursorModel.{CursorView, next_of, rows_of, last_row, Goes, view_from}
+use Rattle.gimli_units.specs.CursorModel.{takes_memory_at, IsSound}
 use Rattle.gimli_units.proofs.Memory.{entry_at-never}
-use Rattle.gimli_units.specs.CursorRead.{stands_at, after_entry, after_refusal, after_end, HasRead}
-use Rattle.gimli_units.specs.CursorRead.{an_entry, the_end, a_refusal}
+use Rattle.gimli_units.specs.SearchSteps.{stands_at, after_entry, after_refusal, after_end, HasRead}
+use Rattle.gimli_units.specs.SearchSteps.{an_entry, the_end, a_refusal}
 
 module _ (limit : ℕ) where
   -- the entry that was read is the first row, and the others are ahead
@@ -93,8 +93,8 @@ module _ (limit : ℕ) where
         follows = old.follows;
         reads = old.reads + 1;
       })
-  did_read old raw e offset depth some reads unit behind at same =
-      an_entry e raw.rest some reads refl (rw (unit, behind, at, same) refl)
+  did_read old raw e offset depth some reads unit after at same =
+      an_entry e raw.rest some reads refl (rw (unit, after, at, same) refl)
 
   -- what was refused
   pub did_refuse : (old : CursorView) (raw mid : RawPlace) (x : Error) (e : Entry) (offset : ℕ)
@@ -157,7 +157,7 @@ sound_read limit old outcome new s (an_entry e w some reads is same) =
       fits = omega (arith, shorter, s.fits);
       shallow = omega (arith, shorter, s.next_shallow);
       next_shallow = omega (arith, shorter, near, s.next_shallow);
-      behind = λ entry. refl;
+      after = λ entry. refl;
       past = λ entry. omega (arith, shorter, s.fits);
     })
 sound_read limit old outcome new s (the_end none is same) =
@@ -167,7 +167,7 @@ sound_read limit old outcome new s (the_end none is same) =
       fits = s.fits;
       shallow = s.shallow;
       next_shallow = s.next_shallow;
-      behind = λ entry. absurd (cc);
+      after = λ entry. absurd (cc);
       past = λ entry. absurd (cc);
     })
 sound_read limit old outcome new s (a_refusal x some is same why memory) =
@@ -179,7 +179,7 @@ sound_read limit old outcome new s (a_refusal x some is same why memory) =
       fits = omega arith;
       shallow = omega (arith, depth);
       next_shallow = omega (arith, depth);
-      behind =
+      after =
           λ entry. absurd (cc);
       past = λ entry. absurd (cc);
     })

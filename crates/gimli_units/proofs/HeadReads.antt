@@ -13,7 +13,7 @@ use Rattle.gimli_units.specs.Head.{Head, head, head_of, led_head, head_and_sibli
 use Rattle.gimli_units.specs.Kind.{kind_of}
 use Rattle.gimli_units.specs.Honest.{target}
 use Rattle.gimli_units.specs.RawPlace.{RawPlace, depth_read, depth_after}
-use Rattle.gimli_units.specs.CursorMoves.{next_of}
+use Rattle.gimli_units.specs.CursorModel.{next_of}
 use Rattle.gimli_units.proofs.EntryReads.{entry_at-shorter}
 
 -- the depth after a head is that after its entry
@@ -35,7 +35,7 @@ pub record EntryOf (limit : ℕ) (p : RawPlace) (o : Option Declaration) (w : Vi
   pub entry : Entry
   pub reads : Ok (entry, w) ≡ next_of limit p p.rest
   pub same : head_of o ≡ head entry
-  pub behind : depth ≡ depth_after entry p.depth
+  pub after : depth ≡ depth_after entry p.depth
 
 pub entry_of : (limit : ℕ) (p : RawPlace) (o : Option Declaration) (w : View) (depth : ℤ)
     → Ok (head_of o, w) ≡ map_read head (next_of limit p p.rest) → IfSome o (λ d. d.tag.0 ≢ 0)
@@ -52,7 +52,7 @@ entry_of limit p o w depth read some deep = cases (next_of limit p p.rest) refl 
           entry = x.0;
           reads = rw left (sym is);
           same = same;
-          behind = deep ∙ head_depth o x.0 p.depth some same;
+          after = deep ∙ head_depth o x.0 p.depth some same;
         }
     cases (Err e) is h = absurd (cc)
 

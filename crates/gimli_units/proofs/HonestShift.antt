@@ -8,7 +8,7 @@ use Rattle.std.proofs.lemmas.Bool.Decides.{Decides-int_eq}
 use Rattle.gimli_base.specs.View.{View}
 use Rattle.gimli_base.specs.Reading.{Reads}
 use Rattle.gimli_units.specs.Entry.{Entry, is_null}
-use Rattle.gimli_units.specs.Rows.{Sited, Row, depth_behind, rows_behind, entries_at, ahead_at}
+use Rattle.gimli_units.specs.Rows.{Sited, Row, depth_after_all, rows_after, entries_at, ahead_at}
 use Rattle.gimli_units.specs.Honest.{closes, past_closer, AreHonest}
 
 -- a row that is counted from elsewhere
@@ -16,22 +16,22 @@ abbrev pub deeper_by : ℤ → Row → Row
 deeper_by k r = record { offset = r.offset; next = r.next; depth = r.depth +ℤ k; entry = r.entry }
 
 counted_by : (start k : ℤ) (before : List Sited)
-    → depth_behind (start +ℤ k) before ≡ depth_behind start before +ℤ k
-unfolding depth_behind
+    → depth_after_all (start +ℤ k) before ≡ depth_after_all start before +ℤ k
+unfolding depth_after_all
 counted_by start k before = omega (arith, ints)
 
-behind_by : (start k : ℤ) (before rest : List Sited)
-    → rows_behind (start +ℤ k) before rest ≡ map (deeper_by k) (rows_behind start before rest)
-unfolding rows_behind
-behind_by start k before [] = refl
-behind_by start k before (s ∷ rest) =
-    rw (counted_by start k before, behind_by start k (before ++ s ∷ []) rest) refl
+after_by : (start k : ℤ) (before rest : List Sited)
+    → rows_after (start +ℤ k) before rest ≡ map (deeper_by k) (rows_after start before rest)
+unfolding rows_after
+after_by start k before [] = refl
+after_by start k before (s ∷ rest) =
+    rw (counted_by start k before, after_by start k (before ++ s ∷ []) rest) refl
 
 -- the rows from a view on, counted from elsewhere
 pub rows_by : (next : View → Reads Entry) (end : ℕ) (depth k : ℤ) (v : View)
     → (ahead_at next end (depth +ℤ k) v).rows ≡ map (deeper_by k) (ahead_at next end depth v).rows
 unfolding ahead_at
-rows_by next end depth k v = behind_by depth k [] (entries_at next end v).items
+rows_by next end depth k v = after_by depth k [] (entries_at next end v).items
 
 bool_by : (a b : Bool) → (a ≡ true → b ≡ true) → (b ≡ true → a ≡ true) → a ≡ b
 bool_by true b f g = sym (f refl)

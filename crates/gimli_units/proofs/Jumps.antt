@@ -16,8 +16,8 @@ use Rattle.gimli_units.specs.Entry.{Entry, Attr, null_entry, is_null, entry_of_p
 use Rattle.gimli_units.specs.Kind.{kind_of, unit_reference, parent, sibling_of}
 use Rattle.gimli_units.specs.RawPlace.{RawPlace, next_offset_of}
 use Rattle.gimli_units.specs.Honest.{within, target}
-use Rattle.gimli_units.specs.CursorMoves.{CursorView, view_from}
-use Rattle.gimli_units.specs.CursorRead.{stands_at, stands_if, reference_for, target_for, leave_entry}
+use Rattle.gimli_units.specs.CursorModel.{CursorView, view_from}
+use Rattle.gimli_units.specs.SearchSteps.{stands_at, stands_if, reference_for, target_for, leave_entry}
 
 -- the first attribute of a name, by what its readers and offsets stand for
 pub first_of-map : {R O : Type 0}

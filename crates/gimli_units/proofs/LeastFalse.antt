@@ -69,12 +69,12 @@ grow_down : (low high : ℕ) (rows : List Row) → low ≤ high → Grow high ro
 grow_down low high [] le h = tt
 grow_down low high (r ∷ rest) le h = (omega (arith, le, h.0), h.1)
 
-behind_low : (end low other : ℕ) (rows : List Row) → Grow low rows → IsFalseAt end other rows
+after_low : (end low other : ℕ) (rows : List Row) → Grow low rows → IsFalseAt end other rows
     → low ≤ other
-behind_low end low other [] h there = absurd there
-behind_low end low other (r ∷ rest) h (inl here) = omega (arith, h.0, here.0)
-behind_low end low other (r ∷ rest) h (inr on) =
-    let more = behind_low end r.offset other rest h.1 on in omega (arith, h.0, more)
+after_low end low other [] h there = absurd there
+after_low end low other (r ∷ rest) h (inl here) = omega (arith, h.0, here.0)
+after_low end low other (r ∷ rest) h (inr on) =
+    let more = after_low end r.offset other rest h.1 on in omega (arith, h.0, more)
 
 broken : (end : ℕ) (r : Row) (rest : List Row) → is_false end r rest ≡ true → IsHonest end r rest
     → ⊥
@@ -89,7 +89,7 @@ least end low (r ∷ rest) offset h is =
   where
     first : (other : ℕ) → r.offset ≡ offset → IsFalseAt end other (r ∷ rest) → offset ≤ other
     first other same (inl here) = omega (arith, here.0, same)
-    first other same (inr on) = let more = behind_low end r.offset other rest h.1 on in
+    first other same (inr on) = let more = after_low end r.offset other rest h.1 on in
         omega (arith, same, more)
 
     later : (other : ℕ) → is_false end r rest ≡ false → IsLeastFalse end offset rest

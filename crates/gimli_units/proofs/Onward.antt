@@ -20,12 +20,12 @@ use Rattle.gimli_units.specs.RawPlace.{RawPlace, next_offset_of}
 use Rattle.gimli_units.specs.Kind.{kind_of}
 use Rattle.gimli_units.specs.Honest.{target, within, usable_target}
 use Rattle.gimli_units.specs.Rows.{ahead_at}
-use Rattle.gimli_units.specs.CursorMoves.{CursorView, next_of, rows_of, rows_from, reads_ahead}
-use Rattle.gimli_units.specs.CursorMoves.{last_row, followed_to, view_from, what_at}
-use Rattle.gimli_units.specs.CursorMoves.{takes_memory_at, IsSameUnit, IsTrueEntry, IsRefused}
-use Rattle.gimli_units.specs.CursorMoves.{IsFurther, AreFewReads, IsReadOnce, IsReadUpTo, IsSound}
-use Rattle.gimli_units.specs.CursorRead.{stands_at, stands_if, HasRead, an_entry, the_end}
-use Rattle.gimli_units.specs.CursorRead.{a_refusal, leave_entry}
+use Rattle.gimli_units.specs.CursorModel.{CursorView, next_of, rows_of, rows_from, reads_ahead}
+use Rattle.gimli_units.specs.CursorModel.{last_row, followed_to, view_from, what_at}
+use Rattle.gimli_units.specs.CursorModel.{takes_memory_at, IsSameUnit, IsTrueEntry, IsRefused}
+use Rattle.gimli_units.specs.CursorModel.{IsFurther, AreFewReads, IsReadOnce, IsReadUpTo, IsSound}
+use Rattle.gimli_units.specs.SearchSteps.{stands_at, stands_if, HasRead, an_entry, the_end}
+use Rattle.gimli_units.specs.SearchSteps.{a_refusal, leave_entry}
 use Rattle.gimli_units.proofs.CursorSteps.{rows_entry, rows_refusal, rows_over, sound_read}
 
 -- a cursor that began at `start` stands at `here`
@@ -194,7 +194,7 @@ onward_follow start here sought o = cases (int_le sought here.depth) (followed_t
             shallow = o.sound.shallow;
             fits = o.sound.fits;
             next_shallow = o.sound.next_shallow;
-            behind = λ entry. absurd (cc);
+            after = λ entry. absurd (cc);
             past =
                 λ entry. absurd (cc);
           };
@@ -235,7 +235,7 @@ onward_follow start here sought o = cases (int_le sought here.depth) (followed_t
             shallow = omega (arith, shorter, s.shallow);
             fits = omega (arith, shorter, s.fits);
             next_shallow = omega (arith, shorter, s.shallow);
-            behind = λ entry. absurd (cc);
+            after = λ entry. absurd (cc);
             past = λ entry. absurd (cc);
           };
         }

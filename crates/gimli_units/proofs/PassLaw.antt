@@ -48,11 +48,11 @@ block-passed (Ok p) a w e = split_at-passed p.0 p.1 a w e
 block-passed (Err x) a w e = absurd (cc)
 
 -- n bytes, after a number that passes as it is read
-behind-passed : (n : ℕ) (p : Passed) (r : Reads ℕ) (f : ℕ → ℕ → Value) → PassesAs p r
+after-passed : (n : ℕ) (p : Passed) (r : Reads ℕ) (f : ℕ → ℕ → Value) → PassesAs p r
     → PassesAs (p >>= λ q. skip_at n q.1) (r >>= λ q. map_read (f q.0) (uint_at n q.1))
-behind-passed n p (Ok q) f h a w e =
+after-passed n p (Ok q) f h a w e =
     rw (h q.0 q.1 refl) (made_passed _ (f q.0) (uint_at n q.1) (uint_at-passed n q.1) a w e)
-behind-passed n p (Err x) f h a w e = absurd (cc)
+after-passed n p (Err x) f h a w e = absurd (cc)
 
 text-passed : (r : Reads View) → PassesAs (map_read (λ _. tt) r) r
 text-passed (Ok p) a w e =
@@ -98,7 +98,7 @@ in-passed limit e name c (reference f) v =
 in-passed limit e name c (offset_leb f) v =
     made_passed _ f (uleb_offset_at limit v) (uleb_offset-passed limit v)
 in-passed limit e name c (offset_leb_and n f) v =
-    behind-passed n (skip_leb_at v) (uleb_offset_at limit v) f (uleb_offset-passed limit v)
+    after-passed n (skip_leb_at v) (uleb_offset_at limit v) f (uleb_offset-passed limit v)
 in-passed limit e name c (block n f) v = made_passed _ f _ (block-passed (uint_offset_at limit n v))
 in-passed limit e name c (block_leb f) v = made_passed _ f _ (block-passed (uleb_offset_at limit v))
 in-passed limit e name c (text f) v = made_passed _ f (text_at v) (text-passed (text_at v))

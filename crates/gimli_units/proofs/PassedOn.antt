@@ -11,9 +11,9 @@ use Rattle.gimli_units.specs.Head.{led_head, head_and_sibling}
 use Rattle.gimli_units.specs.Kind.{kind_of}
 use Rattle.gimli_units.specs.Honest.{target, within}
 use Rattle.gimli_units.specs.RawPlace.{RawPlace, next_offset_of, depth_read}
-use Rattle.gimli_units.specs.CursorMoves.{CursorView, next_of, IsSound}
-use Rattle.gimli_units.specs.CursorRead.{stands_at, stands_if, after_entry}
-use Rattle.gimli_units.specs.CursorRead.{an_entry, HasPassed, a_pass, no_pass, passed_over}
+use Rattle.gimli_units.specs.CursorModel.{CursorView, next_of, IsSound}
+use Rattle.gimli_units.specs.SearchSteps.{stands_at, stands_if, after_entry}
+use Rattle.gimli_units.specs.SearchSteps.{an_entry, HasPassed, a_pass, no_pass, passed_over}
 use Rattle.gimli_base.specs.Table.{codes_of}
 use Rattle.gimli_units.proofs.EntryReads.{entry_at-shorter}
 use Rattle.gimli_units.proofs.HeadReads.{entry_of_head}
@@ -47,12 +47,12 @@ module _ (limit : ℕ) (sought : ℤ) (old : CursorView) where
       → raw.depth ≡ depth_read o old.raw.depth
       → ((old.follows && int_le sought old.raw.depth) ≡ true → sibling ≡ None)
       → HasPassed limit sought old (Ok tt) (passed_over old raw)
-  passed_stays raw o sibling some read tagged unit behind none =
-      let h = entry_of_head limit old.raw o sibling raw.rest raw.depth read tagged behind in
+  passed_stays raw o sibling some read tagged unit after none =
+      let h = entry_of_head limit old.raw o sibling raw.rest raw.depth read tagged after in
       let mid : CursorView = after_entry old h.of.entry raw.rest in
       let stays = no_target (int_le sought old.raw.depth) old.follows (target (kind_of h.of.entry))
       (next_offset_of mid.raw) mid.raw.end (λ f. sym h.leads ∙ none f) in
-      let here : raw ≡ mid.raw = unit ∙ ap (λ d. stands_at old.raw raw.rest d) h.of.behind in
+      let here : raw ≡ mid.raw = unit ∙ ap (λ d. stands_at old.raw raw.rest d) h.of.after in
       let there : raw ≡ stands_if mid.raw
       (if int_le sought old.raw.depth
       then (if old.follows
@@ -72,10 +72,10 @@ module _ (limit : ℕ) (sought : ℤ) (old : CursorView) where
       → (old.follows && int_le sought old.raw.depth) ≡ true → sibling ≡ Some t
       → raw ≡ stands_if mid_raw (within (next_offset_of mid_raw) mid_raw.end (Some t)) old.raw.depth
       → HasPassed limit sought old (Ok tt) (passed_over old raw)
-  passed_goes raw mid_raw o sibling t some read tagged unit behind followed leads goes =
-      let h = entry_of_head limit old.raw o sibling mid_raw.rest mid_raw.depth read tagged behind in
+  passed_goes raw mid_raw o sibling t some read tagged unit after followed leads goes =
+      let h = entry_of_head limit old.raw o sibling mid_raw.rest mid_raw.depth read tagged after in
       let mid : CursorView = after_entry old h.of.entry mid_raw.rest in
-      let here : mid_raw ≡ mid.raw = unit ∙ ap (λ d. stands_at old.raw mid_raw.rest d) h.of.behind in
+      let here : mid_raw ≡ mid.raw = unit ∙ ap (λ d. stands_at old.raw mid_raw.rest d) h.of.after in
       let one = one_target (int_le sought old.raw.depth) old.follows (target (kind_of h.of.entry))
       (next_offset_of mid.raw) mid.raw.end t followed (sym h.leads ∙ leads) in
       let there : raw ≡ stands_if mid.raw
@@ -94,8 +94,8 @@ module _ (limit : ℕ) (sought : ℤ) (old : CursorView) where
       → Ok (led_head o sibling, w) ≡ map_read head_and_sibling (next_of limit old.raw old.raw.rest)
       → IfSome o (λ d. d.tag.0 ≢ 0) → depth ≡ depth_read o old.raw.depth
       → length w.bytes < length old.raw.rest.bytes
-  head_shorter o sibling w depth read tagged behind =
-      let h = entry_of_head limit old.raw o sibling w depth read tagged behind in
+  head_shorter o sibling w depth read tagged after =
+      let h = entry_of_head limit old.raw o sibling w depth read tagged after in
       entry_at-shorter limit old.raw.encoding (codes_of old.raw.abbreviations) old.raw.rest w
       h.of.entry h.of.reads
 

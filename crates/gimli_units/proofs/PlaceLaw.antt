@@ -17,8 +17,8 @@ use Rattle.gimli_units.specs.CursorPlace.{Moved, some_of, is_entry, has_depth, a
 use Rattle.gimli_units.specs.CursorPlace.{last_offset, last_depth, next_row}
 use Rattle.gimli_units.specs.CursorPlace.{next_in_depth_first_order, seek, next_of_depth}
 use Rattle.gimli_units.specs.CursorPlace.{next_offset, next_depth}
-use Rattle.gimli_units.specs.CursorMoves.{CursorView, next_of, rows_of, place_of, last_row, Goes}
-use Rattle.gimli_units.specs.CursorMoves.{IsHonestFor, IsHonestCursor}
+use Rattle.gimli_units.specs.CursorModel.{CursorView, next_of, rows_of, place_of, last_row, Goes}
+use Rattle.gimli_units.specs.CursorModel.{IsHonestFor, IsHonestCursor}
 
 -- each row is followed by the one that stands after it
 abbrev pub AreLinked : ℕ → List Row → Type 0
@@ -41,7 +41,7 @@ module _ (next : View → Reads Entry) (end : ℕ) where
       (stop_depth : ℤ) → AreRows next end v depth rows refusal stop stop_depth → AreLinked stop rows
   linked [] v depth refusal stop stop_depth are = tt
   linked (r ∷ rest) v depth refusal stop stop_depth (w, is, more) = (
-    is.behind ∙ (first_is rest w (depth_after r.entry depth) refusal stop stop_depth more).0,
+    is.after ∙ (first_is rest w (depth_after r.entry depth) refusal stop stop_depth more).0,
     linked rest w (depth_after r.entry depth) refusal stop stop_depth more,
   )
 
@@ -161,12 +161,12 @@ module _ (limit : ℕ) where
       cases true is_none = null_honest new (rows_of limit new.raw).rows is_none
       cases false entry =
           let one = same_entry new.entry r.entry entry (ap (λ (m : Moved). m.place.current) is) in
-          let behind : next_offset_of new.raw
+          let after : next_offset_of new.raw
           ≡ r.next = offset_is new.raw ∙ ap (λ (m : Moved). next_offset m.place.ahead) is
           ∙ sym l.0 in
           let at = ap (λ (m : Moved). m.place.offset) is in
           let deep = ap (λ (m : Moved). m.place.depth) is in
-          let row : last_row new ≡ r = rw (one, behind, at, deep) refl in
+          let row : last_row new ≡ r = rw (one, after, at, deep) refl in
           honest_same new.raw.end end (last_row new) r (rows_of limit new.raw).rows rest same row
           left h.0
 

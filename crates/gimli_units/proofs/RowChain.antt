@@ -17,7 +17,7 @@ module _ (next : View → Reads Entry) (end : ℕ) where
     pub some : length v.bytes ≡ 0 → ⊥
     pub reads : Ok (r.entry, w) ≡ next v
     pub offset : r.offset ≡ offset_of_view end v
-    pub behind : r.next ≡ offset_of_view end w
+    pub after : r.next ≡ offset_of_view end w
     pub depth_is : r.depth ≡ depth
 
   -- no row at a view: the bytes end there, or a refusal does
@@ -60,7 +60,7 @@ module _ (next : View → Reads Entry) (end : ℕ) where
         read (Ok p) is some rest =
             rw (ahead_more next end shorter depth v p.0 p.1 some is) (
               p.1,
-              record { some = some; reads = is; offset = refl; behind = refl; depth_is = refl },
+              record { some = some; reads = is; offset = refl; after = refl; depth_is = refl },
               rest p.1 (depth_after p.0 depth) (shorter v p.1 p.0 is),
             )
 
@@ -83,7 +83,7 @@ module _ (next : View → Reads Entry) (end : ℕ) where
           depth = depth;
           entry = r.entry;
         }
-        ≡ r = rw (← is.offset, ← is.behind, ← is.depth_is) refl in
+        ≡ r = rw (← is.offset, ← is.after, ← is.depth_is) refl in
         ahead_more next end shorter depth v r.entry w is.some is.reads
         ∙ ap (λ x. then_row x (ahead_at next end (depth_after r.entry depth) w)) same
         ∙ ap (then_row r)

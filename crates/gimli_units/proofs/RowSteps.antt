@@ -14,7 +14,7 @@ use Rattle.gimli_base.specs.Reading.{Reads}
 use Rattle.gimli_units.specs.Entry.{Entry, is_null}
 use Rattle.gimli_units.specs.RawPlace.{below_flag, depth_after}
 use Rattle.gimli_units.specs.Rows.{Sited, EntriesEnd, Row, Ahead, offset_of_view, no_row}
-use Rattle.gimli_units.specs.Rows.{sited_or_end, entries_at, depth_behind, rows_behind, ahead_at}
+use Rattle.gimli_units.specs.Rows.{sited_or_end, entries_at, depth_after_all, rows_after, ahead_at}
 use Rattle.gimli_base.specs.Chain.{no_item, then_item}
 use Rattle.gimli_base.proofs.ChainSteps.{chain_ended, chain_more}
 
@@ -40,10 +40,10 @@ count_last p (y ∷ ys) x a = count_last p ys x (a + cond (p y) 1 0)
 
 -- the carried depth is the counted one: after one more entry it is one more after a flag, and one
 -- less after a null
-pub depth_behind-append : (start : ℤ) (before : List Sited) (s : Sited)
-    → depth_behind start (before ++ s ∷ []) ≡ depth_after s.entry (depth_behind start before)
-unfolding depth_behind
-depth_behind-append start before s =
+pub depth_after_all-append : (start : ℤ) (before : List Sited) (s : Sited)
+    → depth_after_all start (before ++ s ∷ []) ≡ depth_after s.entry (depth_after_all start before)
+unfolding depth_after_all
+depth_after_all-append start before s =
     rw (
       count_last (λ x. x.entry.has_children) before s 0,
       count_last (λ x. is_null x.entry) before s 0,
@@ -51,46 +51,46 @@ depth_behind-append start before s =
     (one_more (is_null s.entry) s.entry.has_children start
     (count_by (λ x. x.entry.has_children) before) (count_by (λ x. is_null x.entry) before))
 
-depth_behind-none : (start : ℤ) → depth_behind start [] ≡ start
-unfolding depth_behind
-depth_behind-none start = omega (arith, ints)
+depth_after_all-none : (start : ℤ) → depth_after_all start [] ≡ start
+unfolding depth_after_all
+depth_after_all-none start = omega (arith, ints)
 
-one_behind : (s t : ℤ) (bs cs : List Sited) (x : Sited) → depth_behind s bs ≡ depth_behind t cs
-    → depth_behind s (bs ++ x ∷ []) ≡ depth_behind t (cs ++ x ∷ [])
-one_behind s t bs cs x e =
-    depth_behind-append s bs x ∙ ap (depth_after x.entry) e ∙ sym (depth_behind-append t cs x)
+one_after : (s t : ℤ) (bs cs : List Sited) (x : Sited) → depth_after_all s bs ≡ depth_after_all t cs
+    → depth_after_all s (bs ++ x ∷ []) ≡ depth_after_all t (cs ++ x ∷ [])
+one_after s t bs cs x e =
+    depth_after_all-append s bs x ∙ ap (depth_after x.entry) e ∙ sym (depth_after_all-append t cs x)
 
 -- where the depths of two places are the same, so are those of the rows from there on
 same_depths : (s t : ℤ) (bs cs : List Sited) (rest : List Sited)
-    → depth_behind s bs ≡ depth_behind t cs → rows_behind s bs rest ≡ rows_behind t cs rest
-unfolding rows_behind
+    → depth_after_all s bs ≡ depth_after_all t cs → rows_after s bs rest ≡ rows_after t cs rest
+unfolding rows_after
 same_depths s t bs cs [] e = refl
 same_depths s t bs cs (x ∷ rest) e =
-    rw (e, same_depths s t (bs ++ x ∷ []) (cs ++ x ∷ []) rest (one_behind s t bs cs x e)) refl
+    rw (e, same_depths s t (bs ++ x ∷ []) (cs ++ x ∷ []) rest (one_after s t bs cs x e)) refl
 
-same_stop : (s t : ℤ) (bs cs rest : List Sited) → depth_behind s bs ≡ depth_behind t cs
-    → depth_behind s (bs ++ rest) ≡ depth_behind t (cs ++ rest)
+same_stop : (s t : ℤ) (bs cs rest : List Sited) → depth_after_all s bs ≡ depth_after_all t cs
+    → depth_after_all s (bs ++ rest) ≡ depth_after_all t (cs ++ rest)
 same_stop s t bs cs [] e = rw (append-nil bs, append-nil cs) e
 same_stop s t bs cs (x ∷ rest) e =
     rw (← append_assoc bs (x ∷ []) rest, ← append_assoc cs (x ∷ []) rest)
-    (same_stop s t (bs ++ x ∷ []) (cs ++ x ∷ []) rest (one_behind s t bs cs x e))
+    (same_stop s t (bs ++ x ∷ []) (cs ++ x ∷ []) rest (one_after s t bs cs x e))
 
-first_behind : (depth : ℤ) (s : Sited)
-    → depth_behind depth (s ∷ []) ≡ depth_behind (depth_after s.entry depth) []
-first_behind depth s =
-    depth_behind-append depth [] s ∙ ap (depth_after s.entry) (depth_behind-none depth)
-    ∙ sym (depth_behind-none (depth_after s.entry depth))
+first_after : (depth : ℤ) (s : Sited)
+    → depth_after_all depth (s ∷ []) ≡ depth_after_all (depth_after s.entry depth) []
+first_after depth s =
+    depth_after_all-append depth [] s ∙ ap (depth_after s.entry) (depth_after_all-none depth)
+    ∙ sym (depth_after_all-none (depth_after s.entry depth))
 
 -- the depths of the entries after a first one are counted from the depth after it
 rows-first : (depth : ℤ) (s : Sited) (rest : List Sited)
-    → rows_behind depth [] (s ∷ rest)
+    → rows_after depth [] (s ∷ rest)
     ≡ record { offset = s.offset; next = s.next; depth = depth; entry = s.entry }
-    ∷ rows_behind (depth_after s.entry depth) [] rest
-unfolding rows_behind
+    ∷ rows_after (depth_after s.entry depth) [] rest
+unfolding rows_after
 rows-first depth s rest =
     rw (
-      depth_behind-none depth,
-      same_depths depth (depth_after s.entry depth) (s ∷ []) [] rest (first_behind depth s),
+      depth_after_all-none depth,
+      same_depths depth (depth_after s.entry depth) (s ∷ []) [] rest (first_after depth s),
     ) refl
 
 module _ (next : View → Reads Entry) (end : ℕ) where
@@ -115,20 +115,20 @@ module _ (next : View → Reads Entry) (end : ℕ) where
   -- where no byte is left there is no row
   pub ahead_ended : (depth : ℤ) (v : View) → length v.bytes ≡ 0
       → ahead_at next end depth v ≡ no_row None (offset_of_view end v) depth
-  unfolding ahead_at sited_or_end rows_behind
+  unfolding ahead_at sited_or_end rows_after
   ahead_ended depth v none =
       let t : (length v.bytes == 0) ≡ true = rw none refl in
       let is : Err (ending v None) ≡ sited_or_end next end v = rw t refl in
-      rw (entries_ended v (ending v None) is, depth_behind-none depth) refl
+      rw (entries_ended v (ending v None) is, depth_after_all-none depth) refl
 
   -- a refusal ends the rows
   pub ahead_refused : (depth : ℤ) (v : View) (e : Error) → (length v.bytes ≡ 0 → ⊥) → Err e ≡ next v
       → ahead_at next end depth v ≡ no_row (Some e) (offset_of_view end v) depth
-  unfolding ahead_at sited_or_end rows_behind
+  unfolding ahead_at sited_or_end rows_after
   ahead_refused depth v e some h =
       let t : (length v.bytes == 0) ≡ false = ne_eqb (length v.bytes) 0 some in
       let is : Err (ending v (Some e)) ≡ sited_or_end next end v = rw (t, ← h) refl in
-      rw (entries_ended v (ending v (Some e)) is, depth_behind-none depth) refl
+      rw (entries_ended v (ending v (Some e)) is, depth_after_all-none depth) refl
 
   module _ (shorter : (v w : View) (e : Entry) → Ok (e, w) ≡ next v
       → length w.bytes < length v.bytes) where
@@ -176,5 +176,5 @@ module _ (next : View → Reads Entry) (end : ℕ) where
         let all : entries_at next end v ≡ then_item (site v e w) (entries_at next end w) =
         chain_more size (sited_or_end next end) smaller cut_short v (site v e w) w is in
         let stop = same_stop depth (depth_after e depth) (site v e w ∷ []) [] rest
-        (first_behind depth (site v e w)) in
+        (first_after depth (site v e w)) in
         rw (all, rows-first depth (site v e w) rest, stop) refl

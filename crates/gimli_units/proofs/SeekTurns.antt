@@ -7,11 +7,11 @@ use Rattle.std.specs.Ordering.{int_eq}
 use Rattle.gimli_base.specs.declared.error.Error.{Error}
 use Rattle.gimli_base.proofs.Later.{IsLater-length}
 use Rattle.gimli_units.specs.Entry.{is_null}
-use Rattle.gimli_units.specs.CursorMoves.{CursorView, IsSound}
-use Rattle.gimli_units.specs.CursorRead.{HasRead, an_entry, the_end, a_refusal, leave_entry}
-use Rattle.gimli_units.specs.CursorRead.{HasPassed, a_pass, no_pass, HasSought}
-use Rattle.gimli_units.specs.CursorRead.{HasPassedMany, HasPassedTo, IsRefusedAfter}
-use Rattle.gimli_units.specs.CursorRead.{without_entry, passed_over}
+use Rattle.gimli_units.specs.CursorModel.{CursorView, IsSound}
+use Rattle.gimli_units.specs.SearchSteps.{HasRead, an_entry, the_end, a_refusal, leave_entry}
+use Rattle.gimli_units.specs.SearchSteps.{HasPassed, a_pass, no_pass, HasSought}
+use Rattle.gimli_units.specs.SearchSteps.{HasPassedMany, HasPassedTo, IsRefusedAfter}
+use Rattle.gimli_units.specs.SearchSteps.{without_entry, passed_over}
 use Rattle.gimli_units.specs.RawPlace.{RawPlace}
 use Rattle.gimli_units.proofs.CursorSteps.{sound_read}
 use Rattle.gimli_units.proofs.PassedOn.{sound_pass}

@@ -18,13 +18,13 @@ use Rattle.gimli_units.specs.RawPlace.{next_offset_of, below_flag, depth_after}
 use Rattle.gimli_units.specs.Kind.{null, leaf, parent, sibling_of}
 use Rattle.gimli_units.specs.Honest.{target, within, usable_target, AreHonestUntil}
 use Rattle.gimli_units.specs.CursorPlace.{seek, first_of_rows, has_depth}
-use Rattle.gimli_units.specs.CursorMoves.{CursorView, next_of, rows_of, rows_from, place_of}
-use Rattle.gimli_units.specs.CursorMoves.{last_row, followed_to, view_from, IsHonestFor}
-use Rattle.gimli_units.specs.CursorMoves.{IsPlaceAhead, IsReadOnce, IsReadUpTo, reads_ahead}
-use Rattle.gimli_units.specs.CursorMoves.{one_if_left, IsSound, IsTrueEntry, IsRefused}
-use Rattle.gimli_units.specs.CursorRead.{stands_at, stands_if, after_entry, after_refusal, HasRead}
-use Rattle.gimli_units.specs.CursorRead.{an_entry, the_end, a_refusal, leave_entry, at_depth, at_end}
-use Rattle.gimli_units.specs.CursorRead.{at_refusal, Searches, HasSought}
+use Rattle.gimli_units.specs.CursorModel.{CursorView, next_of, rows_of, rows_from, place_of}
+use Rattle.gimli_units.specs.CursorModel.{last_row, followed_to, view_from, IsHonestFor}
+use Rattle.gimli_units.specs.CursorModel.{IsPlaceAhead, IsReadOnce, IsReadUpTo, reads_ahead}
+use Rattle.gimli_units.specs.CursorModel.{one_if_left, IsSound, IsTrueEntry, IsRefused}
+use Rattle.gimli_units.specs.SearchSteps.{stands_at, stands_if, after_entry, after_refusal, HasRead}
+use Rattle.gimli_units.specs.SearchSteps.{an_entry, the_end, a_refusal, leave_entry, at_depth, at_end}
+use Rattle.gimli_units.specs.SearchSteps.{at_refusal, Searches, HasSought}
 use Rattle.gimli_units.proofs.CursorSteps.{rows_entry, rows_end, rows_refusal, rows_over}
 use Rattle.gimli_units.proofs.Flagless.{entry_at-flagless}
 use Rattle.gimli_units.proofs.Splits.{differs, equal, at_least, jump}
@@ -101,11 +101,11 @@ module _ (limit : ℕ) (depth : ℤ) (offset : ℕ) where
           let b = followed_bounds c t leads in
           let h = honest b.0 in
           let up = parent_depth c t b.1 in
-          let behind = s.behind up.0 ∙ up.1 in
+          let after = s.after up.0 ∙ up.1 in
           let k = jump (next_of limit c.raw) c.raw.end
           (λ v w e. entry_at-later limit c.raw.encoding (codes_of c.raw.abbreviations) v e w)
           (entry_at-flagless limit c.raw.encoding (codes_of c.raw.abbreviations))
-          c.raw.rest c.raw.depth c.depth depth offset t s.fits (omega (arith, ints, behind))
+          c.raw.rest c.raw.depth c.depth depth offset t s.fits (omega (arith, ints, after))
           (at_least depth c.depth deep) (h.current deep t b.1) in
           record { same = k.same; ahead = λ f. k.honest h.ahead; places = k.places }
 

@@ -102,13 +102,13 @@ module _ (next : View → Reads Entry) (end : ℕ)
       cases true closed on =
           let leads_here : Some r.next ≡ Some t = rw closed at leads in
           let here : r.next ≡ t = cc in
-          let behind = closed_depth v w r.entry d depth is.reads (rw is.depth_is at closed) in
+          let after = closed_depth v w r.entry d depth is.reads (rw is.depth_is at closed) in
           record {
             rest = rows;
             view = w;
             later = IsLater-weaker 1 0 v w (omega arith) (later v w r.entry is.reads);
-            at = sym here ∙ is.behind;
-            are = rw behind at more;
+            at = sym here ∙ is.after;
+            are = rw after at more;
             same = rw deeper refl;
             honest = λ h. (h deeper).1;
             places = λ o x p. inr (deeper, p);

@@ -11,10 +11,10 @@ use Rattle.gimli_base.specs.Table.{Table, codes_of}
 use Rattle.gimli_units.specs.Unit.{UnitView, header_size, in_bounds, range_from, entries_in}
 use Rattle.gimli_units.specs.Unit.{entries_from}
 use Rattle.gimli_units.specs.Honest.{AreHonest}
-use Rattle.gimli_units.specs.CursorMoves.{CursorView, rows_of}
+use Rattle.gimli_units.specs.CursorModel.{CursorView, rows_of}
 use Rattle.gimli_units.specs.CursorStart.{before_first, cursor_start}
 use Rattle.gimli_units.specs.TreeMoves.{TreeView, before_root, tree_from}
-use Rattle.gimli_units.specs.CursorMoves.{IsHonestCursor}
+use Rattle.gimli_units.specs.CursorModel.{IsHonestCursor}
 use Rattle.gimli_units.proofs.PlaceLaw.{honest_start}
 use Rattle.gimli_units.specs.UnitRows.{start_view, IsHonestAt, IsHonestFrom}
 

@@ -36,12 +36,12 @@ module _ (limit : ℕ) (e : Encoding) where
   both s ss ready well others a b v first second le bytes =
       let here : a ≤ length v.bytes = omega (arith, le) in
       let left : length (cut a v).bytes ≡ length v.bytes - a = length-drop a v.bytes in
-      let behind : b ≤ length (cut a v).bytes = omega (arith, le, left) in
+      let after : b ≤ length (cut a v).bytes = omega (arith, le, left) in
       let one : left_by (attribute_at limit e s v) ≡ Ok (tt, cut a v)
       = attribute_any limit e a (is_ref8 s) ready v bytes s refl well first ∙ skip_ok a v here in
       left_by_all limit e s ss v
       ∙ ap (λ (r : Passed). r >>= λ p. left_by (attributes_at limit e ss p.1)) one
-      ∙ others b (cut a v) second behind (All-drop (λ x. x < 256) a v.bytes bytes)
+      ∙ others b (cut a v) second after (All-drop (λ x. x < 256) a v.bytes bytes)
       ∙ ap (λ (u : View). Ok (tt, u)) (cut-cut a b v)
 
   together : (ss : List Specification) → AllByRecursion Ready ss → AllByRecursion IsWellFormed ss

@@ -13,12 +13,12 @@ use Rattle.gimli_units.specs.Honest.{AreHonest}
 use Rattle.gimli_units.specs.Unit.{UnitView, whole_length, header_size, range_from, some_entry}
 use Rattle.gimli_units.specs.Unit.{unit_entry_at}
 use Rattle.gimli_units.specs.CursorPlace.{is_entry, has_depth, skip_until, seek, first_of_rows}
-use Rattle.gimli_units.specs.CursorMoves.{CursorView, next_of, rows_of, place_of, view_from}
-use Rattle.gimli_units.specs.CursorMoves.{IsHonestFor}
+use Rattle.gimli_units.specs.CursorModel.{CursorView, next_of, rows_of, place_of, view_from}
+use Rattle.gimli_units.specs.CursorModel.{IsHonestFor}
 use Rattle.gimli_units.proofs.CursorLaw.{StandsIn, unit_view, header_low, entry_law}
 use Rattle.gimli_units.specs.CursorStart.{before_first}
 use Rattle.gimli_units.specs.TreeMoves.{TreeView, HasBegun, HasGoneOn}
-use Rattle.gimli_units.specs.CursorMoves.{IsHonestCursor}
+use Rattle.gimli_units.specs.CursorModel.{IsHonestCursor}
 use Rattle.gimli_units.proofs.PlaceLaw.{honest_until, honest_skip, linked_skip}
 use Rattle.gimli_units.proofs.PlaceLaw.{linked_rows, arrived}
 

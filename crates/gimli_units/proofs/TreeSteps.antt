@@ -20,10 +20,10 @@ use Rattle.gimli_units.specs.Unit.{UnitView, whole_length, header_size, in_bound
 use Rattle.gimli_units.specs.Unit.{entries_in, entries_from, some_entry}
 use Rattle.gimli_units.specs.CursorPlace.{is_entry, has_depth, arrive, skip_until, seek}
 use Rattle.gimli_units.specs.CursorPlace.{first_of_rows}
-use Rattle.gimli_units.specs.CursorMoves.{CursorView, next_of, rows_of, place_of, IsHonestFor}
-use Rattle.gimli_units.specs.CursorMoves.{IsTrueEntry, IsSound}
-use Rattle.gimli_units.specs.CursorRead.{after_entry, after_refusal, HasRead, an_entry, the_end}
-use Rattle.gimli_units.specs.CursorRead.{a_refusal, HasSought}
+use Rattle.gimli_units.specs.CursorModel.{CursorView, next_of, rows_of, place_of, IsHonestFor}
+use Rattle.gimli_units.specs.CursorModel.{IsTrueEntry, IsSound}
+use Rattle.gimli_units.specs.SearchSteps.{after_entry, after_refusal, HasRead, an_entry, the_end}
+use Rattle.gimli_units.specs.SearchSteps.{a_refusal, HasSought}
 use Rattle.gimli_units.specs.CursorStart.{before_first}
 use Rattle.gimli_units.specs.TreePlace.{TreeMoved, Lists, list_end, at_root, to_root}
 use Rattle.gimli_units.specs.TreePlace.{found_in, to_next}
@@ -41,7 +41,7 @@ first_sound p small fits depth = record {
   shallow = omega (arith, small);
   fits = fits;
   next_shallow = omega (arith, ints, small, depth);
-  behind = λ entry. absurd (cc);
+  after = λ entry. absurd (cc);
   past = λ entry. absurd (cc);
 }
 
@@ -323,16 +323,16 @@ found_is limit d outer start (Ok false) c some none = found_null limit d outer s
 found_is limit d outer start (Err e) c some none = refl
 
 -- after an entry of a depth the next one is no less deep
-no_less : (e : Entry) (behind d : ℤ) → is_null e ≡ false → behind ≡ depth_after e d → d ≤ℤ behind
-no_less e behind d entry is = cases e.has_children (is ∙ rw entry refl)
+no_less : (e : Entry) (after d : ℤ) → is_null e ≡ false → after ≡ depth_after e d → d ≤ℤ after
+no_less e after d entry is = cases e.has_children (is ∙ rw entry refl)
   where
-    cases : (flag : Bool) → behind ≡ below_flag flag d → d ≤ℤ behind
+    cases : (flag : Bool) → after ≡ below_flag flag d → d ≤ℤ after
     cases true h = omega (arith, ints, h)
     cases false h = omega (arith, ints, h)
 
 -- a list that is closed is at its end
 pub closed_end : (limit : ℕ) (t : TreeView) (d : ℤ) (opened : Bool) (end : ℕ) → opened ≡ false
-    → list_end ≡ (to_next end (in_lists limit t (list_of opened d ∷ []))).told
+    → list_end ≡ (to_next end (in_lists limit t (list_of opened d ∷ []))).answer
 unfolding to_next
 closed_end limit t d opened end is = rw is refl
 
@@ -370,14 +370,14 @@ module _ (limit : ℕ) (d : ℤ) (t : TreeView) (s : IsTree t) (outcome : Result
     past = λ is entry. let before = s.sound.past entry in let after = (h.yes is).0.after in
         omega (arith, before, after);
     inside = λ is. let y = h.yes is in
-        no_less c.entry c.raw.depth d y.1 (sound.behind y.1 ∙ ap (depth_after c.entry) y.2);
+        no_less c.entry c.raw.depth d y.1 (sound.after y.1 ∙ ap (depth_after c.entry) y.2);
   }
 
 -- an open list that is at its end, or a closed one, answers so
-pub end_told : (limit : ℕ) (old new : TreeView) (depth : ℤ) (is_open : Bool)
+pub end_answer : (limit : ℕ) (old new : TreeView) (depth : ℤ) (is_open : Bool)
     → (is_open ≡ true → HasGoneOn limit depth old (Ok false) new)
     → IsHonestFor limit depth old.cursor
-    → list_end ≡ (to_next old.start.end (in_lists limit old (list_of is_open depth ∷ []))).told
-end_told limit old new depth true gone honest =
-    ap (λ (m : TreeMoved). m.told) ((gone refl).goes honest [])
-end_told limit old new depth false gone honest = closed_end limit old depth false old.start.end refl
+    → list_end ≡ (to_next old.start.end (in_lists limit old (list_of is_open depth ∷ []))).answer
+end_answer limit old new depth true gone honest =
+    ap (λ (m : TreeMoved). m.answer) ((gone refl).goes honest [])
+end_answer limit old new depth false gone honest = closed_end limit old depth false old.start.end refl

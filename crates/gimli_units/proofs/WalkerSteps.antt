@@ -4,12 +4,12 @@ use Rattle.std.proofs.Common.{Err, refl, ◌∙◌, arith}
 use Rattle.std.specs.Prelude.{IfOk}
 use Rattle.gimli_base.specs.declared.error.Error.{Error}
 use Rattle.gimli_base.specs.Reading.{UnlessMemory}
-use Rattle.gimli_units.specs.CursorMoves.{IsOver}
+use Rattle.gimli_units.specs.CursorModel.{IsOver}
 use Rattle.gimli_units.specs.TreePlace.{Lists, no_node, list_end, to_next, to_enter, to_leave}
 use Rattle.gimli_units.specs.TreeMoves.{TreeView, in_lists, gone_on}
-use Rattle.gimli_units.specs.TreeWalker.{Standing, at_none, standing_place, moved_to, told_asked}
-use Rattle.gimli_units.specs.TreeWalker.{after_asked, HasAskedOne, IsHonestIn, told_of}
-use Rattle.gimli_units.specs.TreeWalker.{entered_from, told_entered, left_from, are_some, told_left}
+use Rattle.gimli_units.specs.TreeWalker.{Standing, at_none, standing_place, moved_to, asked_answer}
+use Rattle.gimli_units.specs.TreeWalker.{after_asked, HasAskedOne, IsHonestIn, walker_answer}
+use Rattle.gimli_units.specs.TreeWalker.{entered_from, entered_answer, left_from, are_some, left_answer}
 use Rattle.gimli_units.proofs.Onward.{unless_then}
 
 pub if_ok : {A : Type 0} {P Q : A → Type 0} → (r : Result A Error) → IfOk r P
@@ -19,7 +19,7 @@ if_ok (Err e) p f = tt
 
 module _ (limit : ℕ) where
   left_at : (t : TreeView) (on : Bool) (lists : Lists)
-      → moved_to limit (told_left (are_some lists))
+      → moved_to limit (left_answer (are_some lists))
       (left_from lists (record { tree = t; is_on = on; lists = lists }))
       ≡ to_leave (standing_place limit (record { tree = t; is_on = on; lists = lists }))
   unfolding to_leave
@@ -30,11 +30,11 @@ module _ (limit : ℕ) where
 
   pub left_goes : (old new : Standing) (b : Bool)
       → (b ≡ are_some old.lists) × (new ≡ left_from old.lists old)
-      → moved_to limit (told_left b) new ≡ to_leave (standing_place limit old)
+      → moved_to limit (left_answer b) new ≡ to_leave (standing_place limit old)
   left_goes old new b h = rw (h.0, h.1) (left_at old.tree old.is_on old.lists)
 
   entered_at : (t : TreeView) (on : Bool) (lists : Lists)
-      → moved_to limit (told_entered on)
+      → moved_to limit (entered_answer on)
       (entered_from (record { tree = t; is_on = on; lists = lists }))
       ≡ to_enter (standing_place limit (record { tree = t; is_on = on; lists = lists }))
   unfolding to_enter
@@ -42,7 +42,7 @@ module _ (limit : ℕ) where
   entered_at t false lists = refl
 
   pub entered_goes : (old new : Standing) (b : Bool) → (b ≡ old.is_on) × (new ≡ entered_from old)
-      → moved_to limit (told_entered b) new ≡ to_enter (standing_place limit old)
+      → moved_to limit (entered_answer b) new ≡ to_enter (standing_place limit old)
   entered_goes old new b h = rw (h.0, h.1) (entered_at old.tree old.is_on old.lists)
 
   none_at : (t : TreeView) (on : Bool) (end : ℕ)
@@ -63,7 +63,7 @@ module _ (limit : ℕ) where
       (n : TreeView) (new : Standing) → outcome ≡ Ok false → n ≡ t
       → new ≡ after_asked None outer outcome n
       → UnlessMemory outcome
-      (moved_to limit (told_asked outcome n) new
+      (moved_to limit (asked_answer outcome n) new
       ≡ to_next end
       (standing_place limit (record { tree = t; is_on = on; lists = None ∷ outer })))
   closed_goes t on outer end (Ok true) n new is same stands = absurd (cc)
@@ -80,7 +80,7 @@ module _ (limit : ℕ) where
 
   as_gone : (d : ℤ) (outer : Lists) (outcome : Result Bool Error) (n : TreeView) (new : Standing)
       → new ≡ after_asked (Some d) outer outcome n
-      → moved_to limit (told_asked outcome n) new ≡ gone_on limit d outer outcome n
+      → moved_to limit (asked_answer outcome n) new ≡ gone_on limit d outer outcome n
   as_gone d outer (Ok true) n new h = rw h refl
   as_gone d outer (Ok false) n new h = rw h refl
   as_gone d outer (Err e) n new h = rw h refl
@@ -90,7 +90,7 @@ module _ (limit : ℕ) where
       outcome new
       → IsHonestIn limit lists t
       → UnlessMemory outcome
-      (moved_to limit (told_of lists outcome new.tree) new
+      (moved_to limit (walker_answer lists outcome new.tree) new
       ≡ to_next t.start.end
       (standing_place limit (record { tree = t; is_on = on; lists = lists })))
   asked_at t on [] outcome new h honest = rw (h.0, h.1) (none_at t on t.start.end)
@@ -104,7 +104,7 @@ module _ (limit : ℕ) where
   pub asked_goes : (old new : Standing) (outcome : Result Bool Error)
       → HasAskedOne limit old.lists old outcome new → IsHonestIn limit old.lists old.tree
       → UnlessMemory outcome
-      (moved_to limit (told_of old.lists outcome new.tree) new
+      (moved_to limit (walker_answer old.lists outcome new.tree) new
       ≡ to_next old.tree.start.end (standing_place limit old))
   asked_goes old new outcome h honest = asked_at old.tree old.is_on old.lists outcome new h honest
 

@@ -14,13 +14,13 @@ use Rattle.gimli_units.proofs.EntryReads.{entry_at-shorter}
 use Rattle.gimli_units.specs.RawPlace.{RawPlace, next_offset_of}
 use Rattle.gimli_units.specs.Rows.{Row}
 use Rattle.gimli_units.specs.CursorPlace.{is_entry, next_in_depth_first_order, next_of_depth, seek}
-use Rattle.gimli_units.specs.CursorMoves.{CursorView, next_of, rows_of, place_of, last_row}
-use Rattle.gimli_units.specs.CursorMoves.{followed_to, Goes, IsPlaceAhead, IsReadOnce, IsSound}
-use Rattle.gimli_units.specs.CursorMoves.{one_if_left}
-use Rattle.gimli_units.specs.CursorRead.{after_entry, after_refusal, after_end, HasRead, an_entry}
-use Rattle.gimli_units.specs.CursorRead.{the_end, a_refusal, HasSought}
+use Rattle.gimli_units.specs.CursorModel.{CursorView, next_of, rows_of, place_of, last_row}
+use Rattle.gimli_units.specs.CursorModel.{followed_to, Goes, IsPlaceAhead, IsReadOnce, IsSound}
+use Rattle.gimli_units.specs.CursorModel.{one_if_left}
+use Rattle.gimli_units.specs.SearchSteps.{after_entry, after_refusal, after_end, HasRead, an_entry}
+use Rattle.gimli_units.specs.SearchSteps.{the_end, a_refusal, HasSought}
 use Rattle.gimli_units.proofs.CursorSteps.{read_goes, rows_entry, rows_end, rows_refusal, rows_over}
-use Rattle.gimli_units.specs.CursorLent.{HasReadOn, HasWalked, HasWalkedOver}
+use Rattle.gimli_units.specs.CursorContracts.{HasReadOn, HasWalked, HasWalkedOver}
 use Rattle.gimli_units.proofs.Onward.{Onward, same_unit, onward_start, onward_read, read_once}
 use Rattle.gimli_units.proofs.Onward.{read_up_to, true_entry, true_refusal, true_shorter, no_entry}
 use Rattle.gimli_units.proofs.Onward.{unless_then}

@@ -6,7 +6,7 @@ use Rattle.gimli_base.specs.Table.{Table}
 use Rattle.gimli_units.specs.Entry.{null_entry}
 use Rattle.gimli_units.specs.RawPlace.{RawPlace}
 use Rattle.gimli_units.specs.Unit.{UnitView, entries_of, entries_from}
-use Rattle.gimli_units.specs.CursorMoves.{CursorView}
+use Rattle.gimli_units.specs.CursorModel.{CursorView}
 
 -- before the first step there is no current entry, the pair is (0, 0), and nothing was read
 abbrev pub before_first : Bool → RawPlace → CursorView

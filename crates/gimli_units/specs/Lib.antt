@@ -11,9 +11,9 @@ pub mod RawPlace
 pub mod Kind
 pub mod Honest
 pub mod CursorPlace
-pub mod CursorMoves
-pub mod CursorRead
-pub mod CursorLent
+pub mod CursorModel
+pub mod SearchSteps
+pub mod CursorContracts
 pub mod UnitKind
 pub mod Unit
 pub mod CursorStart

@@ -42,8 +42,8 @@ entries_at next end v =
     chain (λ w. length w.bytes) (sited_or_end next end) (record { refusal = None; stop = end }) v
 
 -- the depth of the place after these entries: the children flags among them, less the nulls
-unfoldable pub depth_behind : ℤ → List Sited → ℤ
-depth_behind start before =
+unfoldable pub depth_after_all : ℤ → List Sited → ℤ
+depth_after_all start before =
     start
     +ℤ (pos (count_by (λ s. s.entry.has_children) before)
     -ℤ pos (count_by (λ s. is_null s.entry) before))
@@ -56,11 +56,11 @@ pub record Row : Type 0 where
   pub entry : Entry
 
 -- each entry with the depth of its place, counted over the entries before it
-unfoldable pub rows_behind : ℤ → List Sited → List Sited → List Row
-rows_behind start before [] = []
-rows_behind start before (s ∷ rest) =
-    record { offset = s.offset; next = s.next; depth = depth_behind start before; entry = s.entry }
-    ∷ rows_behind start (before ++ s ∷ []) rest
+unfoldable pub rows_after : ℤ → List Sited → List Sited → List Row
+rows_after start before [] = []
+rows_after start before (s ∷ rest) =
+    record { offset = s.offset; next = s.next; depth = depth_after_all start before; entry = s.entry }
+    ∷ rows_after start (before ++ s ∷ []) rest
 
 -- The rows that are ahead of a place, and how they end. `stop` and `stop_depth` are the offset and
 -- the depth of the place after the last row.
@@ -75,10 +75,10 @@ unfoldable pub ahead_at : (View → Reads Entry) → ℕ → ℤ → View → Ah
 ahead_at next end depth v =
     let es : Chain Sited EntriesEnd = entries_at next end v in
     record {
-      rows = rows_behind depth [] es.items;
+      rows = rows_after depth [] es.items;
       refusal = es.ending.refusal;
       stop = es.ending.stop;
-      stop_depth = depth_behind depth es.items;
+      stop_depth = depth_after_all depth es.items;
     }
 
 -- no row

@@ -10,14 +10,14 @@ use Rattle.gimli_base.specs.View.{IsLater}
 use Rattle.gimli_units.specs.Entry.{is_null}
 use Rattle.gimli_units.specs.RawPlace.{RawPlace, next_offset_of}
 use Rattle.gimli_units.specs.Unit.{UnitView, entries_from, some_entry}
-use Rattle.gimli_units.specs.CursorMoves.{CursorView, next_of, rows_of, takes_memory_at, place_of}
-use Rattle.gimli_units.specs.CursorMoves.{followed_to, view_from, one_if_left, AreFewReads}
-use Rattle.gimli_units.specs.CursorMoves.{IsAheadOf, IsHonestFor, IsTrueEntry}
-use Rattle.gimli_units.specs.CursorMoves.{IsSameUnit, IsFurther, IsSound}
+use Rattle.gimli_units.specs.CursorModel.{CursorView, next_of, rows_of, takes_memory_at, place_of}
+use Rattle.gimli_units.specs.CursorModel.{followed_to, view_from, one_if_left, AreFewReads}
+use Rattle.gimli_units.specs.CursorModel.{IsAheadOf, IsHonestFor, IsTrueEntry}
+use Rattle.gimli_units.specs.CursorModel.{IsSameUnit, IsFurther, IsSound}
 use Rattle.gimli_units.specs.CursorPlace.{has_depth, first_of_rows}
-use Rattle.gimli_units.specs.CursorRead.{HasSought, after_refusal}
+use Rattle.gimli_units.specs.SearchSteps.{HasSought, after_refusal}
 use Rattle.gimli_units.specs.CursorStart.{before_first}
-use Rattle.gimli_units.specs.TreePlace.{Node, Lists, TreePlace, Told, a_node, list_end, a_fault}
+use Rattle.gimli_units.specs.TreePlace.{Node, Lists, TreePlace, StepAnswer, a_node, list_end, a_fault}
 use Rattle.gimli_units.specs.TreePlace.{TreeMoved, to_root, to_next}
 
 -- A tree: where its entries begin, and a cursor that stands where the last read left it.
@@ -68,27 +68,27 @@ in_lists limit t lists = record { ahead = rows_of limit t.cursor.raw; node = Non
 
 -- the root was asked for
 abbrev pub root_moved : ℕ → Result (Unit {0}) Error → TreeView → TreeMoved
-root_moved limit (Ok u) t = record { told = a_node (node_at t); place = on_node limit t [] }
-root_moved limit (Err e) t = record { told = a_fault e; place = in_lists limit t [] }
+root_moved limit (Ok u) t = record { answer = a_node (node_at t); place = on_node limit t [] }
+root_moved limit (Err e) t = record { answer = a_fault e; place = in_lists limit t [] }
 
 -- the next node of an open list was asked for
 abbrev pub gone_on : ℕ → ℤ → Lists → Result Bool Error → TreeView → TreeMoved
 gone_on limit depth outer (Ok true) t =
-    record { told = a_node (node_at t); place = on_node limit t (Some depth ∷ outer) }
+    record { answer = a_node (node_at t); place = on_node limit t (Some depth ∷ outer) }
 gone_on limit depth outer (Ok false) t =
-    record { told = list_end; place = in_lists limit t (None ∷ outer) }
+    record { answer = list_end; place = in_lists limit t (None ∷ outer) }
 gone_on limit depth outer (Err e) t =
-    record { told = a_fault e; place = in_lists limit t (Some depth ∷ outer) }
+    record { answer = a_fault e; place = in_lists limit t (Some depth ∷ outer) }
 
 -- what the root that is lent, or the next node of a list, answers
-abbrev pub told_root : Result TreeView Error → Told
-told_root (Ok t) = a_node (node_at t)
-told_root (Err e) = a_fault e
+abbrev pub root_answer : Result TreeView Error → StepAnswer
+root_answer (Ok t) = a_node (node_at t)
+root_answer (Err e) = a_fault e
 
-abbrev pub told_next : Result (Option TreeView) Error → Told
-told_next (Ok (Some t)) = a_node (node_at t)
-told_next (Ok None) = list_end
-told_next (Err e) = a_fault e
+abbrev pub next_answer : Result (Option TreeView) Error → StepAnswer
+next_answer (Ok (Some t)) = a_node (node_at t)
+next_answer (Ok None) = list_end
+next_answer (Err e) = a_fault e
 
 -- The root is refused as the entry at the tree's start is, a null too; memory is refused only where
 -- reading it takes some.

@@ -26,17 +26,17 @@ pub record TreePlace : Type 0 where
   pub lists : Lists
 
 -- what a step answers
-pub data Told : Type 0 where
-  a_node : Node → Told
-  list_end : Told
-  has_entered : Told
-  has_left : Told
-  no_node : Told
-  a_fault : Error → Told
+pub data StepAnswer : Type 0 where
+  a_node : Node → StepAnswer
+  list_end : StepAnswer
+  has_entered : StepAnswer
+  has_left : StepAnswer
+  no_node : StepAnswer
+  a_fault : Error → StepAnswer
 
 -- what a step answers, and where it leads
 pub record TreeMoved : Type 0 where
-  pub told : Told
+  pub answer : StepAnswer
   pub place : TreePlace
 
 -- the node where a search over the rows ended, if it ended on an entry
@@ -50,16 +50,16 @@ node_of p = elim p.current [
 abbrev pub at_root : Moved → TreeMoved
 at_root m = elim m.outcome [
   | Err e ↦
-      record { told = a_fault e; place = record { ahead = m.place.ahead; node = None; lists = [] } }
+      record { answer = a_fault e; place = record { ahead = m.place.ahead; node = None; lists = [] } }
   | Ok b ↦ elim (node_of m.place) [
     | None ↦
         record {
-          told = a_fault (NoEntryAtGivenOffset m.place.offset);
+          answer = a_fault (NoEntryAtGivenOffset m.place.offset);
           place = record { ahead = m.place.ahead; node = None; lists = [] };
         }
     | Some n ↦
         record {
-          told = a_node n;
+          answer = a_node n;
           place = record { ahead = m.place.ahead; node = Some n; lists = [] };
         }
   ]
@@ -75,18 +75,18 @@ abbrev pub found_in : ℤ → Lists → Moved → TreeMoved
 found_in depth outer m = elim m.outcome [
   | Err e ↦
       record {
-        told = a_fault e;
+        answer = a_fault e;
         place = record { ahead = m.place.ahead; node = None; lists = Some depth ∷ outer };
       }
   | Ok b ↦ elim (node_of m.place) [
     | None ↦
         record {
-          told = list_end;
+          answer = list_end;
           place = record { ahead = m.place.ahead; node = None; lists = None ∷ outer };
         }
     | Some n ↦
         record {
-          told = a_node n;
+          answer = a_node n;
           place = record { ahead = m.place.ahead; node = Some n; lists = Some depth ∷ outer };
         }
   ]
@@ -95,11 +95,11 @@ found_in depth outer m = elim m.outcome [
 -- Next: in an open list the first row ahead of its depth
 unfoldable pub to_next : ℕ → TreePlace → TreeMoved
 to_next end p = elim p.lists [
-  | [] ↦ record { told = no_node; place = p }
+  | [] ↦ record { answer = no_node; place = p }
   | list ∷ outer ↦ elim list [
     | None ↦
         record {
-          told = list_end;
+          answer = list_end;
           place = record { ahead = p.ahead; node = None; lists = None ∷ outer };
         }
     | Some depth ↦ found_in depth outer (seek end depth 0 p.ahead)
@@ -113,10 +113,10 @@ children_of n = if n.entry.has_children then Some (n.depth +ℤ pos 1) else None
 -- Enter: the node's list
 unfoldable pub to_enter : TreePlace → TreeMoved
 to_enter p = elim p.node [
-  | None ↦ record { told = no_node; place = p }
+  | None ↦ record { answer = no_node; place = p }
   | Some n ↦
       record {
-        told = has_entered;
+        answer = has_entered;
         place = record { ahead = p.ahead; node = None; lists = children_of n ∷ p.lists };
       }
 ]
@@ -124,7 +124,7 @@ to_enter p = elim p.node [
 -- Leave: the innermost list is dropped
 unfoldable pub to_leave : TreePlace → TreeMoved
 to_leave p = elim p.lists [
-  | [] ↦ record { told = no_node; place = p }
+  | [] ↦ record { answer = no_node; place = p }
   | list ∷ outer ↦
-      record { told = has_left; place = record { ahead = p.ahead; node = None; lists = outer } }
+      record { answer = has_left; place = record { ahead = p.ahead; node = None; lists = outer } }
 ]

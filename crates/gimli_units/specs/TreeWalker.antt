@@ -5,9 +5,9 @@ use Rattle.gimli_base.specs.declared.error.Error.{Error}
 use Rattle.gimli_base.specs.View.{View}
 use Rattle.gimli_units.specs.declared.entry.DebuggingInformationEntry.{DebuggingInformationEntry}
 use Rattle.gimli_units.specs.Entry.{entry_of, is_null}
-use Rattle.gimli_units.specs.TreePlace.{Node, Lists, TreePlace, Told, a_node, list_end, has_entered}
+use Rattle.gimli_units.specs.TreePlace.{Node, Lists, TreePlace, StepAnswer, a_node, list_end, has_entered}
 use Rattle.gimli_units.specs.TreePlace.{has_left, no_node, a_fault, TreeMoved, children_of}
-use Rattle.gimli_units.specs.CursorMoves.{IsHonestFor}
+use Rattle.gimli_units.specs.CursorModel.{IsHonestFor}
 use Rattle.gimli_units.specs.TreeMoves.{TreeView, node_at, on_node, in_lists, IsTree, HasGoneOn}
 
 -- Where a walker stands: its tree, whether that stands on a node, and the lists that were entered,
@@ -53,9 +53,9 @@ pub record IsWalker (s : Standing) : Type 0 where
   pub node : s.is_on ≡ true → is_null s.tree.cursor.entry ≡ false
 
 -- Root: what is answered, and where the walker then stands
-abbrev pub told_begun : Result (Unit {0}) Error → TreeView → Told
-told_begun (Ok u) t = a_node (node_at t)
-told_begun (Err e) t = a_fault e
+abbrev pub begun_answer : Result (Unit {0}) Error → TreeView → StepAnswer
+begun_answer (Ok u) t = a_node (node_at t)
+begun_answer (Err e) t = a_fault e
 
 abbrev pub after_begun : Result (Unit {0}) Error → TreeView → Standing
 after_begun (Ok u) t = at_node t []
@@ -67,10 +67,10 @@ WasAsked limit None old outcome new = (outcome ≡ Ok false) × (new ≡ old)
 WasAsked limit (Some depth) old outcome new = HasGoneOn limit depth old outcome new
 
 -- what it answered, and where the walker then stands
-abbrev pub told_asked : Result Bool Error → TreeView → Told
-told_asked (Ok true) t = a_node (node_at t)
-told_asked (Ok false) t = list_end
-told_asked (Err e) t = a_fault e
+abbrev pub asked_answer : Result Bool Error → TreeView → StepAnswer
+asked_answer (Ok true) t = a_node (node_at t)
+asked_answer (Ok false) t = list_end
+asked_answer (Err e) t = a_fault e
 
 abbrev pub after_asked : Option ℤ → Lists → Result Bool Error → TreeView → Standing
 after_asked list outer (Ok true) t = at_node t (list ∷ outer)
@@ -84,9 +84,9 @@ HasAskedOne limit (list ∷ outer) old outcome new =
     WasAsked limit list old.tree outcome new.tree × (new ≡ after_asked list outer outcome new.tree)
 
 -- what that answered
-abbrev pub told_of : Lists → Result Bool Error → TreeView → Told
-told_of [] outcome t = no_node
-told_of (list ∷ outer) outcome t = told_asked outcome t
+abbrev pub walker_answer : Lists → Result Bool Error → TreeView → StepAnswer
+walker_answer [] outcome t = no_node
+walker_answer (list ∷ outer) outcome t = asked_answer outcome t
 
 -- what is asked of the references where the innermost list is asked
 abbrev pub IsHonestIn : ℕ → Lists → TreeView → Type 0
@@ -109,13 +109,13 @@ are_some [] = false
 are_some (list ∷ outer) = true
 
 -- what a step answers, and where it leads
-abbrev pub moved_to : ℕ → Told → Standing → TreeMoved
-moved_to limit told s = record { told = told; place = standing_place limit s }
+abbrev pub moved_to : ℕ → StepAnswer → Standing → TreeMoved
+moved_to limit answer s = record { answer = answer; place = standing_place limit s }
 
-abbrev pub told_entered : Bool → Told
-told_entered true = has_entered
-told_entered false = no_node
+abbrev pub entered_answer : Bool → StepAnswer
+entered_answer true = has_entered
+entered_answer false = no_node
 
-abbrev pub told_left : Bool → Told
-told_left true = has_left
-told_left false = no_node
+abbrev pub left_answer : Bool → StepAnswer
+left_answer true = has_left
+left_answer false = no_node

@@ -22,11 +22,11 @@ use gimli_base::{
     AttributeSpecification, DebugStr, DwAt, DwForm, Encoding, Expression, Reader, Result, Section,
     Step,
 };
-use taker::{Pass, TakeAttribute};
+use sink::{AttributeSink, Ignore};
 
 pub(crate) mod list;
 mod normal;
-pub(crate) mod taker;
+pub(crate) mod sink;
 
 /// An attribute of an entry: a name, the form of its declaration, and a value (DWARF 5, 7.5.4).
 #[derive(Clone, Copy, Debug, PartialEq, Eq, Drop)]
@@ -55,27 +55,27 @@ impl<R, Offset> Attribute<R, Offset> {
 }
 
 impl<R: Reader> Attribute<R> {
-    /// Reads the attribute of a specification and hands it to a taker, which has room for it; put
+    /// Reads the attribute of a specification and hands it to a sink, which has room for it; put
     /// in place where it is called. It is for those who keep declarations of their own: in a unit's
     /// entries `EntriesRaw::read_attribute_to` does the same.
     ///
-    /// Refusals: those of `EntriesRaw::read_attribute`; the input and the taker then stay.
+    /// Refusals: those of `EntriesRaw::read_attribute`; the input and the sink then stay.
     #[inline(always)]
-    pub fn read_to<T: TakeAttribute<R>>(
+    pub fn read_to<T: AttributeSink<R>>(
         input: &mut R,
         encoding: Encoding,
         specification: &AttributeSpecification,
-        taker: &mut T,
+        sink: &mut T,
     ) -> Result<T::Answer>
-        requires { T.has_room taker.old }
-        ensures value { read_of (answer_of (T.stand taker.new) result) (R.view input.new)
-            ≡ map_read (T.taken taker.old)
+        requires { T.has_room sink.old }
+        ensures value { read_of (answer_of (T.stand sink.new) result) (R.view input.new)
+            ≡ map_read (T.taken sink.old)
             (attribute_at R.Offset.limit encoding specification.now (R.view input.old)) }
-        ensures kept { OnErr result ((input.new ≡ input.old) × (taker.new ≡ taker.old)) }
+        ensures kept { OnErr result ((input.new ≡ input.old) × (sink.new ≡ sink.old)) }
     {
         // (2, so that this is another copy of the function than that of a unit's entries)
         let mut rest = input.copy();
-        let taken = read_form::<R, T, 2>(&mut rest, encoding, specification, taker)?;
+        let taken = read_form::<R, T, 2>(&mut rest, encoding, specification, sink)?;
         *input = rest;
         Ok(taken)
     }
@@ -98,7 +98,7 @@ impl<R: Reader> Attribute<R> {
     {
         // (2, as in `read_to`)
         let mut rest = input.copy();
-        read_of_variable_size::<R, Pass, 2>(&mut rest, encoding, specification, &mut Pass)?;
+        read_of_variable_size::<R, Ignore, 2>(&mut rest, encoding, specification, &mut Ignore)?;
         *input = rest;
         Ok(())
     }

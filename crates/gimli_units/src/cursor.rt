@@ -8,12 +8,12 @@ ghost use Rattle.gimli_base.specs.declared.error.Error.TheVariants.{OutOfMemory}
 ghost use Rattle.gimli_units.specs.Entry.{entry_of, is_null, null_entry};
 ghost use Rattle.gimli_units.specs.RawPlace.{next_offset_of};
 ghost use Rattle.gimli_units.specs.CursorPlace.{some_of};
-ghost use Rattle.gimli_units.specs.CursorMoves.{CursorView, cursor_held, Goes, IsSound};
+ghost use Rattle.gimli_units.specs.CursorModel.{CursorView, cursor_held, Goes, IsSound};
 ghost use Rattle.gimli_units.specs.CursorStart.{before_first};
-ghost use Rattle.gimli_units.specs.CursorLent.{HasReadOn, HasWalked, HasWalkedOver};
-ghost use Rattle.gimli_units.specs.CursorRead.{HasRead, HasSought, leave_entry, reference_for};
-ghost use Rattle.gimli_units.specs.CursorRead.{HasPassed, HasPassedTo, IsRefusedAfter};
-ghost use Rattle.gimli_units.specs.CursorRead.{without_entry, passed_over};
+ghost use Rattle.gimli_units.specs.CursorContracts.{HasReadOn, HasWalked, HasWalkedOver};
+ghost use Rattle.gimli_units.specs.SearchSteps.{HasRead, HasSought, leave_entry, reference_for};
+ghost use Rattle.gimli_units.specs.SearchSteps.{HasPassed, HasPassedTo, IsRefusedAfter};
+ghost use Rattle.gimli_units.specs.SearchSteps.{without_entry, passed_over};
 
 use crate::{DebuggingInformationEntry, EntriesRaw, UnitOffset};
 use gimli_base::{Reader, ReaderOffset, Result};
@@ -235,7 +235,7 @@ impl<'abbrev, R: Reader, A: Allocator> EntriesCursor<'abbrev, R, A> {
     }
 
     // Reads on to the next entry that is no null. Answers whether there is one.
-    pub(crate) fn walk_on(&mut self) -> Result<bool>
+    pub(crate) fn advance_dfs(&mut self) -> Result<bool>
         ensures { HasWalked R.Offset.limit self.old result self.new }
     {
         let _ = &self.raw;
@@ -249,7 +249,7 @@ impl<'abbrev, R: Reader, A: Allocator> EntriesCursor<'abbrev, R, A> {
 
     // Goes to the next sibling of the current entry, if there is one. Answers whether there was
     // one.
-    pub(crate) fn walk_over(&mut self) -> Result<bool>
+    pub(crate) fn advance_sibling(&mut self) -> Result<bool>
         ensures { HasWalkedOver R.Offset.limit self.old result self.new }
     {
         if !self.is_on_entry() {

@@ -11,7 +11,7 @@ ghost use Rattle.gimli_units.specs.Entry.{attribute_at};
 ghost use Rattle.gimli_units.specs.Layout.{str_index, addr_index};
 ghost use Rattle.gimli_units.specs.Taking.{has_fixed_size, has_variable_size, made_at, OnTaken};
 
-use crate::attribute::taker::TakeAttribute;
+use crate::attribute::sink::AttributeSink;
 use crate::{AttributeValue, DebugInfoOffset, UnitOffset};
 use gimli_base::{
     AttributeSpecification, DW_AT_data_member_location, DW_AT_frame_base, DW_AT_location,
@@ -196,36 +196,36 @@ fn addr_index<R: Reader>(index: R::Offset) -> AttributeValue<R>
 }
 
 // Hands over the value of one of these forms; with any other form it answers none. Each arm calls
-// the taker itself, so that no code after the `match` has to take the value apart.
+// the sink itself, so that no code after the `match` has to take the value apart.
 macro_rules! hand_over {
-    ($form:expr, $taker:expr, $specification:expr; $($($code:ident)|+ => $value:expr,)*) => {
+    ($form:expr, $sink:expr, $specification:expr; $($($code:ident)|+ => $value:expr,)*) => {
         match $form {
-            $($($code)|+ => Ok(Some($taker.take($specification, $value))),)*
+            $($($code)|+ => Ok(Some($sink.take($specification, $value))),)*
             _ => Ok(None),
         }
     };
 }
 
 // Hands over the value of a form whose size is known before it is read; with any other it answers
-// none, and nothing is read. Where it is refused, the taker stays, and the input is left anywhere.
+// none, and nothing is read. Where it is refused, the sink stays, and the input is left anywhere.
 #[inline(always)]
 #[tactic(auto, unfolding(crate::specs::Form::direct_at, crate::specs::Taking::has_fixed_size, gimli_base::specs::Reading::sized_offset_at))]
-fn read_fixed<R: Reader, T: TakeAttribute<R>>(
+fn read_fixed<R: Reader, T: AttributeSink<R>>(
     input: &mut R,
     encoding: Encoding,
     s: &AttributeSpecification,
     form: DwForm,
-    taker: &mut T,
+    sink: &mut T,
 ) -> Result<Option<T::Answer>>
-    requires { T.has_room taker.old }
+    requires { T.has_room sink.old }
     ensures value { OnTaken result (λ answer.
-        read_of (answer_of (T.stand taker.new) answer) (R.view input.new)
-        ≡ made_at (T.taken taker.old) R.Offset.limit encoding s.now form.0 (R.view input.old)) }
-    ensures refused { OnErr result (taker.new ≡ taker.old) }
+        read_of (answer_of (T.stand sink.new) answer) (R.view input.new)
+        ≡ made_at (T.taken sink.old) R.Offset.limit encoding s.now form.0 (R.view input.old)) }
+    ensures refused { OnErr result (sink.new ≡ sink.old) }
     ensures others { result ≡ Ok None → (R.view input.new ≡ R.view input.old)
-        × (taker.new ≡ taker.old) × (has_fixed_size form.0 ≡ false) }
+        × (sink.new ≡ sink.old) × (has_fixed_size form.0 ≡ false) }
 {
-    hand_over! { form, taker, s;
+    hand_over! { form, sink, s;
         DW_FORM_addr => AttributeValue::Addr(address(input, encoding.address_size)?),
         DW_FORM_data1 => AttributeValue::Data1(input.read_u8()?),
         DW_FORM_data2 => AttributeValue::Data2(input.read_u16()?),
@@ -286,22 +286,22 @@ fn read_fixed<R: Reader, T: TakeAttribute<R>>(
 // The same of the forms of variable size, whose bytes tell how many they are.
 #[inline(always)]
 #[tactic(auto, unfolding(crate::specs::Form::direct_at, crate::specs::Taking::has_variable_size, gimli_base::specs::Reading::sized_offset_at))]
-fn read_variable<R: Reader, T: TakeAttribute<R>>(
+fn read_variable<R: Reader, T: AttributeSink<R>>(
     input: &mut R,
     encoding: Encoding,
     s: &AttributeSpecification,
     form: DwForm,
-    taker: &mut T,
+    sink: &mut T,
 ) -> Result<Option<T::Answer>>
-    requires { T.has_room taker.old }
+    requires { T.has_room sink.old }
     ensures value { OnTaken result (λ answer.
-        read_of (answer_of (T.stand taker.new) answer) (R.view input.new)
-        ≡ made_at (T.taken taker.old) R.Offset.limit encoding s.now form.0 (R.view input.old)) }
-    ensures refused { OnErr result (taker.new ≡ taker.old) }
+        read_of (answer_of (T.stand sink.new) answer) (R.view input.new)
+        ≡ made_at (T.taken sink.old) R.Offset.limit encoding s.now form.0 (R.view input.old)) }
+    ensures refused { OnErr result (sink.new ≡ sink.old) }
     ensures others { result ≡ Ok None → (R.view input.new ≡ R.view input.old)
-        × (taker.new ≡ taker.old) × (has_variable_size form.0 ≡ false) }
+        × (sink.new ≡ sink.old) × (has_variable_size form.0 ≡ false) }
 {
-    hand_over! { form, taker, s;
+    hand_over! { form, sink, s;
         DW_FORM_block1 => AttributeValue::Block(sized_block(input, 1)?),
         DW_FORM_block2 => AttributeValue::Block(sized_block(input, 2)?),
         DW_FORM_block4 => AttributeValue::Block(sized_block(input, 4)?),
@@ -340,129 +340,129 @@ pub(crate) fn direct_form<R: Reader>(input: &mut R, form: DwForm) -> Result<DwFo
 }
 
 // Hands over the attribute of a specification, whose value has this form, which is not indirect;
-// where it is refused, the taker stays, and the input is left anywhere.
+// where it is refused, the sink stays, and the input is left anywhere.
 #[tactic(auto, using(crate::proofs::AttributeTurns::no_form))]
-fn read_direct<R: Reader, T: TakeAttribute<R>>(
+fn read_direct<R: Reader, T: AttributeSink<R>>(
     input: &mut R,
     encoding: Encoding,
     specification: &AttributeSpecification,
     form: DwForm,
-    taker: &mut T,
+    sink: &mut T,
 ) -> Result<T::Answer>
-    requires { T.has_room taker.old }
-    ensures value { read_of (answer_of (T.stand taker.new) result) (R.view input.new)
-        ≡ made_at (T.taken taker.old) R.Offset.limit encoding specification.now form.0
+    requires { T.has_room sink.old }
+    ensures value { read_of (answer_of (T.stand sink.new) result) (R.view input.new)
+        ≡ made_at (T.taken sink.old) R.Offset.limit encoding specification.now form.0
         (R.view input.old) }
-    ensures refused { OnErr result (taker.new ≡ taker.old) }
+    ensures refused { OnErr result (sink.new ≡ sink.old) }
 {
-    if let Some(taken) = read_fixed(input, encoding, specification, form, taker)? {
+    if let Some(taken) = read_fixed(input, encoding, specification, form, sink)? {
         return Ok(taken);
     }
-    if let Some(taken) = read_variable(input, encoding, specification, form, taker)? {
+    if let Some(taken) = read_variable(input, encoding, specification, form, sink)? {
         return Ok(taken);
     }
     Err(Error::UnknownForm(form))
 }
 
 // Hands over the attribute of a specification, whose form may be indirect; where it is refused, the
-// taker stays, and the input is left anywhere.
+// sink stays, and the input is left anywhere.
 #[inline(never)]
 #[tactic(auto, using(crate::proofs::AttributeTurns::made_chained, crate::proofs::AttributeTurns::made_refused))]
-fn read_any<R: Reader, T: TakeAttribute<R>>(
+fn read_any<R: Reader, T: AttributeSink<R>>(
     input: &mut R,
     encoding: Encoding,
     specification: &AttributeSpecification,
-    taker: &mut T,
+    sink: &mut T,
 ) -> Result<T::Answer>
-    requires { T.has_room taker.old }
-    ensures value { read_of (answer_of (T.stand taker.new) result) (R.view input.new)
-        ≡ map_read (T.taken taker.old)
+    requires { T.has_room sink.old }
+    ensures value { read_of (answer_of (T.stand sink.new) result) (R.view input.new)
+        ≡ map_read (T.taken sink.old)
         (attribute_at R.Offset.limit encoding specification.now (R.view input.old)) }
-    ensures refused { OnErr result (taker.new ≡ taker.old) }
+    ensures refused { OnErr result (sink.new ≡ sink.old) }
 {
     // (it says that the form implicit_const has a number)
     let _ = specification.implicit_const_value();
     let form = direct_form(input, specification.form())?;
-    read_direct(input, encoding, specification, form, taker)
+    read_direct(input, encoding, specification, form, sink)
 }
 
-// The same, where `APART` is not 0 on a reader of its own. It is a function of its own, since the
+// The same, where `COPY` is not 0 on a reader of its own. It is a function of its own, since the
 // place of that reader is cleared where its body begins.
 #[inline(always)]
-fn read_apart<R: Reader, T: TakeAttribute<R>, const APART: usize>(
+fn read_on_copy<R: Reader, T: AttributeSink<R>, const COPY: usize>(
     input: &mut R,
     encoding: Encoding,
     specification: &AttributeSpecification,
-    taker: &mut T,
+    sink: &mut T,
 ) -> Result<T::Answer>
-    requires { T.has_room taker.old }
-    ensures value { read_of (answer_of (T.stand taker.new) result) (R.view input.new)
-        ≡ map_read (T.taken taker.old)
+    requires { T.has_room sink.old }
+    ensures value { read_of (answer_of (T.stand sink.new) result) (R.view input.new)
+        ≡ map_read (T.taken sink.old)
         (attribute_at R.Offset.limit encoding specification.now (R.view input.old)) }
-    ensures refused { OnErr result (taker.new ≡ taker.old) }
+    ensures refused { OnErr result (sink.new ≡ sink.old) }
 {
-    if APART == 0 {
-        return read_any(input, encoding, specification, taker);
+    if COPY == 0 {
+        return read_any(input, encoding, specification, sink);
     }
     let mut rest = input.copy();
-    let taken = read_any(&mut rest, encoding, specification, taker)?;
+    let taken = read_any(&mut rest, encoding, specification, sink)?;
     *input = rest;
     Ok(taken)
 }
 
-/// Hands over the attribute of a specification; where it is refused, the taker stays, and the input
-/// is left anywhere. Each form is put in place with what the taker makes of its value; a chain of
-/// indirect forms is followed by a call, where `APART` is not 0 on a reader of its own, so that the
+/// Hands over the attribute of a specification; where it is refused, the sink stays, and the input
+/// is left anywhere. Each form is put in place with what the sink makes of its value; a chain of
+/// indirect forms is followed by a call, where `COPY` is not 0 on a reader of its own, so that the
 /// caller's stays in registers. Each number is another copy of the function: the compiler puts one
 /// in place for one caller.
 #[inline(always)]
 #[tactic(auto, using(crate::proofs::AttributeTurns::made_direct))]
-pub(crate) fn read_form<R: Reader, T: TakeAttribute<R>, const APART: usize>(
+pub(crate) fn read_form<R: Reader, T: AttributeSink<R>, const COPY: usize>(
     input: &mut R,
     encoding: Encoding,
     specification: &AttributeSpecification,
-    taker: &mut T,
+    sink: &mut T,
 ) -> Result<T::Answer>
-    requires { T.has_room taker.old }
-    ensures value { read_of (answer_of (T.stand taker.new) result) (R.view input.new)
-        ≡ map_read (T.taken taker.old)
+    requires { T.has_room sink.old }
+    ensures value { read_of (answer_of (T.stand sink.new) result) (R.view input.new)
+        ≡ map_read (T.taken sink.old)
         (attribute_at R.Offset.limit encoding specification.now (R.view input.old)) }
-    ensures refused { OnErr result (taker.new ≡ taker.old) }
+    ensures refused { OnErr result (sink.new ≡ sink.old) }
 {
     // (it says that the form implicit_const has a number)
     let _ = specification.implicit_const_value();
     let form = specification.form();
     if form != DW_FORM_indirect
-        && let Some(taken) = read_fixed(input, encoding, specification, form, taker)?
+        && let Some(taken) = read_fixed(input, encoding, specification, form, sink)?
     {
         return Ok(taken);
     }
-    read_of_variable_size::<R, T, APART>(input, encoding, specification, taker)
+    read_of_variable_size::<R, T, COPY>(input, encoding, specification, sink)
 }
 
 /// As `read_form`, but only the forms of variable size are put in place; all others are read by the
 /// call.
 #[inline(always)]
 #[tactic(auto, using(crate::proofs::AttributeTurns::made_direct))]
-pub(crate) fn read_of_variable_size<R: Reader, T: TakeAttribute<R>, const APART: usize>(
+pub(crate) fn read_of_variable_size<R: Reader, T: AttributeSink<R>, const COPY: usize>(
     input: &mut R,
     encoding: Encoding,
     specification: &AttributeSpecification,
-    taker: &mut T,
+    sink: &mut T,
 ) -> Result<T::Answer>
-    requires { T.has_room taker.old }
-    ensures value { read_of (answer_of (T.stand taker.new) result) (R.view input.new)
-        ≡ map_read (T.taken taker.old)
+    requires { T.has_room sink.old }
+    ensures value { read_of (answer_of (T.stand sink.new) result) (R.view input.new)
+        ≡ map_read (T.taken sink.old)
         (attribute_at R.Offset.limit encoding specification.now (R.view input.old)) }
-    ensures refused { OnErr result (taker.new ≡ taker.old) }
+    ensures refused { OnErr result (sink.new ≡ sink.old) }
 {
     // (it says that the form implicit_const has a number)
     let _ = specification.implicit_const_value();
     let form = specification.form();
     if form != DW_FORM_indirect
-        && let Some(taken) = read_variable(input, encoding, specification, form, taker)?
+        && let Some(taken) = read_variable(input, encoding, specification, form, sink)?
     {
         return Ok(taken);
     }
-    read_apart::<R, T, APART>(input, encoding, specification, taker)
+    read_on_copy::<R, T, COPY>(input, encoding, specification, sink)
 }

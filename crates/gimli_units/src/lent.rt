@@ -4,7 +4,7 @@ ghost use Rattle.std.specs.Prelude.{[]};
 ghost use Rattle.std.specs.Borrow.{sem};
 ghost use mir.Syntax.{named};
 ghost use Rattle.gimli_units.specs.contracts.cursor.EntriesCursor.{the_row};
-ghost use Rattle.gimli_units.specs.CursorLent.{HasWalked, HasWalkedOver, LendsEntry};
+ghost use Rattle.gimli_units.specs.CursorContracts.{HasWalked, HasWalkedOver, LendsEntry};
 
 use crate::{DebuggingInformationEntry, EntriesCursor};
 use gimli_base::{Reader, Result};
@@ -30,7 +30,7 @@ impl<'abbrev, R: Reader, A: Allocator> EntriesCursor<'abbrev, R, A> {
             let step = HasWalked R.Offset.limit in
             sem 𝓛 (LendsEntry row (λ c. c) R.view R.Offset.number step self.entry result) }
     {
-        self.walk_on()?;
+        self.advance_dfs()?;
         Ok(self.current())
     }
 
@@ -61,7 +61,7 @@ impl<'abbrev, R: Reader, A: Allocator> EntriesCursor<'abbrev, R, A> {
             let step = HasWalkedOver R.Offset.limit in
             sem 𝓛 (LendsEntry row (λ c. c) R.view R.Offset.number step self.entry result) }
     {
-        self.walk_over()?;
+        self.advance_sibling()?;
         Ok(self.current())
     }
 }

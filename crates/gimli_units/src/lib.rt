@@ -21,7 +21,7 @@ mod unit_type;
 mod value;
 
 pub use attribute::Attribute;
-pub use attribute::taker::TakeAttribute;
+pub use attribute::sink::AttributeSink;
 pub use cursor::EntriesCursor;
 pub use entry::DebuggingInformationEntry;
 pub use header::UnitHeader;

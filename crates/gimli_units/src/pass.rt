@@ -14,7 +14,7 @@ ghost use Rattle.gimli_units.specs.Sized.{left_by, sibling_at, sibling_after, fo
 ghost use Rattle.gimli_units.specs.Sized.{found_numbers, reads_all, has_short_offsets};
 
 use crate::UnitOffset;
-use crate::attribute::taker::{Keep, Pass};
+use crate::attribute::sink::{Ignore, Return};
 use crate::form::{read_form, read_of_variable_size};
 use gimli_base::{
     Abbreviation, AttributeSpecification, DW_AT_sibling, Encoding, Reader, ReaderOffset, Result,
@@ -37,7 +37,7 @@ fn pass_bytes<R: Reader>(input: &mut R, size: u64)
 
 // Whether addresses of so many bytes can be read.
 #[inline(always)]
-fn is_read(address_size: u8) -> bool
+fn is_valid_address_size(address_size: u8) -> bool
     ensures { result ≡ is_size address_size }
 {
     address_size == 1 || address_size == 2 || address_size == 4 || address_size == 8
@@ -58,7 +58,7 @@ fn has_short_offsets(step: &Step, encoding: Encoding) -> bool
 fn reads_all<R: Reader>(step: &Step, encoding: Encoding) -> bool
     ensures { result ≡ reads_all R.Offset.limit encoding step.now }
 {
-    is_read(encoding.address_size)
+    is_valid_address_size(encoding.address_size)
         && (R::Offset::from_u64(0xffff_ffff_ffff_ffff).is_ok()
             || (R::Offset::from_u64(0xffff_ffff).is_ok() && has_short_offsets(step, encoding)))
 }
@@ -95,7 +95,7 @@ fn pass_value<R: Reader>(
     ensures { read_of result (R.view input.new)
         ≡ left_by (attribute_at R.Offset.limit encoding specification.now (R.view input.old)) }
 {
-    read_of_variable_size::<R, Pass, 1>(input, encoding, specification, &mut Pass)
+    read_of_variable_size::<R, Ignore, 1>(input, encoding, specification, &mut Ignore)
 }
 
 // Where the reference of this specification leads in its unit, if it is one; where it is refused,
@@ -112,14 +112,14 @@ fn read_reference<R: Reader>(
         ≡ map_read (λ a. unit_reference a.value)
         (attribute_at R.Offset.limit encoding specification.now (R.view input.old)) }
 {
-    let attribute = read_form::<R, Keep, 1>(input, encoding, specification, &mut Keep)?;
+    let attribute = read_form::<R, Return, 1>(input, encoding, specification, &mut Return)?;
     Ok(attribute.reference())
 }
 
 // The same by a call that gets a reader of its own, so that the caller's stays in registers. (It is
 // a function of its own, as the place of that reader is cleared where its body begins.)
 #[inline(always)]
-fn read_reference_cold<R: Reader>(
+fn read_reference_on_copy<R: Reader>(
     input: &mut R,
     encoding: Encoding,
     specification: &AttributeSpecification,
@@ -155,7 +155,7 @@ fn pass_one<R: Reader>(
         pass_value(input, encoding, specification)?;
         return Ok(found);
     }
-    let reference = read_reference_cold(input, encoding, specification)?;
+    let reference = read_reference_on_copy(input, encoding, specification)?;
     Ok(Some(reference))
 }
 
@@ -183,7 +183,7 @@ fn pass_each<R: Reader>(
 
 // The same by a call that gets a reader of its own, as above.
 #[inline(always)]
-fn pass_each_cold<R: Reader>(
+fn pass_each_on_copy<R: Reader>(
     input: &mut R,
     encoding: Encoding,
     specifications: &[AttributeSpecification],
@@ -216,10 +216,10 @@ fn pass_steps<R: Reader, A: Allocator>(
         (found_numbers R.Offset.number found) (R.view input.old) }
 {
     let Some((first, others)) = declared.steps().split_first() else {
-        return pass_each_cold(input, encoding, declared.attributes(), found);
+        return pass_each_on_copy(input, encoding, declared.attributes(), found);
     };
     if !pass_step(input, encoding, first) {
-        return pass_each_cold(input, encoding, declared.attributes(), found);
+        return pass_each_on_copy(input, encoding, declared.attributes(), found);
     }
     if others.is_empty() {
         return Ok(found.flatten());
@@ -230,10 +230,10 @@ fn pass_steps<R: Reader, A: Allocator>(
     'values: while let Some((value, rest)) = left.split_first() {
         found = pass_one(input, encoding, value, found)?;
         let Some((step, more)) = steps.split_first() else {
-            return pass_each_cold(input, encoding, rest, found);
+            return pass_each_on_copy(input, encoding, rest, found);
         };
         if !pass_step(input, encoding, step) {
-            return pass_each_cold(input, encoding, rest, found);
+            return pass_each_on_copy(input, encoding, rest, found);
         }
         left = &rest[step.values as usize..];
         steps = more;
@@ -264,7 +264,7 @@ pub(crate) fn pass_declared<R: Reader, A: Allocator>(
 
 /// The same, and answers where the first reference to a sibling leads.
 #[inline(always)]
-pub(crate) fn pass_but_sibling<R: Reader, A: Allocator>(
+pub(crate) fn pass_and_find_sibling<R: Reader, A: Allocator>(
     input: &mut R,
     encoding: Encoding,
     declared: &Abbreviation<A>,

@@ -20,11 +20,11 @@ ghost use Rattle.gimli_units.specs.Passing.{pass_all, without_place, NamesPlaceO
 ghost use Rattle.gimli_units.specs.RawPlace.{RawPlace, next_offset_of, below_flag, depth_read};
 ghost use Rattle.gimli_units.specs.RawPlace.{depth_after};
 ghost use Rattle.gimli_units.specs.Honest.{within};
-ghost use Rattle.gimli_units.specs.CursorRead.{stands_at, stands_if};
+ghost use Rattle.gimli_units.specs.SearchSteps.{stands_at, stands_if};
 
-use crate::attribute::taker::{Keep, TakeAttribute};
+use crate::attribute::sink::{AttributeSink, Return};
 use crate::form::read_form;
-use crate::pass::{pass_but_sibling, pass_declared};
+use crate::pass::{pass_and_find_sibling, pass_declared};
 use crate::skip::skip_all;
 use crate::{Attribute, DebuggingInformationEntry, UnitOffset};
 use gimli_base::{
@@ -183,16 +183,16 @@ impl<'abbrev, R: Reader, A: Allocator> EntriesRaw<'abbrev, R, A> {
     {
         let mut rest = self.input.copy();
         let Some(abbreviation) = parse_abbreviation(&mut rest, self.abbreviations)? else {
-            self.go_behind_null(rest);
+            self.go_past_null(rest);
             return Ok(None);
         };
-        self.go_behind_entry(rest, abbreviation.has_children());
+        self.go_past_entry(rest, abbreviation.has_children());
         Ok(Some(abbreviation))
     }
 
-    // Goes after a null that was read.
+    // Goes past a null that was read.
     #[inline(always)]
-    fn go_behind_null(&mut self, rest: R)
+    fn go_past_null(&mut self, rest: R)
         requires { length (R.view rest).bytes < length self.old.rest.bytes }
         ensures { self.new ≡ stands_at self.old (R.view rest) (self.old.depth -ℤ pos 1) }
     {
@@ -200,9 +200,9 @@ impl<'abbrev, R: Reader, A: Allocator> EntriesRaw<'abbrev, R, A> {
         self.depth -= 1;
     }
 
-    // Goes after an entry that was read, to its children where it has some.
+    // Goes past an entry that was read, to its children where it has some.
     #[inline(always)]
-    fn go_behind_entry(&mut self, rest: R, has_children: bool)
+    fn go_past_entry(&mut self, rest: R, has_children: bool)
         requires { length (R.view rest).bytes < length self.old.rest.bytes }
         ensures { self.new ≡ stands_at self.old (R.view rest)
             (below_flag has_children self.old.depth) }
@@ -247,13 +247,13 @@ impl<'abbrev, R: Reader, A: Allocator> EntriesRaw<'abbrev, R, A> {
         entry.offset = self.next_offset();
         let mut rest = self.input.copy();
         let Some(abbreviation) = parse_abbreviation(&mut rest, self.abbreviations)? else {
-            self.go_behind_null(rest);
+            self.go_past_null(rest);
             return Ok(false);
         };
         let start = rest.copy();
         let specifications = abbreviation.attributes();
         let has_children = abbreviation.has_children();
-        match self.read_behind(&start, has_children, specifications, &mut entry.attrs) {
+        match self.read_values(&start, has_children, specifications, &mut entry.attrs) {
             Ok(()) => {
                 entry.tag = abbreviation.tag();
                 entry.has_children = abbreviation.has_children();
@@ -267,10 +267,10 @@ impl<'abbrev, R: Reader, A: Allocator> EntriesRaw<'abbrev, R, A> {
     }
 
     // Reads the attributes of these specifications, which begin at `start`, into an empty list, and
-    // goes after their entry; where they are refused, the list is left anywhere. They are read on
+    // goes past their entry; where they are refused, the list is left anywhere. They are read on
     // a reader whose address no call gets, so that it stays in registers.
     #[inline(never)]
-    fn read_behind(
+    fn read_values(
         &mut self,
         start: &R,
         has_children: bool,
@@ -290,7 +290,7 @@ impl<'abbrev, R: Reader, A: Allocator> EntriesRaw<'abbrev, R, A> {
     {
         let mut rest = start.copy();
         parse_attributes(&mut rest, self.encoding, specifications, attrs)?;
-        self.go_behind_entry(rest, has_children);
+        self.go_past_entry(rest, has_children);
         Ok(())
     }
 
@@ -314,13 +314,13 @@ impl<'abbrev, R: Reader, A: Allocator> EntriesRaw<'abbrev, R, A> {
     {
         let mut rest = self.input.copy();
         let Some(declared) = parse_abbreviation(&mut rest, self.abbreviations)? else {
-            self.go_behind_null(rest);
+            self.go_past_null(rest);
             return Ok(None);
         };
         // (it says that the tag is not 0)
         let _ = declared.tag();
         pass_declared(&mut rest, self.encoding, declared)?;
-        self.go_behind_entry(rest, declared.has_children());
+        self.go_past_entry(rest, declared.has_children());
         Ok(Some(declared))
     }
 
@@ -354,19 +354,19 @@ impl<'abbrev, R: Reader, A: Allocator> EntriesRaw<'abbrev, R, A> {
     {
         let mut rest = self.input.copy();
         let Some(declared) = parse_abbreviation(&mut rest, self.abbreviations)? else {
-            self.go_behind_null(rest);
+            self.go_past_null(rest);
             return Ok((None, None));
         };
         // (it says that the tag is not 0)
         let _ = declared.tag();
-        let sibling = self.pass_behind(rest, declared)?;
+        let sibling = self.pass_values(rest, declared)?;
         Ok((Some(declared), sibling))
     }
 
-    // Passes the attributes of an entry, which begin in `rest`, and goes behind it. Answers where its
+    // Passes the attributes of an entry, which begin in `rest`, and goes past it. Answers where its
     // sibling is, if it has children and says so.
     #[inline(always)]
-    fn pass_behind(
+    fn pass_values(
         &mut self,
         mut rest: R,
         abbreviation: &Abbreviation<A>,
@@ -382,12 +382,12 @@ impl<'abbrev, R: Reader, A: Allocator> EntriesRaw<'abbrev, R, A> {
         ensures kept { OnErr result (self.new ≡ self.old) }
     {
         if abbreviation.has_children() {
-            let sibling = pass_but_sibling(&mut rest, self.encoding, abbreviation)?;
-            self.go_behind_entry(rest, true);
+            let sibling = pass_and_find_sibling(&mut rest, self.encoding, abbreviation)?;
+            self.go_past_entry(rest, true);
             return Ok(sibling);
         }
         pass_declared(&mut rest, self.encoding, abbreviation)?;
-        self.go_behind_entry(rest, false);
+        self.go_past_entry(rest, false);
         Ok(None)
     }
 
@@ -424,30 +424,30 @@ impl<'abbrev, R: Reader, A: Allocator> EntriesRaw<'abbrev, R, A> {
     {
         let mut rest = self.input.copy();
         let specification = &specification;
-        let read = read_form::<R, Keep, 0>(&mut rest, self.encoding, specification, &mut Keep)?;
+        let read = read_form::<R, Return, 0>(&mut rest, self.encoding, specification, &mut Return)?;
         self.input = rest;
         Ok(read)
     }
 
-    /// Reads the attribute of a specification and hands it to a taker, which has room for it; put in
+    /// Reads the attribute of a specification and hands it to a sink, which has room for it; put in
     /// place where it is called, as `read_attribute_inline`.
     ///
-    /// Refusals: those of `read_attribute`; the taker then stays too.
+    /// Refusals: those of `read_attribute`; the sink then stays too.
     #[inline(always)]
-    pub fn read_attribute_to<T: TakeAttribute<R>>(
+    pub fn read_attribute_to<T: AttributeSink<R>>(
         &mut self,
         specification: &AttributeSpecification,
-        taker: &mut T,
+        sink: &mut T,
     ) -> Result<T::Answer>
-        requires { T.has_room taker.old }
-        ensures value { read_of (answer_of (T.stand taker.new) result) self.new.rest
-            ≡ map_read (T.taken taker.old)
+        requires { T.has_room sink.old }
+        ensures value { read_of (answer_of (T.stand sink.new) result) self.new.rest
+            ≡ map_read (T.taken sink.old)
             (attribute_at R.Offset.limit self.old.encoding specification.now self.old.rest) }
         ensures same { self.new ≡ record self.old { rest = self.new.rest } }
-        ensures kept { OnErr result ((self.new ≡ self.old) × (taker.new ≡ taker.old)) }
+        ensures kept { OnErr result ((self.new ≡ self.old) × (sink.new ≡ sink.old)) }
     {
         let mut rest = self.input.copy();
-        let taken = read_form::<R, T, 1>(&mut rest, self.encoding, specification, taker)?;
+        let taken = read_form::<R, T, 1>(&mut rest, self.encoding, specification, sink)?;
         self.input = rest;
         Ok(taken)
     }

@@ -10,11 +10,11 @@ ghost use Rattle.gimli_base.specs.Offset.{answer_of};
 ghost use Rattle.gimli_base.specs.Reading.{UnlessMemory};
 ghost use Rattle.gimli_units.specs.Entry.{entry_of, is_null};
 ghost use Rattle.gimli_units.specs.CursorPlace.{first_of_rows};
-ghost use Rattle.gimli_units.specs.CursorMoves.{CursorView, rows_of, rows_from};
-ghost use Rattle.gimli_units.specs.CursorMoves.{followed_to, IsHonestFor, IsRefused, IsOver};
+ghost use Rattle.gimli_units.specs.CursorModel.{CursorView, rows_of, rows_from};
+ghost use Rattle.gimli_units.specs.CursorModel.{followed_to, IsHonestFor, IsRefused, IsOver};
 ghost use Rattle.gimli_units.specs.TreePlace.{children_of, to_root, to_next, found_in};
 ghost use Rattle.gimli_units.specs.TreeMoves.{TreeView, node_at, list_of, on_node, in_lists};
-ghost use Rattle.gimli_units.specs.TreeMoves.{before_root, tree_from, told_root, told_next, IsTree};
+ghost use Rattle.gimli_units.specs.TreeMoves.{before_root, tree_from, root_answer, next_answer, IsTree};
 ghost use Rattle.gimli_units.specs.TreeMoves.{IsNoRoot, HasBegun, IsRefusedWithin, HasGoneOn};
 ghost use Rattle.gimli_units.specs.TreeMoves.{IsInside, IsChild};
 ghost use Rattle.gimli_units.specs.UnitHeld.{unit_view};
@@ -198,8 +198,8 @@ impl<'abbrev, R: Reader, A: Allocator> EntriesTree<'abbrev, R, A> {
         ensures same_reference { IfOk result
             (λ node. node.tree.ghost_name ≡ self.entry.ghost_name) }
         ensures answers { UnlessMemory result
-            (told_root (answer_of (λ node. node.tree.now) result)
-            ≡ (to_root self.old.start.end (rows_of R.Offset.limit self.old.start)).told) }
+            (root_answer (answer_of (λ node. node.tree.now) result)
+            ≡ (to_root self.old.start.end (rows_of R.Offset.limit self.old.start)).answer) }
         ensures place { IfOk result
             (λ node. on_node R.Offset.limit node.tree.now []
             ≡ (to_root self.old.start.end (rows_of R.Offset.limit self.old.start)).place) }
@@ -340,8 +340,8 @@ impl<'abbrev, 'tree, R: Reader, A: Allocator> EntriesTreeIter<'abbrev, 'tree, R,
             unsigned_abs self.old.depth < 2 ^ 63
             → IsHonestFor R.Offset.limit self.old.depth tree.cursor
             → UnlessMemory result
-            (told_next (answer_of (option_map (λ node. node.tree.now)) result)
-            ≡ (to_next tree.start.end (in_lists R.Offset.limit tree lists)).told) }
+            (next_answer (answer_of (option_map (λ node. node.tree.now)) result)
+            ≡ (to_next tree.start.end (in_lists R.Offset.limit tree lists)).answer) }
         ensures child { let is_child =
             IsChild R.Offset.limit self.old.is_open self.old.depth self.old.tree.now in
             IfOk result (λ o. IfSome o (λ node. is_child node.tree.now)) }
@@ -353,10 +353,10 @@ impl<'abbrev, 'tree, R: Reader, A: Allocator> EntriesTreeIter<'abbrev, 'tree, R,
             unsigned_abs depth < 2 ^ 63 → self.old.is_open ≡ true → cursor.depth ≡ depth
             → (t : ℕ) → followed_to cursor ≡ Some t
             → UnlessMemory result
-            (told_next (answer_of (option_map (λ node. node.tree.now)) result)
+            (next_answer (answer_of (option_map (λ node. node.tree.now)) result)
             ≡ (found_in depth []
             (first_of_rows cursor.raw.end depth cursor.offset
-            (rows_from R.Offset.limit cursor.raw t depth))).told) }
+            (rows_from R.Offset.limit cursor.raw t depth))).answer) }
         ensures as_advance { let gone_on =
             HasGoneOn R.Offset.limit self.old.depth self.old.tree.now in
             self.old.is_open ≡ true → unsigned_abs self.old.depth < 2 ^ 63

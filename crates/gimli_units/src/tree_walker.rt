@@ -5,14 +5,14 @@ ghost use Rattle.std.specs.Prelude.{false};
 ghost use Rattle.std.specs.Option.{option_map};
 ghost use Rattle.gimli_base.specs.declared.error.Error.TheVariants.{OutOfMemory};
 ghost use Rattle.gimli_base.specs.Reading.{UnlessMemory};
-ghost use Rattle.gimli_units.specs.CursorMoves.{rows_of, IsOver};
+ghost use Rattle.gimli_units.specs.CursorModel.{rows_of, IsOver};
 ghost use Rattle.gimli_units.specs.TreePlace.{to_root, to_next, to_enter, to_leave};
 ghost use Rattle.gimli_units.specs.TreeMoves.{IsTree, HasBegun};
 ghost use Rattle.gimli_units.specs.TreeWalker.{Standing, IsShallow, IsWalker, at_none};
 ghost use Rattle.gimli_units.specs.TreeWalker.{standing_place, standing_node, node_held, moved_to};
-ghost use Rattle.gimli_units.specs.TreeWalker.{told_begun, after_begun, WasAsked, HasAskedOne};
-ghost use Rattle.gimli_units.specs.TreeWalker.{IsHonestIn, told_of, entered_from, told_entered};
-ghost use Rattle.gimli_units.specs.TreeWalker.{left_from, are_some, told_left};
+ghost use Rattle.gimli_units.specs.TreeWalker.{begun_answer, after_begun, WasAsked, HasAskedOne};
+ghost use Rattle.gimli_units.specs.TreeWalker.{IsHonestIn, walker_answer, entered_from, entered_answer};
+ghost use Rattle.gimli_units.specs.TreeWalker.{left_from, are_some, left_answer};
 
 use crate::{DebuggingInformationEntry, EntriesTree};
 use gimli_base::{Reader, Result};
@@ -111,7 +111,7 @@ impl<'abbrev, R: Reader, A: Allocator> EntriesTreeWalker<'abbrev, R, A> {
         ensures begun { HasBegun R.Offset.limit self.old.tree result self.new.tree }
         ensures stands { self.new ≡ after_begun result self.new.tree }
         ensures goes { UnlessMemory result
-            (moved_to R.Offset.limit (told_begun result self.new.tree) self.new
+            (moved_to R.Offset.limit (begun_answer result self.new.tree) self.new
             ≡ to_root self.old.tree.start.end (rows_of R.Offset.limit self.old.tree.start)) }
         ensures sound { IsWalker self.new }
     {
@@ -164,7 +164,7 @@ impl<'abbrev, R: Reader, A: Allocator> EntriesTreeWalker<'abbrev, R, A> {
         ensures asked { HasAskedOne R.Offset.limit self.old.lists self.old result self.new }
         ensures goes { IsHonestIn R.Offset.limit self.old.lists self.old.tree
             → UnlessMemory result
-            (moved_to R.Offset.limit (told_of self.old.lists result self.new.tree) self.new
+            (moved_to R.Offset.limit (walker_answer self.old.lists result self.new.tree) self.new
             ≡ to_next self.old.tree.start.end (standing_place R.Offset.limit self.old)) }
         ensures over { IsOver self.old.tree.cursor → result ≡ Ok false }
         ensures sound { IsWalker self.new }
@@ -202,7 +202,7 @@ impl<'abbrev, R: Reader, A: Allocator> EntriesTreeWalker<'abbrev, R, A> {
     pub fn enter(&mut self) -> Result<bool>
         ensures entered { IfOk result (λ b. (b ≡ self.old.is_on)
             × (self.new ≡ entered_from self.old)) }
-        ensures goes { IfOk result (λ b. moved_to R.Offset.limit (told_entered b) self.new
+        ensures goes { IfOk result (λ b. moved_to R.Offset.limit (entered_answer b) self.new
             ≡ to_enter (standing_place R.Offset.limit self.old)) }
         ensures refused { IfErr result (λ e. (e ≡ OutOfMemory) × (self.old.is_on ≡ true)
             × (self.new ≡ self.old)) }
@@ -229,7 +229,7 @@ impl<'abbrev, R: Reader, A: Allocator> EntriesTreeWalker<'abbrev, R, A> {
     pub fn leave(&mut self) -> bool
         ensures left { (result ≡ are_some self.old.lists)
             × (self.new ≡ left_from self.old.lists self.old) }
-        ensures goes { moved_to R.Offset.limit (told_left result) self.new
+        ensures goes { moved_to R.Offset.limit (left_answer result) self.new
             ≡ to_leave (standing_place R.Offset.limit self.old) }
         ensures sound { IsWalker self.new }
     {

@@ -11,12 +11,12 @@ use Rattle.gimli_base.specs.Abbreviations.{Map}
 use Rattle.gimli_units.specs.Unit.{UnitView, whole_length}
 use Rattle.gimli_walk.specs.declared.cursor.CursorStep.{CursorStep}
 use Rattle.gimli_base.specs.Table.{Table, codes_of}
-use Rattle.gimli_units.specs.CursorMoves.{CursorView}
+use Rattle.gimli_units.specs.CursorModel.{CursorView}
 use Rattle.gimli_units.specs.CursorStart.{cursor_of}
 use Rattle.gimli_walk.specs.Runs.{run_of, IsRunOf, RunsAs}
 use Rattle.gimli_walk.specs.Lines.{WroteRun, memory_line}
 use Rattle.gimli_walk.specs.CursorTurns.{HasRun}
-use Rattle.gimli_walk.specs.Sinks.{ToldSteps}
+use Rattle.gimli_walk.specs.Sinks.{AnsweredSteps}
 use Rattle.gimli_units.specs.UnitRows.{IsHonestAt}
 use Rattle.gimli_walk.specs.Cursors.{Answer, answers_at, answers_text, answer_line, status_of}
 use Rattle.gimli_walk.specs.Cursors.{run_answers, any_sibling, HoldsFrom, IsStopped, IsCut}
@@ -76,30 +76,30 @@ both_from P Q (Err e) p q = p
 module _ (limit : ℕ) (u : UnitView) (follows : Bool) (steps : List CursorStep)
     (old new : Option (List ℕ)) where
   -- what a run from the first entry on told was written
-  pub told_wrote : (t : Table) (c : CursorView) (status : ℕ)
+  pub answer_wrote : (t : Table) (c : CursorView) (status : ℕ)
       → length u.entries.bytes ≤ whole_length u → c ≡ cursor_of u t follows
-      → ToldSteps (HasRun limit c steps)
+      → AnsweredSteps (HasRun limit c steps)
       (λ all. Appends old new (concat (map answer_line all)) × (status ≡ status_of all))
       (length steps) false → WroteSteps limit u (codes_of t) follows steps old new status
-  told_wrote t c status fits is told = record {
-    run = run_of told.all false;
-    told = run_from limit u t follows None steps told.all false (length told.all) c fits (ap Ok is)
-        told.runs refl told.count;
-    written = told.are_told;
+  answer_wrote t c status fits is answer = record {
+    run = run_of answer.all false;
+    answer = run_from limit u t follows None steps answer.all false (length answer.all) c fits (ap Ok is)
+        answer.runs refl answer.count;
+    written = answer.are_answered;
   }
 
   -- and then the line that says that memory was refused
-  pub told_stopped : (t : Table) (c : CursorView) (mid : Option (List ℕ))
+  pub answer_stopped : (t : Table) (c : CursorView) (mid : Option (List ℕ))
       → length u.entries.bytes ≤ whole_length u → c ≡ cursor_of u t follows
-      → ToldSteps (HasRun limit c steps) (λ all. Appends old mid (concat (map answer_line all)))
+      → AnsweredSteps (HasRun limit c steps) (λ all. Appends old mid (concat (map answer_line all)))
       (length steps) true → Appends mid new memory_line
       → WroteSteps limit u (codes_of t) follows steps old new 1
-  told_stopped t c mid fits is told h = record {
-    run = run_of told.all true;
-    told = run_from limit u t follows None steps told.all true (length told.all) c fits (ap Ok is)
-        told.runs refl told.count;
+  answer_stopped t c mid fits is answer h = record {
+    run = run_of answer.all true;
+    answer = run_from limit u t follows None steps answer.all true (length answer.all) c fits (ap Ok is)
+        answer.runs refl answer.count;
     written = (
-      Appends-trans old mid new (concat (map answer_line told.all)) memory_line told.are_told h,
+      Appends-trans old mid new (concat (map answer_line answer.all)) memory_line answer.are_answered h,
       refl,
     );
   }
@@ -115,16 +115,16 @@ module _ (limit : ℕ) (u : UnitView) (follows : Bool) (steps : List CursorStep)
     steps_text honest h =
         if_ok r
         (λ status w. run_text limit u declared steps old new w.run.answers w.run.stopped status
-        (w.told.answers honest) w.written) h
+        (w.answer.answers honest) w.written) h
 
     pub steps_true : IfOk r (λ status. WroteSteps limit u declared follows steps old new status)
         → IfOk r (λ status. WroteTrue limit u declared follows steps old new status)
     steps_true h = if_ok r (λ status w. record {
       all = w.run.answers;
       stopped = w.run.stopped;
-      count = is_cut w.run.stopped _ _ w.told.stopped;
-      are_true = w.told.are_true;
-      are_stepped = w.told.are_stepped;
-      are_taken = w.told.are_taken;
+      count = is_cut w.run.stopped _ _ w.answer.stopped;
+      are_true = w.answer.are_true;
+      are_stepped = w.answer.are_stepped;
+      are_taken = w.answer.are_taken;
       written = w.written;
     }) h

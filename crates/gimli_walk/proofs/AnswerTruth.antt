@@ -18,9 +18,9 @@ use Rattle.gimli_units.specs.CursorStart.{before_first, raw_start, cursor_start}
 use Rattle.gimli_units.specs.Kind.{kind_of}
 use Rattle.gimli_units.specs.Honest.{IsHonest, AreHonestUntil, target, within, usable_target}
 use Rattle.gimli_units.specs.CursorPlace.{Place, some_of, next_of_depth, first_of_rows}
-use Rattle.gimli_units.specs.CursorMoves.{CursorView, next_of, rows_of, rows_from, view_from}
-use Rattle.gimli_units.specs.CursorMoves.{place_of, last_row, followed_to, IsHonestFor, IsTrueEntry}
-use Rattle.gimli_units.specs.CursorMoves.{IsNotFound, IsOver}
+use Rattle.gimli_units.specs.CursorModel.{CursorView, next_of, rows_of, rows_from, view_from}
+use Rattle.gimli_units.specs.CursorModel.{place_of, last_row, followed_to, IsHonestFor, IsTrueEntry}
+use Rattle.gimli_units.specs.CursorModel.{IsNotFound, IsOver}
 use Rattle.gimli_units.proofs.CursorLaw.{StandsIn, step_stands, unit_rows, entry_law, null_law}
 use Rattle.gimli_units.proofs.CursorLaw.{refusal_law}
 use Rattle.gimli_units.proofs.TreeLaw.{unit_bytes}
@@ -33,12 +33,12 @@ use Rattle.gimli_units.specs.UnitRows.{unit_rows_at, start_view, IsHonestFrom}
 use Rattle.gimli_walk.specs.Cursors.{Answer, step_of, answer_of_move, start_of, answers_at}
 use Rattle.gimli_walk.specs.Cursors.{HoldsFrom}
 use Rattle.gimli_walk.specs.Cursors.{IsStopped, is_sibling, any_sibling}
-use Rattle.gimli_walk.specs.TrueAnswers.{IsAfterEntry, IsTrueAnswer, AreTrueAnswers, place_behind}
+use Rattle.gimli_walk.specs.TrueAnswers.{IsAfterEntry, IsTrueAnswer, AreTrueAnswers, place_after}
 use Rattle.gimli_walk.specs.TrueAnswers.{IsHonestBeside, IsNoSibling, a_null, at_end, IsStepped}
 use Rattle.gimli_walk.specs.TrueAnswers.{AreStepped, usable_of, IsTaken, AreTakenFrom, AreTaken}
 use Rattle.gimli_walk.specs.TrueAnswers.{IsRunFrom}
 use Rattle.gimli_walk.specs.CursorTurns.{answer_at, HasAnswered, HasRun}
-use Rattle.gimli_walk.proofs.CursorTruth.{unless_fine, seen_at, told_is, start_is, start_in}
+use Rattle.gimli_walk.proofs.CursorTruth.{unless_fine, seen_at, answer_is, start_is, start_in}
 use Rattle.gimli_walk.proofs.CursorTruth.{start_refused, run_as}
 
 -- what is read next stands at the next offset
@@ -100,10 +100,10 @@ module _ (limit : ℕ) (u : UnitView) (t : Table)
           absurd (cc)
 
   -- what is read next stands after an entry, or a null, that was read
-  behind_entry : (c new : CursorView) (o : Result Bool Error) → StandsIn u t c
+  after_entry : (c new : CursorView) (o : Result Bool Error) → StandsIn u t c
       → new.raw.end ≡ c.raw.end → IsTrueEntry limit c new
       → IsAfterEntry limit u (codes_of t) (answer_at o new) new.entry
-  behind_entry c new o stands same y = record {
+  after_entry c new o stands same y = record {
     rest = new.raw.rest;
     read = y.is ∙ unit_bytes limit u t fits c stands new.offset y.after;
     next_offset = ap (λ n. offset_of_view n new.raw.rest) (same ∙ stands.end);
@@ -119,10 +119,10 @@ module _ (limit : ℕ) (u : UnitView) (t : Table)
       record {
         entry = λ e is. let k = on_entry s c new a answered e is in
             rw (at, ← k.0) (entry_law limit u t fits c stands new answered.step.unit.end k.2 k.1);
-        behind = λ e is.
+        after = λ e is.
             let k = on_entry s c new a answered e is in
             rw (answered.is, ← k.0)
-            (behind_entry c new a.outcome stands answered.step.unit.end k.2);
+            (after_entry c new a.outcome stands answered.step.unit.end k.2);
         null = λ yes_it none.
             let null_is = null_of new.entry
             (sym (ap (λ (x : Answer). x.current) answered.is) ∙ none) in
@@ -163,9 +163,9 @@ module _ (limit : ℕ) (u : UnitView) (t : Table)
       sym (ap (λ v. ahead_at (next_of limit c.raw) c.raw.end c.raw.depth v) (here_is c.raw))
       ∙ unit_rows limit u t fits c stands (next_offset_of c.raw) c.raw.depth (omega arith)
 
-  place_told : (o : Result Bool Error) (c : CursorView) → StandsIn u t c
-      → place_behind limit u (codes_of t) (answer_at o c) ≡ place_of limit c
-  place_told o c stands =
+  place_answer : (o : Result Bool Error) (c : CursorView) → StandsIn u t c
+      → place_after limit u (codes_of t) (answer_at o c) ≡ place_of limit c
+  place_answer o c stands =
       let f : Ahead → Place = λ a.
       record { ahead = a; current = some_of c.entry; offset = c.offset; depth = c.depth } in
       ap f (sym (rows_here c stands))
@@ -215,7 +215,7 @@ module _ (limit : ℕ) (u : UnitView) (t : Table)
           → a ≡ answer_of_move (step_of (whole_length u) s (place_of limit c))
       gone h =
           let goes = unless_fine a.outcome (answered.step.moves h) answered.fine in
-          answered.is ∙ told_is limit s c new a.outcome goes
+          answered.is ∙ answer_is limit s c new a.outcome goes
           ∙ ap (λ n. answer_of_move (step_of n s (place_of limit c))) stands.end
 
       still : is_sibling s ≡ true → is_null c.entry ≡ true
@@ -244,7 +244,7 @@ module _ (limit : ℕ) (u : UnitView) (t : Table)
       cases : IsTrueEntry limit c new ⊎ (IsOver new × (new.offset ≡ c.offset))
           → IsNoSibling limit u (codes_of t) (place_of limit c) (answer_at o new)
       cases (inl y) = a_null (rw (← offset_is limit c.raw) y.after) new.entry null
-          (behind_entry c new o stands same y)
+          (after_entry c new o stands same y)
       cases (inr (over, at)) = let end = stands.end in at_end (omega (arith, over, same, end)) at
 
   stepped : (s : CursorStep) (c new : CursorView) (a : Answer) → StandsIn u t c
@@ -277,8 +277,8 @@ module _ (limit : ℕ) (u : UnitView) (t : Table)
   run_stepped (s ∷ steps) c [] stands run = tt
   run_stepped (s ∷ steps) c (a ∷ all) stands (new, answered, more) =
       let inside = step_stands u t c new stands answered.step.unit answered.step.further in
-      let place = ap (place_behind limit u (codes_of t)) answered.is
-      ∙ place_told a.outcome new inside in
+      let place = ap (place_after limit u (codes_of t)) answered.is
+      ∙ place_answer a.outcome new inside in
       let P : Place → Type 0 = λ p. AreStepped limit u (codes_of t) c.follows p steps all in
       let Q : Bool → Type 0 = λ f. AreStepped limit u (codes_of t) f (place_of limit new) steps all
       in (

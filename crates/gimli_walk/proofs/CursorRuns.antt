@@ -1,6 +1,6 @@
 -- The answers of a run, step by step.
 use Rattle.std.proofs.Common.{◌≡◌, ℕ, ◌+◌, ℤ, List, [], ◌∷◌, drop, Option, IfSome}
-use Rattle.gimli_units.specs.CursorMoves.{CursorView}
+use Rattle.gimli_units.specs.CursorModel.{CursorView}
 use Rattle.gimli_walk.specs.declared.cursor.CursorStep.{CursorStep}
 use Rattle.gimli_walk.specs.Cursors.{Answer}
 use Rattle.gimli_walk.specs.CursorTurns.{HasAnswered, HasRun}

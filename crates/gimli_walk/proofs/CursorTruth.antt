@@ -14,9 +14,9 @@ use Rattle.gimli_units.specs.RawPlace.{RawPlace}
 use Rattle.gimli_units.specs.Unit.{UnitView, whole_length, range_from, entries_in, entries_from}
 use Rattle.gimli_units.specs.CursorStart.{before_first, raw_start, cursor_start}
 use Rattle.gimli_units.specs.CursorPlace.{Place, Moved, some_of, next_offset}
-use Rattle.gimli_units.specs.CursorMoves.{CursorView, rows_of, place_of, Goes}
+use Rattle.gimli_units.specs.CursorModel.{CursorView, rows_of, place_of, Goes}
 use Rattle.gimli_units.proofs.CursorLaw.{StandsIn, start_stands}
-use Rattle.gimli_units.specs.CursorMoves.{IsHonestCursor}
+use Rattle.gimli_units.specs.CursorModel.{IsHonestCursor}
 use Rattle.gimli_units.proofs.PlaceLaw.{honest_start, offset_is, depth_is}
 use Rattle.gimli_units.proofs.PlaceLaw.{honest_for, honest_next, honest_dfs, honest_sibling}
 use Rattle.gimli_walk.specs.declared.cursor.CursorStep.{CursorStep}
@@ -67,10 +67,10 @@ module _ (limit : ℕ) where
       ∙ ap (λ d. f (next_offset (rows_of limit new.raw)) d) (depth_is limit new.raw)
 
   -- the answer of a step is that of the place
-  pub told_is : (s : CursorStep) (c new : CursorView) (outcome : Result Bool Error)
+  pub answer_is : (s : CursorStep) (c new : CursorView) (outcome : Result Bool Error)
       → Goes limit (step_of c.raw.end s) c outcome new
       → answer_at outcome new ≡ answer_of_move (step_of c.raw.end s (place_of limit c))
-  told_is s c new outcome is = seen_at outcome new ∙ ap answer_of_move is
+  answer_is s c new outcome is = seen_at outcome new ∙ ap answer_of_move is
 
   -- where the rows are honest, if any step looks for a sibling, a run gives the first of the
   -- definition's answers
@@ -87,14 +87,14 @@ module _ (limit : ℕ) where
       (step.moves
       (λ is follows. honest_for limit c
       (honest (or_first (is_sibling s) (any_sibling steps) is) follows))) answered.fine in
-      let behind : any_sibling steps ≡ true → new.follows ≡ true
+      let after : any_sibling steps ≡ true → new.follows ≡ true
       → IsHonestCursor limit new =
       λ any follows. honest_step s c new a.outcome step.unit.end
       (honest (or_second (is_sibling s) (any_sibling steps) any)
       (sym step.unit.follows ∙ follows)) goes in
-      let rest = run_front steps new all more behind in
+      let rest = run_front steps new all more after in
       let first : a ≡ answer_of_move (step_of c.raw.end s (place_of limit c)) = answered.is
-      ∙ told_is s c new a.outcome goes in
+      ∙ answer_is s c new a.outcome goes in
       let place : place_of limit new
       ≡ (step_of c.raw.end s (place_of limit c)).place = ap (λ (m : Moved). m.place) goes in
       let others : answers c.raw.end steps (step_of c.raw.end s (place_of limit c)).place

@@ -140,15 +140,15 @@ pub undeclared_true : (limit : ℕ) (mode : Mode) (u : UnitView) (m : Result Map
     → Appends old new (error_line (number_of e)) → WroteTrueDeclared limit mode u m old new 1
 undeclared_true limit mode u (Err x) e old new refused h = tt
 undeclared_true limit mode u (Ok declared) e old new refused h = elim (memory_or_not e) [
-  | inl memory ↦ told mode (rw memory at h)
+  | inl memory ↦ answer mode (rw memory at h)
   | inr other ↦
       absurd (let k : ◌≡◌ {A = Result Map Error} (Err e) (Ok declared) = refused other in cc)
 ]
   where
-    told : (x : Mode) → Appends old new memory_line → WroteTrueMode limit x u declared old new 1
-    told Rows k = tt
-    told Check k = tt
-    told (Cursor steps) k =
+    answer : (x : Mode) → Appends old new memory_line → WroteTrueMode limit x u declared old new 1
+    answer Rows k = tt
+    answer Check k = tt
+    answer (Cursor steps) k =
         let none = no_steps limit u declared true
         (start_of (unit_rows_at limit u declared (pos 0) u.entries)) steps.now in
         record {
@@ -160,7 +160,7 @@ undeclared_true limit mode u (Ok declared) e old new refused h = elim (memory_or
           are_taken = λ f. none.1;
           written = (k, refl);
         }
-    told (Plain steps) k =
+    answer (Plain steps) k =
         let none = no_steps limit u declared false
         (start_of (unit_rows_at limit u declared (pos 0) u.entries)) steps.now in
         record {
@@ -172,4 +172,4 @@ undeclared_true limit mode u (Ok declared) e old new refused h = elim (memory_or
           are_taken = λ f. none.1;
           written = (k, refl);
         }
-    told (Tree steps) k = no_tree_line k refl
+    answer (Tree steps) k = no_tree_line k refl

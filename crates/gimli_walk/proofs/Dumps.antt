@@ -33,14 +33,14 @@ use Rattle.gimli_walk.proofs.StoppedLines.{until_only, until_more, until_same}
 use Rattle.gimli_walk.proofs.RowLines.{some_lines_of}
 
 -- the outcome of lines after others of this status
-abbrev pub behind_status : ℕ → Result ℕ Stop → Result ℕ Stop
-behind_status status (Ok next) = Ok (max status next)
-behind_status status (Err s) = Err s
+abbrev pub after_status : ℕ → Result ℕ Stop → Result ℕ Stop
+after_status status (Ok next) = Ok (max status next)
+after_status status (Err s) = Err s
 
 -- all of a text, and then another
 pub until_joined : (a b c : Option (List ℕ)) (t u : Text) (status : ℕ) (r : Result ℕ Stop)
     → WroteAll a b t status → WroteUntil b c u r
-    → WroteUntil a c (join_texts t u) (behind_status status r)
+    → WroteUntil a c (join_texts t u) (after_status status r)
 until_joined a b c t u status (Ok next) first second = record {
   lines = rw concat-append
       (Appends-trans a b c (concat t.lines) (concat u.lines) first.lines second.lines);
@@ -96,7 +96,7 @@ module _ (limit : ℕ) (abbreviations : View) where
       (r : Result ℕ Stop) → units_ahead limit DebugInfo p
       ≡ before_units (Ok (Some u)) (units_ahead limit DebugInfo next)
       → WroteUntil a b (unit_dump limit abbreviations u) (Ok status)
-      → WroteUntil b c (place_dump next) r → WroteUntil a c (place_dump p) (behind_status status r)
+      → WroteUntil b c (place_dump next) r → WroteUntil a c (place_dump p) (after_status status r)
   dump_more a b c p next u status r is first second =
       rw is
       (until_joined a b c (unit_dump limit abbreviations u) (place_dump next) status r first
@@ -120,10 +120,10 @@ module _ (limit : ℕ) (abbreviations : View) where
       until_same a b (place_dump p) _ r (ap (λ q. place_dump q) is) wrote
 
 -- the statuses of lines after others are joined in any order
-pub behind_behind : (n m : ℕ) (r : Result ℕ Stop)
-    → behind_status n (behind_status m r) ≡ behind_status (max n m) r
-behind_behind n m (Ok x) = let e : max n (max m x) ≡ max (max n m) x = omega arith in ap Ok e
-behind_behind n m (Err s) = refl
+pub after_after : (n m : ℕ) (r : Result ℕ Stop)
+    → after_status n (after_status m r) ≡ after_status (max n m) r
+after_after n m (Ok x) = let e : max n (max m x) ≡ max (max n m) x = omega arith in ap Ok e
+after_after n m (Err s) = refl
 
 -- the same outcome
 pub until_outcome : (a b : Option (List ℕ)) (t : Text) (r q : Result ℕ Stop) → r ≡ q

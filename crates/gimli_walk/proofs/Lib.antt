@@ -15,7 +15,7 @@ pub mod StoppedLines
 pub mod Telling
 pub mod TreeLines
 pub mod TreeRuns
-pub mod TreeTold
+pub mod TreeAnswered
 pub mod TreeTruth
 pub mod TreeTurned
 pub mod WordLines

@@ -1,9 +1,9 @@
 -- The answers of a tree's run, step by step.
 use Rattle.std.proofs.Common.{◌≡◌, ℕ, ◌+◌, Bool, List, [], ◌∷◌, drop, Result, Ok, Err, ap}
 use Rattle.std.specs.Prelude.{OnOk}
-use Rattle.gimli_units.specs.TreePlace.{Lists, Told}
+use Rattle.gimli_units.specs.TreePlace.{Lists, StepAnswer}
 use Rattle.gimli_units.specs.TreeMoves.{TreeView}
-use Rattle.gimli_units.specs.TreeWalker.{Standing, left_from, are_some, told_left}
+use Rattle.gimli_units.specs.TreeWalker.{Standing, left_from, are_some, left_answer}
 use Rattle.gimli_walk.specs.declared.tree.TreeStep.{TreeStep}
 use Rattle.gimli_walk.specs.declared.tree.TreeStep.TheVariants.{Leave}
 use Rattle.gimli_walk.specs.TreeTurns.{HasTurned, HasTreeRun}
@@ -15,9 +15,9 @@ on_ok (Err e) f p = tt
 
 -- one more answer
 pub tree_run_more : (limit : ℕ) (here new : Standing) (steps : List TreeStep) (i : ℕ)
-    (s : TreeStep) (a : Told) → drop i steps ≡ s ∷ drop (i + 1) steps
+    (s : TreeStep) (a : StepAnswer) → drop i steps ≡ s ∷ drop (i + 1) steps
     → HasTurned limit s here a new
-    → (rest : List Told) → HasTreeRun limit new (drop (i + 1) steps) rest
+    → (rest : List StepAnswer) → HasTreeRun limit new (drop (i + 1) steps) rest
     → HasTreeRun limit here (drop i steps) (a ∷ rest)
 tree_run_more limit here new steps i s a next turned rest more = rw next (new, turned, more)
 
@@ -31,6 +31,6 @@ tree_run_none limit here (s ∷ left) = tt
 pub leave_turned : (limit : ℕ) (tree : TreeView) (new : Standing) (on b : Bool) (lists : Lists)
     → b ≡ are_some lists
     → new ≡ left_from lists (record { tree = tree; is_on = on; lists = lists })
-    → HasTurned limit Leave (record { tree = tree; is_on = on; lists = lists }) (told_left b) new
-leave_turned limit tree new on b [] same stands = (ap told_left same, stands)
-leave_turned limit tree new on b (list ∷ outer) same stands = (ap told_left same, stands)
+    → HasTurned limit Leave (record { tree = tree; is_on = on; lists = lists }) (left_answer b) new
+leave_turned limit tree new on b [] same stands = (ap left_answer same, stands)
+leave_turned limit tree new on b (list ∷ outer) same stands = (ap left_answer same, stands)

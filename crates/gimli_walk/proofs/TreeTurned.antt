@@ -13,12 +13,12 @@ use Rattle.gimli_units.specs.Unit.{UnitView, whole_length}
 use Rattle.gimli_units.specs.Kind.{kind_of}
 use Rattle.gimli_units.specs.Honest.{IsHonest, AreHonestUntil, usable_target, target}
 use Rattle.gimli_units.specs.CursorPlace.{next_offset, first_of_rows}
-use Rattle.gimli_units.specs.CursorMoves.{CursorView, rows_of, rows_from, place_of, last_row}
-use Rattle.gimli_units.specs.CursorMoves.{followed_to, IsHonestFor, IsNotFound}
+use Rattle.gimli_units.specs.CursorModel.{CursorView, rows_of, rows_from, place_of, last_row}
+use Rattle.gimli_units.specs.CursorModel.{followed_to, IsHonestFor, IsNotFound}
 use Rattle.gimli_units.proofs.CursorLaw.{StandsIn, step_stands, unit_rows, refusal_law}
 use Rattle.gimli_units.proofs.PlaceLaw.{offset_is, null_honest}
 use Rattle.gimli_units.proofs.TreeLaw.{unit_bytes}
-use Rattle.gimli_units.specs.TreePlace.{Node, Lists, TreePlace, Told, a_node, found_in}
+use Rattle.gimli_units.specs.TreePlace.{Node, Lists, TreePlace, StepAnswer, a_node, found_in}
 use Rattle.gimli_units.specs.TreeMoves.{TreeView, before_root, tree_from, node_at, gone_on}
 use Rattle.gimli_units.specs.TreeMoves.{HasBegun, HasGoneOn}
 use Rattle.gimli_walk.specs.declared.tree.TreeStep.{TreeStep}
@@ -30,18 +30,18 @@ use Rattle.gimli_walk.specs.Trees.{tree_step, tree_view, tree_answers_at}
 use Rattle.gimli_units.specs.UnitRows.{unit_rows_from, IsHonestFrom}
 use Rattle.gimli_walk.specs.Cursors.{HoldsFrom, IsStopped}
 use Rattle.gimli_walk.specs.TrueAnswers.{IsHonestAhead}
-use Rattle.gimli_walk.specs.TrueTolds.{Reached, IsListFound, true_node, true_null, true_end}
-use Rattle.gimli_walk.specs.TrueTolds.{true_fault, IsTurned, AreTurned, AreRoots, root_at}
-use Rattle.gimli_walk.specs.TrueTolds.{AreTurnedFrom, IsTreeRunFrom}
-use Rattle.gimli_units.specs.TreeWalker.{Standing, at_none, standing_place, told_begun, told_asked}
+use Rattle.gimli_walk.specs.TrueStepAnswers.{Reached, IsListFound, true_node, true_null, true_end}
+use Rattle.gimli_walk.specs.TrueStepAnswers.{true_fault, IsTurned, AreTurned, AreRoots, root_at}
+use Rattle.gimli_walk.specs.TrueStepAnswers.{AreTurnedFrom, IsTreeRunFrom}
+use Rattle.gimli_units.specs.TreeWalker.{Standing, at_none, standing_place, begun_answer, asked_answer}
 use Rattle.gimli_units.specs.TreeWalker.{after_asked}
 use Rattle.gimli_walk.specs.TreeTurns.{HasAsked, HasTurned, HasTreeRun}
 use Rattle.gimli_walk.proofs.CursorTruth.{unless_fine}
 use Rattle.gimli_walk.proofs.AnswerTruth.{rows_here, low_bound}
 use Rattle.gimli_walk.proofs.TreeTruth.{moved_to, asked_is, turn_is, turn_same}
-use Rattle.gimli_walk.proofs.TreeTold.{IsIn, turn_in, tree_start, tree_is, first_in, run_tree_as}
-use Rattle.gimli_walk.proofs.TreeTold.{run_tree_true, run_tree_roots, run_tree_growing}
-use Rattle.gimli_walk.proofs.TreeTold.{run_tree_taken, tree_refused}
+use Rattle.gimli_walk.proofs.TreeAnswered.{IsIn, turn_in, tree_start, tree_is, first_in, run_tree_as}
+use Rattle.gimli_walk.proofs.TreeAnswered.{run_tree_true, run_tree_roots, run_tree_growing}
+use Rattle.gimli_walk.proofs.TreeAnswered.{run_tree_taken, tree_refused}
 
 -- the entry that was read last, if it was no null
 abbrev last_of : TreeView → Option Node
@@ -102,12 +102,12 @@ module _ (limit : ℕ) where
 
   module _ (u : UnitView) (t : Table) (fits : length u.entries.bytes ≤ whole_length u) where
     -- an open list was asked, whatever the references
-    found_asked : (s new : Standing) (told : Told) (d : ℤ) (outer : Lists)
+    found_asked : (s new : Standing) (answer : StepAnswer) (d : ℤ) (outer : Lists)
         (outcome : Result Bool Error) → StandsIn u t s.tree.cursor
         → HasGoneOn limit d s.tree outcome new.tree → (outcome ≡ Err OutOfMemory → ⊥)
-        → told ≡ told_asked outcome new.tree → new ≡ after_asked (Some d) outer outcome new.tree
-        → IsListFound limit u (codes_of t) d outer (reached limit s) told (reached limit new)
-    found_asked s new told d outer (Ok true) here g fine is stands =
+        → answer ≡ asked_answer outcome new.tree → new ≡ after_asked (Some d) outer outcome new.tree
+        → IsListFound limit u (codes_of t) d outer (reached limit s) answer (reached limit new)
+    found_asked s new answer d outer (Ok true) here g fine is stands =
         let y = g.sought.yes refl in
         let c = new.tree.cursor in
         let inside = step_stands u t s.tree.cursor c here g.sought.unit g.sought.further in
@@ -137,7 +137,7 @@ module _ (limit : ℕ) where
         (rw (← offset_is limit s.tree.cursor.raw) y.0.after) y.2 y.1
         (y.0.is ∙ unit_bytes limit u t fits s.tree.cursor here c.offset y.0.after)
         (ap (reached limit) stands ∙ ap g some ∙ ap f rows)
-    found_asked s new told d outer (Ok false) here g fine is stands = cases (g.sought.no refl)
+    found_asked s new answer d outer (Ok false) here g fine is stands = cases (g.sought.no refl)
       where
         c : CursorView
         c = new.tree.cursor
@@ -162,7 +162,7 @@ module _ (limit : ℕ) where
             ap (reached limit) stands ∙ ap g' last
 
         cases : IsNotFound limit d s.tree.cursor.offset s.tree.cursor c
-            → IsListFound limit u (codes_of t) d outer (reached limit s) told (reached limit new)
+            → IsListFound limit u (codes_of t) d outer (reached limit s) answer (reached limit new)
         cases (null, deep, inl y) =
             let rows : rows_of limit c.raw
             ≡ ahead_at (entry_at limit u.encoding (codes_of t)) (whole_length u)
@@ -178,7 +178,7 @@ module _ (limit : ℕ) where
             true_end c.raw.depth is
             (none null ∙ ap f (rows_here limit u t fits c inside)
             ∙ ap (λ n. f (unit_rows_from limit u (codes_of t) n c.raw.depth)) at_end)
-    found_asked s new told d outer (Err e) here g fine is stands =
+    found_asked s new answer d outer (Err e) here g fine is stands =
         let c = new.tree.cursor in
         let r = g.sought.refused e refl in
         let over = r.over in
@@ -222,8 +222,8 @@ module _ (limit : ℕ) where
         cases false null k = cc
 
     -- a reference that can be followed is taken
-    there_is : (s new : Standing) (told : Told) (d : ℤ) (outer : Lists) → StandsIn u t s.tree.cursor
-        → s.tree.cursor.follows ≡ true → HasAsked limit (Some d) outer s.tree told new
+    there_is : (s new : Standing) (answer : StepAnswer) (d : ℤ) (outer : Lists) → StandsIn u t s.tree.cursor
+        → s.tree.cursor.follows ≡ true → HasAsked limit (Some d) outer s.tree answer new
         → (n : Node) → last_of s.tree ≡ Some n → n.depth ≡ d → (to : ℕ)
         → usable_target (whole_length u)
         (record {
@@ -232,10 +232,10 @@ module _ (limit : ℕ) where
           depth = n.depth;
           entry = n.entry;
         }) ≡ Some to
-        → record { told = told; place = (reached limit new).place }
+        → record { answer = answer; place = (reached limit new).place }
         ≡ found_in d outer
         (first_of_rows (whole_length u) d n.offset (unit_rows_from limit u (codes_of t) to d))
-    there_is s new told d outer here follows r n last deep to leads =
+    there_is s new answer d outer here follows r n last deep to leads =
         let c = s.tree.cursor in
         let sought = r.asked.sought in
         let one : node_at s.tree ≡ n = last_is s.tree n last in
@@ -258,9 +258,9 @@ module _ (limit : ℕ) where
         let follow : followed_to c ≡ Some to = rw follows used in
         let low = low_bound (next_offset_of c.raw) c.raw.end (target (kind_of c.entry)) to used in
         let there = unless_fine r.outcome (sought.there to follow level) r.fine in
-        ap (λ (x : TreePlace). record { told = told; place = x }) (sym (place_is new))
+        ap (λ (x : TreePlace). record { answer = answer; place = x }) (sym (place_is new))
         ∙ ap (λ x. moved_to limit x new) r.is
-        ∙ ap (λ x. moved_to limit (told_asked r.outcome new.tree) x) r.stands
+        ∙ ap (λ x. moved_to limit (asked_answer r.outcome new.tree) x) r.stands
         ∙ asked_is limit d outer r.outcome new.tree
         ∙ gone_found d outer r.outcome new.tree (λ is. (sought.yes is).1) (λ is. (sought.no is).0)
         ∙ ap (found_in d outer) there
@@ -275,58 +275,58 @@ module _ (limit : ℕ) where
     -- a step, whatever the references
     module _ (p : RawPlace) (end : p.end ≡ whole_length u) where
       -- what the definition says of a step is said of the places
-      moved_is : (s : Standing) (step : TreeStep) (told : Told) (new : Standing) → s.tree.start ≡ p
-          → moved_to limit told new
+      moved_is : (s : Standing) (step : TreeStep) (answer : StepAnswer) (new : Standing) → s.tree.start ≡ p
+          → moved_to limit answer new
           ≡ tree_step s.tree.start.end (rows_of limit s.tree.start) step (standing_place limit s)
-          → record { told = told; place = (reached limit new).place }
+          → record { answer = answer; place = (reached limit new).place }
           ≡ tree_step (whole_length u) (rows_of limit p) step (reached limit s).place
-      moved_is s step told new same is =
-          ap (λ (x : TreePlace). record { told = told; place = x }) (sym (place_is new)) ∙ is
+      moved_is s step answer new same is =
+          ap (λ (x : TreePlace). record { answer = answer; place = x }) (sym (place_is new)) ∙ is
           ∙ ap (λ (x : RawPlace). tree_step x.end (rows_of limit x) step (standing_place limit s))
           same
           ∙ ap (λ n. tree_step n (rows_of limit p) step (standing_place limit s)) end
           ∙ ap (tree_step (whole_length u) (rows_of limit p) step) (place_is s)
 
-      root_last : (s new : Standing) (told : Told) (outcome : Result (Unit {0}) Error)
-          → HasBegun limit s.tree outcome new.tree → told ≡ told_begun outcome new.tree
-          → (n : Node) → told ≡ a_node n → last_of new.tree ≡ Some n
-      root_last s new told (Ok k) b is n it = let y = b.yes refl in
+      root_last : (s new : Standing) (answer : StepAnswer) (outcome : Result (Unit {0}) Error)
+          → HasBegun limit s.tree outcome new.tree → answer ≡ begun_answer outcome new.tree
+          → (n : Node) → answer ≡ a_node n → last_of new.tree ≡ Some n
+      root_last s new answer (Ok k) b is n it = let y = b.yes refl in
           let one : node_at new.tree ≡ n = cc in rw (y.1, one) refl
-      root_last s new told (Err e) b is n it = absurd (cc)
+      root_last s new answer (Err e) b is n it = absurd (cc)
 
       -- where a run stands, by its parts
       abbrev at_part : Bool → Lists → Standing → Reached
       at_part b lists s = reached limit (record { tree = s.tree; is_on = b; lists = lists })
 
-      turned : (b : Bool) (lists : Lists) (s : Standing) (step : TreeStep) (told : Told)
+      turned : (b : Bool) (lists : Lists) (s : Standing) (step : TreeStep) (answer : StepAnswer)
           (new : Standing) → s ≡ record { tree = s.tree; is_on = b; lists = lists }
           → s.tree.start ≡ p → StandsIn u t s.tree.cursor → s.tree.cursor.follows ≡ true
-          → HasTurned limit step (record { tree = s.tree; is_on = b; lists = lists }) told new
-          → IsTurned limit u (codes_of t) (rows_of limit p) step (at_part b lists s) told
+          → HasTurned limit step (record { tree = s.tree; is_on = b; lists = lists }) answer new
+          → IsTurned limit u (codes_of t) (rows_of limit p) step (at_part b lists s) answer
           (reached limit new)
-      turned b lists s step told new is same here follows r = cases b lists step is r
+      turned b lists s step answer new is same here follows r = cases b lists step is r
         where
           goes : (b : Bool) (lists : Lists) (step : TreeStep)
               → s ≡ record { tree = s.tree; is_on = b; lists = lists }
-              → HasTurned limit step (record { tree = s.tree; is_on = b; lists = lists }) told new
+              → HasTurned limit step (record { tree = s.tree; is_on = b; lists = lists }) answer new
               → ((d : ℤ) (outer : Lists) → step ≡ Next → lists ≡ Some d ∷ outer
               → IsHonestFor limit d s.tree.cursor)
-              → record { told = told; place = (reached limit new).place }
+              → record { answer = answer; place = (reached limit new).place }
               ≡ tree_step (whole_length u) (rows_of limit p) step (at_part b lists s).place
           goes b lists step is r honest =
-              moved_is s step told new same (turn_is limit b lists s step told new is r honest)
+              moved_is s step answer new same (turn_is limit b lists s step answer new is r honest)
               ∙ ap
               (λ (x : Standing). tree_step (whole_length u) (rows_of limit p) step
               (reached limit x).place) is
 
           cases : (b : Bool) (lists : Lists) (step : TreeStep)
               → s ≡ record { tree = s.tree; is_on = b; lists = lists }
-              → HasTurned limit step (record { tree = s.tree; is_on = b; lists = lists }) told new
-              → IsTurned limit u (codes_of t) (rows_of limit p) step (at_part b lists s) told
+              → HasTurned limit step (record { tree = s.tree; is_on = b; lists = lists }) answer new
+              → IsTurned limit u (codes_of t) (rows_of limit p) step (at_part b lists s) answer
               (reached limit new)
           cases b lists Root is r = (
             goes b lists Root is r (λ d outer e k. absurd (cc)),
-            root_last s new told r.outcome r.begun r.is,
+            root_last s new answer r.outcome r.begun r.is,
           )
           cases b [] Next is r = (
             goes b [] Next is r (λ d outer e k. absurd (cc)),
@@ -340,13 +340,13 @@ module _ (limit : ℕ) where
             is = λ honest. goes b (Some d ∷ outer) Next is r
                 (λ e o k at. let one : d ≡ e = cc in
                 rw (← one) (honest_within s d (whole_length u) here.end honest));
-            there = there_is s new told d outer here follows r;
+            there = there_is s new answer d outer here follows r;
             found =
                 subst
-                (λ (o : Reached). IsListFound limit u (codes_of t) d outer o told
+                (λ (o : Reached). IsListFound limit u (codes_of t) d outer o answer
                 (reached limit new))
                 (ap (reached limit) is)
-                (found_asked s new told d outer r.outcome here r.asked r.fine r.is r.stands);
+                (found_asked s new answer d outer r.outcome here r.asked r.fine r.is r.stands);
           }
           cases true lists Enter is r = (
             goes true lists Enter is r (λ d outer e k. absurd (cc)),
@@ -366,7 +366,7 @@ module _ (limit : ℕ) where
           )
 
       -- all steps
-      pub run_turned : (steps : List TreeStep) (s : Standing) (all : List Told) → s.tree.start ≡ p
+      pub run_turned : (steps : List TreeStep) (s : Standing) (all : List StepAnswer) → s.tree.start ≡ p
           → IsIn limit u t fits s → HasTreeRun limit s steps all
           → AreTurned limit u (codes_of t) (rows_of limit p) (reached limit s) steps all
       run_turned [] s all same inside run = tt
@@ -383,7 +383,7 @@ module _ (limit : ℕ) where
 -- the answers of a run are those of its steps, from the tree's start on
 pub run_tree_turned : (limit : ℕ) (u : UnitView) (t : Table)
     (fits : length u.entries.bytes ≤ whole_length u) (start : Option ℕ) (steps : List TreeStep)
-    (tree : TreeView) (all : List Told)
+    (tree : TreeView) (all : List StepAnswer)
     → Ok tree ≡ tree_from u t start → HasTreeRun limit (at_none tree []) steps all
     → HoldsFrom (tree_view u start) (λ v. AreTurnedFrom limit u (codes_of t) v steps all)
 run_tree_turned limit u t fits start steps tree all begins run =
@@ -402,7 +402,7 @@ run_tree_turned limit u t fits start steps tree all begins run =
 
 module _ (limit : ℕ) (u : UnitView) (t : Table) (start : Option ℕ) (steps : List TreeStep) where
   -- what a run from a start promises
-  pub tree_run_from : (all : List Told) (stopped : Bool) (count : ℕ) (tree : TreeView)
+  pub tree_run_from : (all : List StepAnswer) (stopped : Bool) (count : ℕ) (tree : TreeView)
       → length u.entries.bytes ≤ whole_length u → Ok tree ≡ tree_from u t start
       → HasTreeRun limit (at_none tree []) steps all → count ≡ length all
       → IsStopped stopped count (length steps)

@@ -53,9 +53,9 @@ pub Wrote-same_if : {E : Type 0} → (r : Result ℕ E) (a b : Option (List ℕ)
 Wrote-same_if r a b t u e w = let P : Text → Type 0 = λ x. IfOk r (λ status. Wrote a b x status) in
     subst P e w
 
--- what is written onto nothing, put behind other bytes
-pub Wrote-behind : (old new : List ℕ) (t : Text) (status : ℕ) → Wrote (Some []) (Some new) t status
+-- what is written onto nothing, put after other bytes
+pub Wrote-after : (old new : List ℕ) (t : Text) (status : ℕ) → Wrote (Some []) (Some new) t status
     → Wrote (Some old) (Some (old ++ new)) t status
-Wrote-behind old new t status (all_lines wrote is) = all_lines (ap (λ z. old ++ z) wrote) is
-Wrote-behind old new t status (some_lines k below wrote is) =
+Wrote-after old new t status (all_lines wrote is) = all_lines (ap (λ z. old ++ z) wrote) is
+Wrote-after old new t status (some_lines k below wrote is) =
     some_lines k below (ap (λ z. old ++ z) wrote) is

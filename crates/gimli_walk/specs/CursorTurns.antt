@@ -6,9 +6,9 @@ use Rattle.gimli_base.specs.Reading.{UnlessMemory}
 use Rattle.gimli_units.specs.Entry.{is_null}
 use Rattle.gimli_units.specs.RawPlace.{next_offset_of}
 use Rattle.gimli_units.specs.CursorPlace.{some_of, first_of_rows}
-use Rattle.gimli_units.specs.CursorMoves.{CursorView, Goes, IsHonestFor, followed_to, rows_from}
-use Rattle.gimli_units.specs.CursorMoves.{IsSameUnit, IsTrueEntry, IsRefused, IsNotFound, IsFurther}
-use Rattle.gimli_units.specs.CursorRead.{Stands}
+use Rattle.gimli_units.specs.CursorModel.{CursorView, Goes, IsHonestFor, followed_to, rows_from}
+use Rattle.gimli_units.specs.CursorModel.{IsSameUnit, IsTrueEntry, IsRefused, IsNotFound, IsFurther}
+use Rattle.gimli_units.specs.SearchSteps.{Stands}
 use Rattle.gimli_walk.specs.declared.cursor.CursorStep.{CursorStep}
 use Rattle.gimli_walk.specs.Cursors.{Answer, step_of, is_sibling}
 

@@ -10,39 +10,39 @@ use Rattle.gimli_walk.specs.Cursors.{IsStopped}
 
 -- answers that code holds were added, which stand for these, and each of which keeps a fact
 pub record HasCollected {X T : Type 0} (see : X → T) (Keeps : X → Type 0) (old : List X)
-    (told : List T) (new : List X) : Type 0 where
+    (answer : List T) (new : List X) : Type 0 where
   pub added : List X
   pub is : new ≡ old ++ added
-  pub are : map see added ≡ told
+  pub are : map see added ≡ answer
   pub keep : All Keeps added
 
 -- the lines of these answers were written, and whether one was a refusal is kept
 pub record HasLined {T : Type 0} (line : T → List ℕ) (refuses : T → Bool) (old : Option (List ℕ))
-    (was : Bool) (told : List T) (new : Option (List ℕ)) (is : Bool) : Type 0 where
-  pub lines : Appends old new (concat (map line told))
-  pub refused : is ≡ (was || list_any refuses told)
+    (was : Bool) (answer : List T) (new : Option (List ℕ)) (is : Bool) : Type 0 where
+  pub lines : Appends old new (concat (map line answer))
+  pub refused : is ≡ (was || list_any refuses answer)
 
 -- the answers that a run over these steps told, before it was stopped or came to its end
-pub record ToldSteps {T : Type 0} (Run Told : List T → Type 0) (steps : ℕ) (stopped : Bool) : Type
-    0 where
+pub record AnsweredSteps {T : Type 0} (Run Received : List T → Type 0) (steps : ℕ)
+    (stopped : Bool) : Type 0 where
   pub all : List T
-  pub are_told : Told all
+  pub are_answered : Received all
   pub runs : Run all
   pub count : IsStopped stopped (length all) steps
 
 -- a run that may be stopped, for memory or, where the sink writes, by a fault
-abbrev pub HasToldSteps : {T : Type 0} → (List T → Type 0) → (List T → Type 0) → Bool → ℕ
+abbrev pub HasAnsweredSteps : {T : Type 0} → (List T → Type 0) → (List T → Type 0) → Bool → ℕ
     → Result (Unit {0}) Stop → Type 0
-HasToldSteps Run Told writes steps (Ok u) = ToldSteps Run Told steps false
-HasToldSteps Run Told writes steps (Err Memory) = ToldSteps Run Told steps true
-HasToldSteps Run Told writes steps (Err Write) = writes ≡ true
+HasAnsweredSteps Run Received writes steps (Ok u) = AnsweredSteps Run Received steps false
+HasAnsweredSteps Run Received writes steps (Err Memory) = AnsweredSteps Run Received steps true
+HasAnsweredSteps Run Received writes steps (Err Write) = writes ≡ true
 
 -- the lines of what a run told, and their status, where it was not stopped
 abbrev pub HasWrittenSteps : {T : Type 0} → (List T → Type 0) → (List T → Text) → Option (List ℕ)
     → Option (List ℕ) → ℕ → Result ℕ Stop → Type 0
 HasWrittenSteps Run text old new steps (Ok status) =
-    ToldSteps Run (λ all. Appends old new (concat (text all).lines) × (status ≡ (text all).status))
-    steps false
+    AnsweredSteps Run
+    (λ all. Appends old new (concat (text all).lines) × (status ≡ (text all).status)) steps false
 HasWrittenSteps Run text old new steps (Err Memory) =
-    ToldSteps Run (λ all. Appends old new (concat (text all).lines)) steps true
+    AnsweredSteps Run (λ all. Appends old new (concat (text all).lines)) steps true
 HasWrittenSteps Run text old new steps (Err Write) = Unit {0}

@@ -25,7 +25,7 @@ use Rattle.gimli_walk.specs.TreeText.{WroteTrueTree}
 use Rattle.gimli_units.specs.UnitRows.{IsHonestAt, IsHonestFrom, unit_rows_at}
 use Rattle.gimli_walk.specs.Cursors.{Answer, answers_at, answers_text, any_sibling, IsCut, start_of}
 use Rattle.gimli_walk.specs.TrueAnswers.{AreTrueAnswers, AreStepped, AreTaken, HasRunOver}
-use Rattle.gimli_walk.specs.Runs.{ToldRun}
+use Rattle.gimli_walk.specs.Runs.{RunAnswers}
 use Rattle.gimli_walk.specs.Check.{check_text}
 
 abbrev pub line_of : Row → List ℕ
@@ -183,8 +183,8 @@ pub record WroteTrue (limit : ℕ) (u : UnitView) (declared : Map) (follows : Bo
 -- The lines of what a run of a cursor over these steps, from the first entry on, tells.
 pub record WroteSteps (limit : ℕ) (u : UnitView) (declared : Map) (follows : Bool)
     (steps : List CursorStep) (old new : Option (List ℕ)) (status : ℕ) : Type 0 where
-  pub run : ToldRun Answer
-  pub told : HasRunOver limit u declared follows steps u.entries run
+  pub run : RunAnswers Answer
+  pub answer : HasRunOver limit u declared follows steps u.entries run
   pub written : WroteRun old new (answers_text run.answers) run.stopped status
 
 -- a mode that steps a cursor, or a tree, writes such lines

@@ -13,7 +13,7 @@ use Rattle.gimli_units.specs.Honest.{IsHonest, AreHonestUntil, usable_target}
 use Rattle.gimli_units.specs.TreePlace.{Node}
 use Rattle.gimli_units.specs.CursorPlace.{Place, first_of_rows, next_offset}
 use Rattle.gimli_walk.specs.declared.cursor.CursorStep.{CursorStep}
-use Rattle.gimli_walk.specs.Runs.{ToldRun, IsRunOf}
+use Rattle.gimli_walk.specs.Runs.{RunAnswers, IsRunOf}
 use Rattle.gimli_units.specs.UnitRows.{unit_rows_at, unit_rows_from, IsHonestAt}
 use Rattle.gimli_walk.specs.Cursors.{Answer, answer_of_move, step_of, is_sibling, any_sibling}
 use Rattle.gimli_walk.specs.Cursors.{answers_at}
@@ -37,7 +37,7 @@ IsLast u a = (a.next_offset ≡ whole_length u) × (a.next_depth ≡ a.depth)
 -- refusal nothing is left.
 pub record IsTrueAnswer (limit : ℕ) (u : UnitView) (declared : Map) (a : Answer) : Type 0 where
   pub entry : (e : Entry) → a.current ≡ Some e → unit_entry_at limit u declared a.offset ≡ Ok e
-  pub behind : (e : Entry) → a.current ≡ Some e → IsAfterEntry limit u declared a e
+  pub after : (e : Entry) → a.current ≡ Some e → IsAfterEntry limit u declared a e
   pub null : a.outcome ≡ Ok true → a.current ≡ None
       → unit_entry_at limit u declared a.offset ≡ Err (NoEntryAtGivenOffset a.offset)
   pub none : (a.outcome ≡ Ok true → ⊥) → a.current ≡ None
@@ -52,8 +52,8 @@ AreTrueAnswers limit u declared (a ∷ rest) =
 
 -- the place after an answer: ahead are the unit's rows from its next offset on, the first of which
 -- has its next depth
-abbrev pub place_behind : ℕ → UnitView → Map → Answer → Place
-place_behind limit u declared a = record {
+abbrev pub place_after : ℕ → UnitView → Map → Answer → Place
+place_after limit u declared a = record {
   ahead = unit_rows_from limit u declared a.next_offset a.next_depth;
   current = a.current;
   offset = a.offset;
@@ -107,7 +107,7 @@ AreStepped limit u declared follows p [] all = Unit {0}
 AreStepped limit u declared follows p (s ∷ steps) [] = Unit {0}
 AreStepped limit u declared follows p (s ∷ steps) (b ∷ rest) =
     IsStepped limit u declared follows s p b
-    × AreStepped limit u declared follows (place_behind limit u declared b) steps rest
+    × AreStepped limit u declared follows (place_after limit u declared b) steps rest
 
 -- where the reference of an answer's entry leads, if it can be followed
 abbrev pub usable_of : ℕ → Answer → Option ℕ
@@ -144,7 +144,7 @@ AreTaken limit u declared (s ∷ steps) (a ∷ rest) = AreTakenFrom limit u decl
 -- where the rows are honest, where no reference is followed, and where no step looks for a sibling;
 -- and whatever the references each is true, and that of its step.
 pub record HasRunOver (limit : ℕ) (u : UnitView) (declared : Map) (follows : Bool)
-    (steps : List CursorStep) (v : View) (run : ToldRun Answer) : Type 0 where
+    (steps : List CursorStep) (v : View) (run : RunAnswers Answer) : Type 0 where
   pub answers : (follows ≡ true → any_sibling steps ≡ true → IsHonestAt limit u declared v)
       → IsRunOf run (answers_at limit u declared steps v)
   pub are_true : AreTrueAnswers limit u declared run.answers
@@ -155,7 +155,7 @@ pub record HasRunOver (limit : ℕ) (u : UnitView) (declared : Map) (follows : B
 
 -- the same from a start, which may be refused
 abbrev pub IsRunFrom : ℕ → UnitView → Map → Bool → List CursorStep → Result View Error
-    → Result (ToldRun Answer) Error → Type 0
+    → Result (RunAnswers Answer) Error → Type 0
 IsRunFrom limit u declared follows steps (Ok v) (Ok run) =
     HasRunOver limit u declared follows steps v run
 IsRunFrom limit u declared follows steps (Ok v) (Err x) = ⊥

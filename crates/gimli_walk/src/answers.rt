@@ -68,8 +68,8 @@ pub(crate) struct AnswerLines<'a, W> {
 }
 
 impl<R: Reader, A: Allocator, W: Write> Sink<R, A> for AnswerLines<'_, W> {
-    ghost has_told = { λ s told t. (t.out.ghost_name ≡ s.out.ghost_name)
-        × HasLined answer_line (λ a. is_err a.outcome) (W.contents s.out.now) s.refused told
+    ghost has_received = { λ s answers t. (t.out.ghost_name ≡ s.out.ghost_name)
+        × HasLined answer_line (λ a. is_err a.outcome) (W.contents s.out.now) s.refused answers
         (W.contents t.out.now) t.refused };
 
     ghost writes = { true };
@@ -90,7 +90,7 @@ impl<R: Reader, A: Allocator, W: Write> Sink<R, A> for AnswerLines<'_, W> {
 }
 
 // Writes the lines of a cursor's answers to these steps, and answers the status of their text.
-fn write_told<R: Reader, A: Allocator + Copy, W: Write>(
+fn write_answers<R: Reader, A: Allocator + Copy, W: Write>(
     cursor: &mut EntriesCursor<'_, R, A>,
     steps: &[CursorStep],
     out: &mut W,
@@ -103,11 +103,11 @@ fn write_told<R: Reader, A: Allocator + Copy, W: Write>(
         out,
         refused: false,
     };
-    let told = run_steps(cursor, steps, &mut lines);
+    let answer = run_steps(cursor, steps, &mut lines);
     let AnswerLines { out, refused } = lines;
     // No effect at run time. The proof reads what is after `out` from this use.
     let _ = &*out;
-    match told {
+    match answer {
         Ok(()) => Ok(u8::from(refused)),
         Err(stop) => Err(stop),
     }
@@ -131,7 +131,7 @@ pub(crate) fn write_steps<R: Reader, A: Allocator + Copy, W: Write>(
         (λ status. WroteSteps R.Offset.limit u declared follows steps.now old new status) }
 {
     let mut cursor = first_cursor(alloc, unit, abbreviations, follows);
-    match write_told(&mut cursor, steps, out) {
+    match write_answers(&mut cursor, steps, out) {
         Ok(status) => Ok(status),
         Err(Stop::Memory) => {
             write_error(out, Error::OutOfMemory)?;

@@ -11,17 +11,17 @@ ghost use Rattle.gimli_base.specs.Offset.{answer_of};
 ghost use Rattle.gimli_base.specs.Table.{codes_of};
 ghost use Rattle.gimli_units.specs.Entry.{entry_of, is_null};
 ghost use Rattle.gimli_units.specs.CursorPlace.{some_of, first_of_rows};
-ghost use Rattle.gimli_units.specs.CursorMoves.{Goes, IsHonestFor, followed_to, rows_from};
-ghost use Rattle.gimli_units.specs.CursorMoves.{IsSameUnit, IsTrueEntry, IsRefused, IsNotFound};
-ghost use Rattle.gimli_units.specs.CursorMoves.{IsFurther};
-ghost use Rattle.gimli_units.specs.CursorRead.{Stands};
+ghost use Rattle.gimli_units.specs.CursorModel.{Goes, IsHonestFor, followed_to, rows_from};
+ghost use Rattle.gimli_units.specs.CursorModel.{IsSameUnit, IsTrueEntry, IsRefused, IsNotFound};
+ghost use Rattle.gimli_units.specs.CursorModel.{IsFurther};
+ghost use Rattle.gimli_units.specs.SearchSteps.{Stands};
 ghost use Rattle.gimli_units.specs.CursorStart.{cursor_of, cursor_start};
 ghost use Rattle.gimli_units.specs.UnitRows.{start_view};
 ghost use Rattle.gimli_walk.specs.Cursors.{answer_held, IsPaired, step_of, is_sibling};
-ghost use Rattle.gimli_walk.specs.Runs.{told_run};
+ghost use Rattle.gimli_walk.specs.Runs.{answers_of_run};
 ghost use Rattle.gimli_walk.specs.TrueAnswers.{IsRunFrom};
 ghost use Rattle.gimli_walk.specs.CursorTurns.{HasRun};
-ghost use Rattle.gimli_walk.specs.Sinks.{HasCollected, HasToldSteps};
+ghost use Rattle.gimli_walk.specs.Sinks.{HasCollected, HasAnsweredSteps};
 ghost use Rattle.gimli_walk.specs.SinkLaws.{collected_none, collected_more};
 ghost use Rattle.gimli_units.specs.UnitHeld.{unit_view};
 
@@ -139,9 +139,9 @@ pub(crate) fn run_steps<R: Reader, A: Allocator + Copy, S: Sink<R, A>>(
     steps: &[CursorStep],
     sink: &mut S,
 ) -> StdResult<(), Stop>
-    ensures { let told = S.has_told sink.old in
+    ensures { let received = S.has_received sink.old in
         let run = HasRun R.Offset.limit cursor.old steps.now in
-        HasToldSteps run (λ all. told all sink.new) S.writes (length steps.now) result }
+        HasAnsweredSteps run (λ all. received all sink.new) S.writes (length steps.now) result }
 {
     'steps: for step in steps {
         let outcome = take(cursor, *step);
@@ -161,9 +161,9 @@ struct Collected<R: Reader, A: Allocator> {
 }
 
 impl<R: Reader, A: Allocator + Copy> Sink<R, A> for Collected<R, A> {
-    ghost has_told = { λ s told t.
+    ghost has_received = { λ s answers t.
         HasCollected (answer_held R.view R.Offset.number) (IsPaired R.Offset.number)
-        s.answers.items told t.answers.items };
+        s.answers.items answers t.answers.items };
 
     ghost writes = { false };
 
@@ -277,7 +277,7 @@ pub fn run_cursor<R: Reader, A: Allocator + Copy>(
     ensures run { let u = unit_view unit.now in
         let from = start_view u (option_map (λ o. R.Offset.number o.0) start) in
         IsRunFrom R.Offset.limit u (codes_of abbreviations.now) true steps.now from
-        (answer_of (told_run (answer_held R.view R.Offset.number)) result) }
+        (answer_of (answers_of_run (answer_held R.view R.Offset.number)) result) }
     ensures paired { IfOk result (λ r. All (IsPaired R.Offset.number) r.answers.items) }
 {
     let mut cursor = start_cursor(alloc, unit, abbreviations, start, true)?;
@@ -299,7 +299,7 @@ pub fn run_cursor_plain<R: Reader, A: Allocator + Copy>(
     ensures run { let u = unit_view unit.now in
         let from = start_view u (option_map (λ o. R.Offset.number o.0) start) in
         IsRunFrom R.Offset.limit u (codes_of abbreviations.now) false steps.now from
-        (answer_of (told_run (answer_held R.view R.Offset.number)) result) }
+        (answer_of (answers_of_run (answer_held R.view R.Offset.number)) result) }
     ensures paired { IfOk result (λ r. All (IsPaired R.Offset.number) r.answers.items) }
 {
     let mut cursor = start_cursor(alloc, unit, abbreviations, start, false)?;

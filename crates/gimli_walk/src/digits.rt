@@ -37,7 +37,7 @@ fn put_two(number: u64, end: usize, line: &mut [u8; 48]) -> usize
     put_byte(glyph(number / 16 % 16), low, line)
 }
 
-// Writes a number below 256 in hexadecimal. Both digits are written, and the number begins behind
+// Writes a number below 256 in hexadecimal. Both digits are written, and the number begins after
 // the first one where that is a zero.
 #[inline(always)]
 fn put_pair(number: u64, end: usize, line: &mut [u8; 48]) -> usize

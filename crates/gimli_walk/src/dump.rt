@@ -94,7 +94,7 @@ fn dump_units<R: Reader, A: Allocator + Copy, W: Write>(
 
 // A table of abbreviations, and where it begins in its section.
 #[derive(Drop)]
-struct Held<A: Allocator> {
+struct CachedTable<A: Allocator> {
     offset: u64,
     table: Abbreviations<A>,
 }
@@ -105,8 +105,8 @@ fn table_of<R: Reader, A: Allocator + Copy>(
     alloc: A,
     unit: &UnitHeader<R>,
     debug_abbrev: &DebugAbbrev<R>,
-    before: Option<Held<A>>,
-) -> Result<Held<A>>
+    before: Option<CachedTable<A>>,
+) -> Result<CachedTable<A>>
     requires held { let declarations = ⟦<DebugAbbrev<R> as Section<R>>⟧.content debug_abbrev.now in
         IfSome before (λ h. Ok (codes_of h.table) ≡ map_at h.offset declarations) }
     ensures table { let declarations = ⟦<DebugAbbrev<R> as Section<R>>⟧.content debug_abbrev.now in
@@ -125,7 +125,7 @@ fn table_of<R: Reader, A: Allocator + Copy>(
         }
     }
     let table = unit.abbreviations(alloc, debug_abbrev)?;
-    Ok(Held { offset, table })
+    Ok(CachedTable { offset, table })
 }
 
 // Writes a unit, and answers the status of its text. The table of the unit before is held, and
@@ -134,7 +134,7 @@ fn dump_unit<R: Reader, A: Allocator + Copy, W: Write>(
     alloc: A,
     unit: &UnitHeader<R>,
     debug_abbrev: &DebugAbbrev<R>,
-    held: &mut Option<Held<A>>,
+    held: &mut Option<CachedTable<A>>,
     out: &mut W,
 ) -> StdResult<u8, Stop>
     requires held { let declarations = ⟦<DebugAbbrev<R> as Section<R>>⟧.content debug_abbrev.now in

@@ -4,7 +4,7 @@ ghost use Rattle.std.specs.Prelude.{IsTrue};
 ghost use Rattle.gimli_base.specs.Offset.{answer_of};
 ghost use Rattle.gimli_base.specs.Reading.{is_size};
 ghost use Rattle.gimli_lists.specs.Ranges.{resolved_of, range_answers};
-ghost use Rattle.gimli_walk.specs.Runs.{RunsAs, told_run};
+ghost use Rattle.gimli_walk.specs.Runs.{RunsAs, answers_of_run};
 
 use crate::run::{Run, run_all};
 use gimli_base::{DebugAddr, DebugAddrBase, Encoding, RangeListsOffset, Reader, Result, Section};
@@ -32,7 +32,7 @@ pub fn run_ranges<R: Reader, A: Allocator + Copy>(
     requires { IsTrue (is_size encoding.address_size) }
     ensures { let addresses = ⟦<DebugAddr<R> as Section<R>>⟧.content addr.now in
         let sections = ⟦<RangeLists<R> as HasLists>⟧.lists lists.now in
-        RunsAs (answer_of (told_run (answer_of resolved_of)) result)
+        RunsAs (answer_of (answers_of_run (answer_of resolved_of)) result)
         (range_answers R.Offset.limit (R.Offset.number offset.0) encoding base addresses
         (R.Offset.number addr_base.0) sections) }
 {

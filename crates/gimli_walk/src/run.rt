@@ -7,7 +7,7 @@ ghost use Rattle.gimli_base.specs.declared.common.SectionId.TheVariants.{DebugTy
 ghost use Rattle.gimli_base.specs.Offset.{answer_of};
 ghost use Rattle.gimli_base.specs.Chain.{each_answer};
 ghost use Rattle.gimli_headers.specs.Units.{units_of};
-ghost use Rattle.gimli_walk.specs.Runs.{IsRunOf, told_run};
+ghost use Rattle.gimli_walk.specs.Runs.{IsRunOf, answers_of_run};
 ghost use Rattle.gimli_units.specs.UnitHeld.{unit_view};
 
 use gimli_base::{Reader, Result, Section};
@@ -57,7 +57,7 @@ pub fn run_units<R: Reader, A: Allocator + Copy>(
     debug_info: &DebugInfo<R>,
 ) -> Run<Result<UnitHeader<R>>, A>
     ensures { let section = ⟦<DebugInfo<R> as Section<R>>⟧.content debug_info.now in
-        IsRunOf (told_run (answer_of unit_view) result)
+        IsRunOf (answers_of_run (answer_of unit_view) result)
         (each_answer (units_of R.Offset.limit InfoSection section)) }
 {
     run_all(alloc, debug_info.units())
@@ -72,7 +72,7 @@ pub fn run_type_units<R: Reader, A: Allocator + Copy>(
     debug_types: &DebugTypes<R>,
 ) -> Run<Result<UnitHeader<R>>, A>
     ensures { let section = ⟦<DebugTypes<R> as Section<R>>⟧.content debug_types.now in
-        IsRunOf (told_run (answer_of unit_view) result)
+        IsRunOf (answers_of_run (answer_of unit_view) result)
         (each_answer (units_of R.Offset.limit TypesSection section)) }
 {
     run_all(alloc, debug_types.units())

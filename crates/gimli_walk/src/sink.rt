@@ -1,12 +1,12 @@
 //! What takes the answers of a run, one by one.
 
 ghost use Rattle.std.specs.Prelude.{◌≡◌, Bool, List, [], ◌∷◌, ◌++◌, OnOk, Err, true, false};
-ghost use Rattle.gimli_units.specs.TreePlace.{Told, a_node};
+ghost use Rattle.gimli_units.specs.TreePlace.{StepAnswer, a_node};
 ghost use Rattle.gimli_units.specs.TreeWalker.{node_held};
 ghost use Rattle.gimli_walk.specs.declared.lines.Stop.TheVariants.{Memory, Write as WriteStop};
 ghost use Rattle.gimli_walk.specs.Cursors.{Answer};
 ghost use Rattle.gimli_walk.specs.CursorTurns.{answer_at};
-ghost use Rattle.gimli_walk.specs.TreeTurns.{told_of_word};
+ghost use Rattle.gimli_walk.specs.TreeTurns.{word_answer};
 
 use crate::lines::Stop;
 use crate::tree::Word;
@@ -17,7 +17,7 @@ use std::alloc::Allocator;
 /// What takes the answers of a cursor's run.
 pub(crate) trait Sink<R: Reader, A: Allocator> {
     // one was told these answers, and is then the other
-    ghost has_told: { Self → List Answer → Self → Type 0 };
+    ghost has_received: { Self → List Answer → Self → Type 0 };
 
     // whether it writes
     ghost writes: { Bool };
@@ -29,40 +29,40 @@ pub(crate) trait Sink<R: Reader, A: Allocator> {
         outcome: AnswerResult<bool>,
         cursor: &EntriesCursor<'_, R, A>,
     ) -> Result<(), Stop>
-        ensures told { OnOk result
-            (has_told self.old (answer_at outcome cursor.now ∷ []) self.new) }
-        ensures kept { result ≡ Err Memory → has_told self.old [] self.new }
+        ensures answer { OnOk result
+            (has_received self.old (answer_at outcome cursor.now ∷ []) self.new) }
+        ensures kept { result ≡ Err Memory → has_received self.old [] self.new }
         ensures fault { result ≡ Err WriteStop → writes ≡ true };
 
-    ghost none: { (s : Self) → has_told s [] s };
+    ghost none: { (s : Self) → has_received s [] s };
 
-    ghost more: { (s t u : Self) (xs ys : List Answer) → has_told s xs t → has_told t ys u
-        → has_told s (xs ++ ys) u };
+    ghost more: { (s t u : Self) (xs ys : List Answer) → has_received s xs t → has_received t ys u
+        → has_received s (xs ++ ys) u };
 }
 
 /// What takes the answers of a tree's run.
 pub(crate) trait TreeSink<R: Reader, A: Allocator> {
     // one was told these answers, and is then the other
-    ghost has_told: { Self → List Told → Self → Type 0 };
+    ghost has_received: { Self → List StepAnswer → Self → Type 0 };
 
     // whether it writes
     ghost writes: { Bool };
 
     /// Takes a node, by its entry. Where memory is refused nothing is taken.
     fn tell_node(&mut self, entry: &DebuggingInformationEntry<R, A>) -> Result<(), Stop>
-        ensures told { OnOk result (has_told self.old
+        ensures answer { OnOk result (has_received self.old
             (a_node (node_held R.view R.Offset.number entry.now) ∷ []) self.new) }
-        ensures kept { result ≡ Err Memory → has_told self.old [] self.new }
+        ensures kept { result ≡ Err Memory → has_received self.old [] self.new }
         ensures fault { result ≡ Err WriteStop → writes ≡ true };
 
     /// Takes an answer that is no node. Where memory is refused nothing is taken.
     fn tell(&mut self, word: Word) -> Result<(), Stop>
-        ensures told { OnOk result (has_told self.old (told_of_word word ∷ []) self.new) }
-        ensures kept { result ≡ Err Memory → has_told self.old [] self.new }
+        ensures answer { OnOk result (has_received self.old (word_answer word ∷ []) self.new) }
+        ensures kept { result ≡ Err Memory → has_received self.old [] self.new }
         ensures fault { result ≡ Err WriteStop → writes ≡ true };
 
-    ghost none: { (s : Self) → has_told s [] s };
+    ghost none: { (s : Self) → has_received s [] s };
 
-    ghost more: { (s t u : Self) (xs ys : List Told) → has_told s xs t → has_told t ys u
-        → has_told s (xs ++ ys) u };
+    ghost more: { (s t u : Self) (xs ys : List StepAnswer) → has_received s xs t
+        → has_received t ys u → has_received s (xs ++ ys) u };
 }

@@ -9,12 +9,12 @@ ghost use Rattle.gimli_units.specs.TreePlace.{a_fault};
 ghost use Rattle.gimli_walk.specs.declared.lines.Stop.TheVariants.{Memory, Write as WriteStop};
 ghost use Rattle.gimli_walk.specs.declared.tree.TreeStep.TheVariants.{Root, Next, Enter, Leave};
 ghost use Rattle.gimli_walk.specs.Cursors.{IsStopped};
-ghost use Rattle.gimli_walk.specs.Runs.{told_run};
-ghost use Rattle.gimli_walk.specs.Sinks.{HasCollected, HasToldSteps};
+ghost use Rattle.gimli_walk.specs.Runs.{answers_of_run};
+ghost use Rattle.gimli_walk.specs.Sinks.{HasCollected, HasAnsweredSteps};
 ghost use Rattle.gimli_walk.specs.SinkLaws.{collected_none, collected_more};
-ghost use Rattle.gimli_walk.specs.Trees.{told_by, tolds_by, tree_view};
-ghost use Rattle.gimli_walk.specs.TrueTolds.{IsTreeRunFrom};
-ghost use Rattle.gimli_walk.specs.TreeTurns.{told_of_word, told_standing, HasToldTurn, HasTreeRun};
+ghost use Rattle.gimli_walk.specs.Trees.{step_answer_by, step_answers_by, tree_view};
+ghost use Rattle.gimli_walk.specs.TrueStepAnswers.{IsTreeRunFrom};
+ghost use Rattle.gimli_walk.specs.TreeTurns.{word_answer, standing_answer, HasAnsweredTurn, HasTreeRun};
 ghost use Rattle.gimli_units.specs.UnitHeld.{unit_view};
 
 use crate::Run;
@@ -83,9 +83,9 @@ fn tell_fault<R: Reader, A: Allocator, S: TreeSink<R, A>>(
     error: Error,
     sink: &mut S,
 ) -> StdResult<(), Stop>
-    ensures told { OnOk result (S.has_told sink.old (a_fault error ∷ []) sink.new) }
+    ensures answer { OnOk result (S.has_received sink.old (a_fault error ∷ []) sink.new) }
     ensures fine { OnOk result (error ≡ OutOfMemory → ⊥) }
-    ensures kept { result ≡ Err Memory → S.has_told sink.old [] sink.new }
+    ensures kept { result ≡ Err Memory → S.has_received sink.old [] sink.new }
     ensures fault { result ≡ Err WriteStop → S.writes ≡ true }
 {
     if is_memory(error) {
@@ -99,8 +99,9 @@ fn tell_found<R: Reader, A: Allocator, S: TreeSink<R, A>>(
     walker: &EntriesTreeWalker<'_, R, A>,
     sink: &mut S,
 ) -> StdResult<(), Stop>
-    ensures told { OnOk result (S.has_told sink.old (told_standing walker.now ∷ []) sink.new) }
-    ensures kept { result ≡ Err Memory → S.has_told sink.old [] sink.new }
+    ensures answer { OnOk result
+        (S.has_received sink.old (standing_answer walker.now ∷ []) sink.new) }
+    ensures kept { result ≡ Err Memory → S.has_received sink.old [] sink.new }
     ensures fault { result ≡ Err WriteStop → S.writes ≡ true }
 {
     match walker.entry() {
@@ -115,9 +116,9 @@ fn turn_root<R: Reader, A: Allocator, S: TreeSink<R, A>>(
     sink: &mut S,
 ) -> StdResult<(), Stop>
     ensures turned { OnOk result
-        (HasToldTurn R.Offset.limit Root walker.old walker.new
-        (λ told. S.has_told sink.old told sink.new)) }
-    ensures kept { result ≡ Err Memory → S.has_told sink.old [] sink.new }
+        (HasAnsweredTurn R.Offset.limit Root walker.old walker.new
+        (λ answers. S.has_received sink.old answers sink.new)) }
+    ensures kept { result ≡ Err Memory → S.has_received sink.old [] sink.new }
     ensures fault { result ≡ Err WriteStop → S.writes ≡ true }
 {
     match walker.root() {
@@ -132,9 +133,9 @@ fn turn_next<R: Reader, A: Allocator, S: TreeSink<R, A>>(
     sink: &mut S,
 ) -> StdResult<(), Stop>
     ensures turned { OnOk result
-        (HasToldTurn R.Offset.limit Next walker.old walker.new
-        (λ told. S.has_told sink.old told sink.new)) }
-    ensures kept { result ≡ Err Memory → S.has_told sink.old [] sink.new }
+        (HasAnsweredTurn R.Offset.limit Next walker.old walker.new
+        (λ answers. S.has_received sink.old answers sink.new)) }
+    ensures kept { result ≡ Err Memory → S.has_received sink.old [] sink.new }
     ensures fault { result ≡ Err WriteStop → S.writes ≡ true }
 {
     if walker.list_count() == 0 {
@@ -152,9 +153,9 @@ fn turn_enter<R: Reader, A: Allocator, S: TreeSink<R, A>>(
     sink: &mut S,
 ) -> StdResult<(), Stop>
     ensures turned { OnOk result
-        (HasToldTurn R.Offset.limit Enter walker.old walker.new
-        (λ told. S.has_told sink.old told sink.new)) }
-    ensures kept { result ≡ Err Memory → S.has_told sink.old [] sink.new }
+        (HasAnsweredTurn R.Offset.limit Enter walker.old walker.new
+        (λ answers. S.has_received sink.old answers sink.new)) }
+    ensures kept { result ≡ Err Memory → S.has_received sink.old [] sink.new }
     ensures fault { result ≡ Err WriteStop → S.writes ≡ true }
 {
     match walker.enter() {
@@ -170,9 +171,9 @@ fn turn_leave<R: Reader, A: Allocator, S: TreeSink<R, A>>(
     sink: &mut S,
 ) -> StdResult<(), Stop>
     ensures turned { OnOk result
-        (HasToldTurn R.Offset.limit Leave walker.old walker.new
-        (λ told. S.has_told sink.old told sink.new)) }
-    ensures kept { result ≡ Err Memory → S.has_told sink.old [] sink.new }
+        (HasAnsweredTurn R.Offset.limit Leave walker.old walker.new
+        (λ answers. S.has_received sink.old answers sink.new)) }
+    ensures kept { result ≡ Err Memory → S.has_received sink.old [] sink.new }
     ensures fault { result ≡ Err WriteStop → S.writes ≡ true }
 {
     if walker.leave() {
@@ -189,9 +190,9 @@ fn turn<R: Reader, A: Allocator, S: TreeSink<R, A>>(
     sink: &mut S,
 ) -> StdResult<(), Stop>
     ensures turned { OnOk result
-        (HasToldTurn R.Offset.limit step walker.old walker.new
-        (λ told. S.has_told sink.old told sink.new)) }
-    ensures kept { result ≡ Err Memory → S.has_told sink.old [] sink.new }
+        (HasAnsweredTurn R.Offset.limit step walker.old walker.new
+        (λ answers. S.has_received sink.old answers sink.new)) }
+    ensures kept { result ≡ Err Memory → S.has_received sink.old [] sink.new }
     ensures fault { result ≡ Err WriteStop → S.writes ≡ true }
 {
     match step {
@@ -208,9 +209,9 @@ pub(crate) fn run_steps<R: Reader, A: Allocator, S: TreeSink<R, A>>(
     steps: &[TreeStep],
     sink: &mut S,
 ) -> StdResult<(), Stop>
-    ensures { let told = S.has_told sink.old in
+    ensures { let received = S.has_received sink.old in
         let run = HasTreeRun R.Offset.limit walker.old steps.now in
-        HasToldSteps run (λ all. told all sink.new) S.writes (length steps.now) result }
+        HasAnsweredSteps run (λ all. received all sink.new) S.writes (length steps.now) result }
 {
     'steps: for step in steps {
         turn(walker, *step, sink)?;
@@ -220,7 +221,7 @@ pub(crate) fn run_steps<R: Reader, A: Allocator, S: TreeSink<R, A>>(
 
 // The answer of a word.
 fn answer_of_word<R: Reader, A: Allocator>(word: Word) -> TreeAnswer<R, A>
-    ensures { told_by R.view R.Offset.number result ≡ told_of_word word }
+    ensures { step_answer_by R.view R.Offset.number result ≡ word_answer word }
 {
     match word {
         Word::End => TreeAnswer::End,
@@ -239,8 +240,9 @@ struct Collected<R: Reader, A: Allocator> {
 }
 
 impl<R: Reader, A: Allocator + Copy> TreeSink<R, A> for Collected<R, A> {
-    ghost has_told = { λ s told t. HasCollected (told_by R.view R.Offset.number) (λ x. Unit {0})
-        s.answers.items told t.answers.items };
+    ghost has_received = { λ s answers t.
+        HasCollected (step_answer_by R.view R.Offset.number) (λ x. Unit {0})
+        s.answers.items answers t.answers.items };
 
     ghost writes = { false };
 
@@ -275,7 +277,7 @@ fn collect_steps<R: Reader, A: Allocator + Copy>(
     steps: &[TreeStep],
 ) -> Run<TreeAnswer<R, A>, A>
     ensures run { HasTreeRun R.Offset.limit walker.old steps.now
-        (tolds_by R.view R.Offset.number result.answers.items) }
+        (step_answers_by R.view R.Offset.number result.answers.items) }
     ensures stopped { IsStopped result.stopped (length result.answers.items) (length steps.now) }
 {
     let mut collected = Collected {
@@ -311,7 +313,7 @@ pub fn run_tree<R: Reader, A: Allocator + Copy>(
     ensures { let u = unit_view unit.now in
         let from = tree_view u (option_map (λ o. R.Offset.number o.0) start) in
         IsTreeRunFrom R.Offset.limit u (codes_of abbreviations.now) steps.now from
-        (answer_of (told_run (told_by R.view R.Offset.number)) result) }
+        (answer_of (answers_of_run (step_answer_by R.view R.Offset.number)) result) }
 {
     let tree = unit.entries_tree(alloc, abbreviations, start)?;
     let mut walker = tree.walk(alloc);

@@ -11,10 +11,10 @@ ghost use Rattle.gimli_units.specs.UnitRows.{IsHonestFrom};
 ghost use Rattle.gimli_walk.specs.Sinks.{HasLined, HasWrittenSteps};
 ghost use Rattle.gimli_walk.specs.SinkLaws.{lined_none, lined_more};
 ghost use Rattle.gimli_walk.specs.Text.{Wrote};
-ghost use Rattle.gimli_walk.specs.Trees.{told_line, tolds_text, is_fault, tree_view};
+ghost use Rattle.gimli_walk.specs.Trees.{step_answer_line, step_answers_text, is_fault, tree_view};
 ghost use Rattle.gimli_walk.specs.Trees.{run_tree_answers, run_text_of};
 ghost use Rattle.gimli_walk.specs.TreeText.{WroteTrueTree};
-ghost use Rattle.gimli_walk.specs.TreeTurns.{told_of_word, HasTreeRun};
+ghost use Rattle.gimli_walk.specs.TreeTurns.{word_answer, HasTreeRun};
 
 use crate::TreeStep;
 use crate::lines::{Stop, WriteFault, write_end, write_error, write_row};
@@ -26,14 +26,14 @@ use std::alloc::Allocator;
 use std::io::Write;
 
 // Writes the line of a node.
-#[tactic(auto, unfolding(crate::specs::Trees::told_line, crate::specs::Trees::node_line))]
+#[tactic(auto, unfolding(crate::specs::Trees::step_answer_line, crate::specs::Trees::node_line))]
 fn write_node<R: Reader, A: Allocator, W: Write>(
     out: &mut W,
     entry: &DebuggingInformationEntry<R, A>,
 ) -> Result<(), WriteFault>
     ensures { OnOk result
         (Appends (W.contents out.old) (W.contents out.new)
-        (told_line (a_node (node_held R.view R.Offset.number entry.now)))) }
+        (step_answer_line (a_node (node_held R.view R.Offset.number entry.now)))) }
 {
     out.write_all(b"node ").map_err(|_| WriteFault)?;
     let offset = entry.offset().0.into_u64();
@@ -49,10 +49,10 @@ fn write_node<R: Reader, A: Allocator, W: Write>(
 }
 
 // Writes the line of an answer that is no node.
-#[tactic(auto, unfolding(crate::specs::Trees::told_line))]
+#[tactic(auto, unfolding(crate::specs::Trees::step_answer_line))]
 fn write_word<W: Write>(out: &mut W, word: Word) -> Result<(), WriteFault>
     ensures { OnOk result
-        (Appends (W.contents out.old) (W.contents out.new) (told_line (told_of_word word))) }
+        (Appends (W.contents out.old) (W.contents out.new) (step_answer_line (word_answer word))) }
 {
     match word {
         Word::End => write_end(out),
@@ -65,7 +65,7 @@ fn write_word<W: Write>(out: &mut W, word: Word) -> Result<(), WriteFault>
 
 // Whether an answer is a refusal.
 fn is_refusal(word: Word) -> bool
-    ensures { result ≡ is_fault (told_of_word word) }
+    ensures { result ≡ is_fault (word_answer word) }
 {
     matches!(word, Word::Fault(_))
 }
@@ -78,8 +78,8 @@ struct NodeLines<'a, W> {
 }
 
 impl<R: Reader, A: Allocator, W: Write> TreeSink<R, A> for NodeLines<'_, W> {
-    ghost has_told = { λ s told t. (t.out.ghost_name ≡ s.out.ghost_name)
-        × HasLined told_line is_fault (W.contents s.out.now) s.refused told
+    ghost has_received = { λ s answers t. (t.out.ghost_name ≡ s.out.ghost_name)
+        × HasLined step_answer_line is_fault (W.contents s.out.now) s.refused answers
         (W.contents t.out.now) t.refused };
 
     ghost writes = { true };
@@ -101,24 +101,24 @@ impl<R: Reader, A: Allocator, W: Write> TreeSink<R, A> for NodeLines<'_, W> {
 }
 
 // Writes the lines of a walker's answers to these steps, and answers the status of their text.
-fn write_told<R: Reader, A: Allocator, W: Write>(
+fn write_answers<R: Reader, A: Allocator, W: Write>(
     walker: &mut EntriesTreeWalker<'_, R, A>,
     steps: &[TreeStep],
     out: &mut W,
 ) -> Result<u8, Stop>
     ensures { let old = W.contents out.old in
         let run = HasTreeRun R.Offset.limit walker.old steps.now in
-        HasWrittenSteps run tolds_text old (W.contents out.new) (length steps.now) result }
+        HasWrittenSteps run step_answers_text old (W.contents out.new) (length steps.now) result }
 {
     let mut lines = NodeLines {
         out,
         refused: false,
     };
-    let told = run_steps(walker, steps, &mut lines);
+    let answer = run_steps(walker, steps, &mut lines);
     let NodeLines { out, refused } = lines;
     // No effect at run time. The proof reads what is after `out` from this use.
     let _ = &*out;
-    match told {
+    match answer {
         Ok(()) => Ok(u8::from(refused)),
         Err(stop) => Err(stop),
     }
@@ -152,7 +152,7 @@ pub(crate) fn write_tree_steps<R: Reader, A: Allocator + Copy, W: Write>(
         }
     };
     let mut walker = tree.walk(alloc);
-    match write_told(&mut walker, steps, out) {
+    match write_answers(&mut walker, steps, out) {
         Ok(status) => Ok(status),
         Err(Stop::Memory) => {
             write_error(out, Error::OutOfMemory)?;

@@ -17,8 +17,8 @@ use Rattle.gimli_units.proofs.RowSteps.{ahead_ended}
 use Rattle.gimli_units.specs.Honest.{usable_target, IsHonest, AreHonestUntil}
 use Rattle.gimli_units.specs.CursorPlace.{Place, Moved, some_of, is_entry, has_depth, arrive}
 use Rattle.gimli_units.specs.CursorPlace.{skip_until, seek}
-use Rattle.gimli_units.specs.CursorMoves.{CursorView, next_of, rows_of, place_of, last_row}
-use Rattle.gimli_units.specs.CursorMoves.{view_from, IsHonestFor, IsOver, IsSound, IsTrueEntry}
+use Rattle.gimli_units.specs.CursorModel.{CursorView, next_of, rows_of, place_of, last_row}
+use Rattle.gimli_units.specs.CursorModel.{view_from, IsHonestFor, IsOver, IsSound, IsTrueEntry}
 use Rattle.gimli_units.proofs.PlaceLaw.{depth_is, null_honest}
 use Rattle.gimli_units.specs.TreePlace.{Lists, TreeMoved, children_of}
 use Rattle.gimli_units.specs.TreeMoves.{TreeView, node_at, HasBegun, HasGoneOn}
@@ -65,9 +65,9 @@ module _ (limit : ℕ) (c : CursorView) (s : IsSound c) where
       → int_le c.raw.depth c.depth ≡ true
       → IsHonest c.raw.end (last_row c) (rows_of limit c.raw).rows
   too_deep true flag entry deep =
-      let behind : c.raw.depth ≡ c.depth +ℤ pos 1 = s.behind entry ∙ rw (entry, flag) refl in
+      let after : c.raw.depth ≡ c.depth +ℤ pos 1 = s.after entry ∙ rw (entry, flag) refl in
       let low = at_least c.raw.depth c.depth deep in
-      absurd (omega (arith, ints, behind, low))
+      absurd (omega (arith, ints, after, low))
   too_deep false flag entry deep = leaf_honest entry flag
 
   current_honest : (null : Bool) → is_null c.entry ≡ null → int_le c.raw.depth c.depth ≡ true
@@ -177,18 +177,18 @@ entered_levels : (flag : Bool) (depth : ℤ) (outer : Lists)
 entered_levels true depth outer = refl
 entered_levels false depth outer = refl
 
-nested_in : (flag : Bool) (own behind d : ℤ) (outer : Lists) → own ≡ d → behind ≡ below_flag flag d
+nested_in : (flag : Bool) (own after d : ℤ) (outer : Lists) → own ≡ d → after ≡ below_flag flag d
     → AreNested (d -ℤ pos 1) outer
-    → AreNested behind ((if flag then Some (own +ℤ pos 1) else None) ∷ Some d ∷ outer)
-nested_in true own behind d outer same is nest =
-    let low : behind -ℤ pos 1 -ℤ pos 1 ≡ d -ℤ pos 1 = omega (arith, ints, is) in
+    → AreNested after ((if flag then Some (own +ℤ pos 1) else None) ∷ Some d ∷ outer)
+nested_in true own after d outer same is nest =
+    let low : after -ℤ pos 1 -ℤ pos 1 ≡ d -ℤ pos 1 = omega (arith, ints, is) in
     (omega (arith, ints, is, same), (omega (arith, ints, is), rw low nest))
-nested_in false own behind d outer same is nest = (sym is, rw is nest)
+nested_in false own after d outer same is nest = (sym is, rw is nest)
 
-nested_root : (flag : Bool) (own behind : ℤ) → behind ≡ below_flag flag own
-    → AreNested behind ((if flag then Some (own +ℤ pos 1) else None) ∷ [])
-nested_root true own behind is = (sym is, tt)
-nested_root false own behind is = tt
+nested_root : (flag : Bool) (own after : ℤ) → after ≡ below_flag flag own
+    → AreNested after ((if flag then Some (own +ℤ pos 1) else None) ∷ [])
+nested_root true own after is = (sym is, tt)
+nested_root false own after is = tt
 
 abbrev Left : ℕ → ℕ → Standing → ℕ → Result ℕ Error
 Left limit k s n =
@@ -215,14 +215,14 @@ module _ (limit : ℕ) (old new : Standing) (sound : IsSound old.tree.cursor) wh
   found_in_list d outer n h nest =
       let y = h.sought.yes refl in
       let c = new.tree.cursor in
-      let behind : c.raw.depth
+      let after : c.raw.depth
       ≡ below_flag c.entry.has_children d = y.0.depth ∙ rw (y.1, y.2) refl in
       let inner : AreNested (d -ℤ pos 1) outer = rw nest.0 nest.1 in
       let some : some_of c.entry ≡ Some c.entry = rw y.1 refl in
       let count = step_below limit d old.tree new.tree (Ok true) h sound nest.0 (levels_of outer) n
       in
       record {
-        ready = inr (nested_in c.entry.has_children c.depth c.raw.depth d outer y.2 behind inner);
+        ready = inr (nested_in c.entry.has_children c.depth c.raw.depth d outer y.2 after inner);
         count =
             rw (entered_levels c.entry.has_children (c.depth +ℤ pos 1) (Some d ∷ outer))
             (count ∙ rw some refl);
@@ -258,9 +258,9 @@ module _ (limit : ℕ) (old new : Standing) (sound : IsSound old.tree.cursor) wh
       let l = IsLater-length 0 old.tree.cursor.raw.rest new.tree.cursor.raw.rest h.sought.further
       in omega (arith, l)
 
-  null_behind : (d : ℤ) → is_null new.tree.cursor.entry ≡ true → new.tree.cursor.depth ≡ d
+  null_after : (d : ℤ) → is_null new.tree.cursor.entry ≡ true → new.tree.cursor.depth ≡ d
       → IsTrueEntry limit old.tree.cursor new.tree.cursor → new.tree.cursor.raw.depth ≡ d -ℤ pos 1
-  null_behind d null deep y =
+  null_after d null deep y =
       let p = old.tree.cursor.raw in
       let c = new.tree.cursor in
       let flag = entry_at-flagless limit p.encoding (codes_of p.abbreviations)
@@ -276,7 +276,7 @@ module _ (limit : ℕ) (old new : Standing) (sound : IsSound old.tree.cursor) wh
       let inner : AreNested (d -ℤ pos 1) outer = rw nest.0 nest.1 in
       record {
         ready = elim no.2 [
-          | inl y ↦ inr (rw (null_behind d no.0 no.1 y) inner)
+          | inl y ↦ inr (rw (null_after d no.0 no.1 y) inner)
           | inr over ↦ inl over.0
         ];
         count = step_below limit d old.tree new.tree (Ok false) h sound nest.0 (levels_of outer) n;
@@ -352,18 +352,18 @@ module _ (limit : ℕ) (old : TreeView) (root last : Standing)
   root_ready =
       let c = root.tree.cursor in
       let y = h.yes refl in
-      let behind : c.raw.depth
+      let after : c.raw.depth
       ≡ below_flag c.entry.has_children c.depth = y.0.depth ∙ rw y.1 refl in
-      rw root_entered (inr (nested_root c.entry.has_children c.depth c.raw.depth behind))
+      rw root_entered (inr (nested_root c.entry.has_children c.depth c.raw.depth after))
 
   pub root_entries : entries_counted old.start.end (rows_of limit old.start) ≡ rest_of limit 1 last
   root_entries =
       let c = root.tree.cursor in
-      ap (λ (m : TreeMoved). count_all m.told m.place.ahead) (sym h.goes)
+      ap (λ (m : TreeMoved). count_all m.answer m.place.ahead) (sym h.goes)
       ∙ rw root_entered (rw (entered_levels c.entry.has_children (c.depth +ℤ pos 1) []) refl)
 
 -- or it is refused
 pub root_refused : (limit : ℕ) (old new : TreeView) (e : Error) → HasBegun limit old (Err e) new
     → (e ≡ OutOfMemory → ⊥) → entries_counted old.start.end (rows_of limit old.start) ≡ Err e
 root_refused limit old new e h fine =
-    ap (λ (m : TreeMoved). count_all m.told m.place.ahead) (sym (h.goes fine))
+    ap (λ (m : TreeMoved). count_all m.answer m.place.ahead) (sym (h.goes fine))

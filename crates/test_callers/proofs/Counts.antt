@@ -10,8 +10,8 @@ use Rattle.gimli_units.specs.Rows.{Row, Ahead}
 use Rattle.gimli_units.specs.Honest.{AreHonest}
 use Rattle.gimli_units.specs.CursorPlace.{Place, Moved, is_entry, has_depth, arrive, skip_until}
 use Rattle.gimli_units.specs.CursorPlace.{seek}
-use Rattle.gimli_units.specs.CursorMoves.{rows_of, place_of}
-use Rattle.gimli_units.specs.CursorMoves.{IsHonestCursor}
+use Rattle.gimli_units.specs.CursorModel.{rows_of, place_of}
+use Rattle.gimli_units.specs.CursorModel.{IsHonestCursor}
 use Rattle.gimli_units.proofs.TreeLaw.{honest_at, honest_sought, honest_first}
 use Rattle.gimli_units.specs.TreeMoves.{TreeView, node_at, list_of, HasGoneOn, HasBegun}
 use Rattle.gimli_units.specs.TreePlace.{TreeMoved, children_of}
@@ -164,4 +164,4 @@ module _ (limit : ℕ) (old new : TreeView) (h : HasBegun limit old (Ok tt) new)
 
   pub root_counted : children_counted old.start.end (rows_of limit old.start)
       ≡ count_in (children_of (node_at new)) 0 (rows_of limit new.cursor.raw)
-  root_counted = ap (λ (m : TreeMoved). count_below m.told m.place.ahead) (sym h.goes)
+  root_counted = ap (λ (m : TreeMoved). count_below m.answer m.place.ahead) (sym h.goes)

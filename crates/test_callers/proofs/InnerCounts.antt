@@ -7,8 +7,8 @@ use Rattle.gimli_base.specs.declared.error.Error.TheVariants.{OutOfMemory}
 use Rattle.gimli_units.specs.Entry.{is_null}
 use Rattle.gimli_units.specs.RawPlace.{depth_after}
 use Rattle.gimli_units.specs.TreePlace.{Lists, children_of}
-use Rattle.gimli_units.specs.CursorMoves.{rows_of}
-use Rattle.gimli_units.specs.CursorMoves.{IsHonestCursor}
+use Rattle.gimli_units.specs.CursorModel.{rows_of}
+use Rattle.gimli_units.specs.CursorModel.{IsHonestCursor}
 use Rattle.gimli_units.specs.TreeMoves.{TreeView, node_at, HasGoneOn}
 use Rattle.gimli_units.specs.TreeWalker.{Standing, IsWalker, after_asked, WasAsked, HasAskedOne}
 use Rattle.gimli_units.specs.TreeWalker.{entered_from, left_from}
@@ -29,9 +29,9 @@ asked_flag limit true d t n outcome h = ((λ e. h), (λ e. absurd (cc)))
 asked_flag limit false d t n outcome h = ((λ e. absurd (cc)), (λ e. h))
 
 module _ (limit : ℕ) (t : TreeView) (entry : is_null t.cursor.entry ≡ false)
-    (behind : t.cursor.raw.depth ≡ depth_after t.cursor.entry t.cursor.depth) where
+    (after : t.cursor.raw.depth ≡ depth_after t.cursor.entry t.cursor.depth) where
   below_it : t.cursor.entry.has_children ≡ true → t.cursor.raw.depth ≡ t.cursor.depth +ℤ pos 1
-  below_it flag = rw (behind, entry, flag) refl
+  below_it flag = rw (after, entry, flag) refl
 
   asked_inner : (outcome : Result Bool Error) (n : TreeView)
       → WasAsked limit (children_of (node_at t)) t outcome n → HasEntered limit t outcome n
@@ -63,7 +63,7 @@ module _ (limit : ℕ) (old mid new : Standing) (sound : IsWalker old) (on : old
   pub was_entered : (outcome : Result Bool Error) → HasAskedOne limit mid.lists mid outcome new
       → HasEntered limit old.tree outcome new.tree
   was_entered outcome h =
-      let null = sound.node on in asked_inner limit old.tree null (sound.tree.sound.behind null)
+      let null = sound.node on in asked_inner limit old.tree null (sound.tree.sound.after null)
       outcome new.tree (asked_is outcome h).0
 
   left_lists : (list : Option ℤ) (b : Bool) (n : TreeView) (s last : Standing)
@@ -99,12 +99,12 @@ module _ (limit : ℕ) (old new last : Standing) where
   inner_counts (None ∷ outer) n b h inner same honest = let k = h.0.0 in absurd (cc)
   inner_counts (Some d ∷ outer) n b h inner same honest =
       let y = h.0.sought.yes refl in
-      let behind = rw y.2 at y.0.depth in
+      let after = rw y.2 at y.0.depth in
       let lists = same ∙ ap (λ (s : Standing). s.lists) h.1 in
       let mid = stays_honest limit d old.tree new.tree (Ok true) h.0 honest true refl in (
-        entered_honest limit d new.tree last.tree y.1 behind b inner mid,
+        entered_honest limit d new.tree last.tree y.1 after b inner mid,
         rw lists (counts limit d old.tree new.tree (Ok true) h.0 honest n
-            ∙ entered_count limit d new.tree last.tree y.1 behind b inner mid (n + 1)),
+            ∙ entered_count limit d new.tree last.tree y.1 after b inner mid (n + 1)),
       )
 
   pub inner_fewer : (lists : Lists) (outcome : Result Bool Error)
@@ -114,8 +114,8 @@ module _ (limit : ℕ) (old new last : Standing) where
   inner_fewer (None ∷ outer) outcome h inner = let k = h.0.0 in absurd (cc)
   inner_fewer (Some d ∷ outer) outcome h inner =
       let y = h.0.sought.yes refl in
-      let behind = rw y.2 at y.0.depth in
-      let left = entered_left limit d new.tree last.tree y.1 behind outcome inner in
+      let after = rw y.2 at y.0.depth in
+      let left = entered_left limit d new.tree last.tree y.1 after outcome inner in
       let fewer = fewer_left limit d old.tree new.tree h.0 in
       omega (arith, left, fewer)
 
@@ -127,7 +127,7 @@ module _ (limit : ℕ) (old new last : Standing) where
   inner_fails (None ∷ outer) n e h inner fine honest = let k = h.0.0 in absurd (cc)
   inner_fails (Some d ∷ outer) n e h inner fine honest =
       let y = h.0.sought.yes refl in
-      let behind = rw y.2 at y.0.depth in
+      let after = rw y.2 at y.0.depth in
       let mid = stays_honest limit d old.tree new.tree (Ok true) h.0 honest true refl in
       counts limit d old.tree new.tree (Ok true) h.0 honest n
-      ∙ entered_fails limit d new.tree last.tree y.1 behind e inner mid fine (n + 1)
+      ∙ entered_fails limit d new.tree last.tree y.1 after e inner mid fine (n + 1)

@@ -17,8 +17,8 @@ use Rattle.gimli_units.specs.Rows.{Row, Ahead}
 use Rattle.gimli_units.proofs.RowChain.{AreRows, AreAhead, exist_rows}
 use Rattle.gimli_units.specs.CursorPlace.{Place, Moved, is_entry, has_depth, arrive, skip_until}
 use Rattle.gimli_units.specs.CursorPlace.{seek}
-use Rattle.gimli_units.specs.CursorMoves.{next_of, rows_of, place_of}
-use Rattle.gimli_units.specs.CursorMoves.{IsHonestCursor}
+use Rattle.gimli_units.specs.CursorModel.{next_of, rows_of, place_of}
+use Rattle.gimli_units.specs.CursorModel.{IsHonestCursor}
 use Rattle.gimli_units.proofs.TreeLaw.{honest_at}
 use Rattle.gimli_units.specs.TreeMoves.{TreeView, HasGoneOn}
 use Rattle.test_callers.specs.Children.{count_rows}
@@ -150,9 +150,9 @@ module _ (depth inner : ℤ) (is : inner ≡ depth +ℤ pos 1) where
 
 -- the first entry of a child's list was asked for
 module _ (limit : ℕ) (depth : ℤ) (old new : TreeView) (entry : is_null old.cursor.entry ≡ false)
-    (behind : old.cursor.raw.depth ≡ depth_after old.cursor.entry depth) where
+    (after : old.cursor.raw.depth ≡ depth_after old.cursor.entry depth) where
   one_more : old.cursor.entry.has_children ≡ true → old.cursor.raw.depth ≡ depth +ℤ pos 1
-  one_more flag = rw (behind, entry, flag) refl
+  one_more flag = rw (after, entry, flag) refl
 
   pub entered_left : (outcome : Result Bool Error) → HasEntered limit old outcome new
       → length new.cursor.raw.rest.bytes ≤ length old.cursor.raw.rest.bytes

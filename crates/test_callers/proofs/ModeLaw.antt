@@ -10,7 +10,7 @@ use Rattle.gimli_units.specs.UnitRows.{unit_rows, start_view, IsHonestAt, IsHone
 use Rattle.gimli_units.proofs.RowLaw.{honest_starts}
 use Rattle.gimli_walk.specs.declared.cursor.CursorStep.{CursorStep}
 use Rattle.gimli_walk.specs.Cursors.{Answer, answers_at}
-use Rattle.gimli_walk.specs.Runs.{ToldRun}
+use Rattle.gimli_walk.specs.Runs.{RunAnswers}
 use Rattle.gimli_walk.specs.TrueAnswers.{IsRunFrom}
 use Rattle.test_callers.specs.Modes.{BeginsAtRow, AreSame}
 
@@ -29,7 +29,7 @@ module _ (limit : ℕ) (u : UnitView) (declared : Map) where
   honest_begins fits honest (Some offset) there =
       honest_starts limit u declared fits honest offset there
 
-  pub same_modes : (steps : List CursorStep) (from : Result View Error) (a b : ToldRun Answer)
+  pub same_modes : (steps : List CursorStep) (from : Result View Error) (a b : RunAnswers Answer)
       → IsHonestFrom limit u declared from
       → IsRunFrom limit u declared true steps from (Ok a)
       → IsRunFrom limit u declared false steps from (Ok b) → AreSame a b

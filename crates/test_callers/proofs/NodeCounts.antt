@@ -4,8 +4,8 @@ use Rattle.std.proofs.Common.{length}
 use Rattle.gimli_base.specs.declared.error.Error.{Error}
 use Rattle.gimli_base.specs.declared.error.Error.TheVariants.{OutOfMemory}
 use Rattle.gimli_units.specs.TreePlace.{Lists}
-use Rattle.gimli_units.specs.CursorMoves.{rows_of}
-use Rattle.gimli_units.specs.CursorMoves.{IsHonestCursor}
+use Rattle.gimli_units.specs.CursorModel.{rows_of}
+use Rattle.gimli_units.specs.CursorModel.{IsHonestCursor}
 use Rattle.gimli_units.specs.TreeWalker.{Standing, HasAskedOne}
 use Rattle.test_callers.specs.Subtree.{count_innermost}
 use Rattle.test_callers.proofs.Counts.{counts, stays_honest, fewer_left}

@@ -14,10 +14,10 @@ use Rattle.gimli_units.specs.UnitRows.{unit_rows_at, unit_rows_from, start_view,
 use Rattle.gimli_units.specs.UnitRows.{IsHonestFrom}
 use Rattle.gimli_units.proofs.StartLaw.{honest_cursor}
 use Rattle.gimli_units.specs.CursorPlace.{Place, Moved, next_row, next_of_depth}
-use Rattle.gimli_units.specs.CursorMoves.{CursorView, place_of, Goes, IsHonestFor}
+use Rattle.gimli_units.specs.CursorModel.{CursorView, place_of, Goes, IsHonestFor}
 use Rattle.gimli_units.specs.CursorStart.{before_first, cursor_of, cursor_from}
-use Rattle.gimli_units.specs.CursorLent.{HasReadOn}
-use Rattle.gimli_units.specs.CursorMoves.{IsHonestCursor}
+use Rattle.gimli_units.specs.CursorContracts.{HasReadOn}
+use Rattle.gimli_units.specs.CursorModel.{IsHonestCursor}
 use Rattle.gimli_units.proofs.PlaceLaw.{honest_start, honest_next, honest_for}
 use Rattle.test_callers.specs.Second.{on_first, offset_if, second_of_rows}
 

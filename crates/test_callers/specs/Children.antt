@@ -5,7 +5,7 @@ use Rattle.gimli_base.specs.declared.error.Error.{Error}
 use Rattle.gimli_units.specs.Entry.{is_null}
 use Rattle.gimli_units.specs.Rows.{Row, Ahead}
 use Rattle.gimli_units.specs.CursorPlace.{has_depth}
-use Rattle.gimli_units.specs.TreePlace.{Told, a_node, list_end, has_entered, has_left, no_node}
+use Rattle.gimli_units.specs.TreePlace.{StepAnswer, a_node, list_end, has_entered, has_left, no_node}
 use Rattle.gimli_units.specs.TreePlace.{a_fault, to_root, children_of}
 
 -- the rows of a depth before the null that closes their list, counted on from n; a refusal before
@@ -23,7 +23,7 @@ count_in None n a = Ok n
 count_in (Some depth) n a = count_rows depth a.refusal n a.rows
 
 -- those of the root, which may be refused
-abbrev pub count_below : Told → Ahead → Result ℕ Error
+abbrev pub count_below : StepAnswer → Ahead → Result ℕ Error
 count_below (a_node n) a = count_in (children_of n) 0 a
 count_below (a_fault e) a = Err e
 count_below list_end a = Ok 0
@@ -32,4 +32,4 @@ count_below has_left a = Ok 0
 count_below no_node a = Ok 0
 
 abbrev pub children_counted : ℕ → Ahead → Result ℕ Error
-children_counted end a = count_below (to_root end a).told (to_root end a).place.ahead
+children_counted end a = count_below (to_root end a).answer (to_root end a).place.ahead

@@ -4,8 +4,8 @@ use Rattle.std.specs.Prelude.{◌∷◌, Option, Some, None, Result, Ok, Err}
 use Rattle.gimli_base.specs.declared.error.Error.{Error}
 use Rattle.gimli_units.specs.Entry.{is_null}
 use Rattle.gimli_units.specs.Rows.{Row, Ahead}
-use Rattle.gimli_units.specs.CursorMoves.{rows_of, IsOver}
-use Rattle.gimli_units.specs.TreePlace.{Lists, Told, a_node, list_end, has_entered, has_left}
+use Rattle.gimli_units.specs.CursorModel.{rows_of, IsOver}
+use Rattle.gimli_units.specs.TreePlace.{Lists, StepAnswer, a_node, list_end, has_entered, has_left}
 use Rattle.gimli_units.specs.TreePlace.{no_node, a_fault, to_root}
 use Rattle.gimli_units.specs.TreeWalker.{Standing}
 use Rattle.test_callers.specs.Children.{count_in}
@@ -27,7 +27,7 @@ counted_below (suc levels) refusal n (r ∷ rest) =
     (n + 1) rest
 
 -- the root, which may be refused, and those below it
-abbrev pub count_all : Told → Ahead → Result ℕ Error
+abbrev pub count_all : StepAnswer → Ahead → Result ℕ Error
 count_all (a_node n) a =
     counted_below (if n.entry.has_children then suc zero else zero) a.refusal 1 a.rows
 count_all (a_fault e) a = Err e
@@ -37,7 +37,7 @@ count_all has_left a = Ok 0
 count_all no_node a = Ok 0
 
 abbrev pub entries_counted : ℕ → Ahead → Result ℕ Error
-entries_counted end a = count_all (to_root end a).told (to_root end a).place.ahead
+entries_counted end a = count_all (to_root end a).answer (to_root end a).place.ahead
 
 -- how many lists are open
 abbrev pub levels_of : Lists → ℕ

@@ -3,8 +3,8 @@
 ghost use Rattle.std.specs.Prelude.{◌≡◌, ◌<◌, ◌+◌, ◌^◌, ℕ, unsigned_abs, length, true, false, IfOk};
 ghost use Rattle.gimli_base.specs.Reading.{UnlessMemory};
 ghost use Rattle.gimli_units.specs.Honest.{AreHonest};
-ghost use Rattle.gimli_units.specs.CursorMoves.{rows_of};
-ghost use Rattle.gimli_units.specs.CursorMoves.{IsHonestCursor};
+ghost use Rattle.gimli_units.specs.CursorModel.{rows_of};
+ghost use Rattle.gimli_units.specs.CursorModel.{IsHonestCursor};
 ghost use Rattle.gimli_units.specs.TreeMoves.{list_of, IsTree};
 ghost use Rattle.test_callers.specs.Children.{count_rows, count_in, children_counted};
 

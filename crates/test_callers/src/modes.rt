@@ -6,7 +6,7 @@ ghost use Rattle.gimli_base.specs.Table.{codes_of};
 ghost use Rattle.gimli_units.specs.UnitHeld.{unit_view};
 ghost use Rattle.gimli_units.specs.UnitRows.{unit_rows};
 ghost use Rattle.gimli_walk.specs.Cursors.{answer_held};
-ghost use Rattle.gimli_walk.specs.Runs.{told_run};
+ghost use Rattle.gimli_walk.specs.Runs.{answers_of_run};
 ghost use Rattle.test_callers.specs.Modes.{BeginsAtRow, AreSame};
 
 use gimli_base::{Abbreviations, Reader, Result};
@@ -27,9 +27,9 @@ pub fn run_both<R: Reader, A: Allocator + Copy>(
 ) -> Result<Option<(Run<CursorAnswer<R, A>, A>, Run<CursorAnswer<R, A>, A>)>>
     ensures { let declared = codes_of abbreviations.now in
         let rows = unit_rows R.Offset.limit (unit_view unit.now) declared in
-        let told = told_run (answer_held R.view R.Offset.number) in
+        let answer = answers_of_run (answer_held R.view R.Offset.number) in
         BeginsAtRow (option_map (λ o. R.Offset.number o.0) start) rows →
-        IfOk result (λ checked. IfSome checked (λ runs. AreSame (told runs.0) (told runs.1))) }
+        IfOk result (λ checked. IfSome checked (λ runs. AreSame (answer runs.0) (answer runs.1))) }
 {
     if first_false_sibling(alloc, unit, abbreviations)?.is_some() {
         return Ok(None);

@@ -7,7 +7,7 @@ ghost use Rattle.gimli_base.specs.Table.{codes_of};
 ghost use Rattle.gimli_units.specs.Unit.{whole_length};
 ghost use Rattle.gimli_units.specs.UnitHeld.{unit_view};
 ghost use Rattle.gimli_units.specs.UnitRows.{unit_rows_at, unit_rows_from, unit_rows, StandsAt};
-ghost use Rattle.gimli_units.specs.CursorMoves.{Goes, IsHonestFor};
+ghost use Rattle.gimli_units.specs.CursorModel.{Goes, IsHonestFor};
 ghost use Rattle.gimli_units.specs.CursorPlace.{next_of_depth};
 ghost use Rattle.test_callers.specs.Second.{second_of_rows};
 

@@ -195,7 +195,7 @@ fn read_indexed_length<R: Reader>(input: &mut R, version: u16) -> Result<u64>
 // read it would be more than the loop over entries has registers for. Where it is refused, the input
 // is left anywhere.
 #[inline(always)]
-fn read_address_apart<R: Reader>(input: &mut R, address_size: u8) -> Result<u64>
+fn read_address_on_copy<R: Reader>(input: &mut R, address_size: u8) -> Result<u64>
     ensures { read_of result (R.view input.new) ≡ address_at address_size (R.view input.old) }
 {
     let mut rest = input.copy();
@@ -282,13 +282,13 @@ fn parse_coded<R: Reader>(
             Ok(Some(RawLocListEntry::BaseAddress { addr }))
         }
         DW_LLE_start_end => {
-            let begin = read_address_apart(input, address_size)?;
-            let end = read_address_apart(input, address_size)?;
+            let begin = read_address_on_copy(input, address_size)?;
+            let end = read_address_on_copy(input, address_size)?;
             let expr = read_expression(input, version)?;
             Ok(Some(RawLocListEntry::StartEnd { begin, end, expr }))
         }
         DW_LLE_start_length => {
-            let begin = read_address_apart(input, address_size)?;
+            let begin = read_address_on_copy(input, address_size)?;
             let length = input.read_uleb128()?;
             let expr = read_expression(input, version)?;
             Ok(Some(RawLocListEntry::StartLength {

@@ -98,9 +98,21 @@ fn sibling_of_known_size_is_between_two_steps(rt: HostRuntime) -> Result<(), Fai
         let declared = table.get(1).expect(&rt, "declared");
         assert_eq!(rt; declared.steps().len(), 2);
         assert_eq!(rt;
-            declared.whole_step().map(|step| step.values),
+            declared.whole_step().map(|step| u32::from(step.values)),
             Some(3 * count)
         );
+    }
+    Ok(())
+}
+
+// Two bytes, a reference and an address: by ref4, and by ref8 and ref_sup8, which have eight bytes
+// in every format.
+#[test]
+fn step_tells_a_reference_of_8_bytes(rt: HostRuntime) -> Result<(), Fail> {
+    for (form, told) in [(0x13, 0), (0x14, 1), (0x24, 1)] {
+        let table = table_with(rt.alloc(), 0, &[0x3a, 0x05, 0x49, form, 0x11, 0x01], 1)?;
+        let declared = table.get(1).expect(&rt, "declared");
+        assert_eq!(rt; declared.whole_step().map(|step| step.has_ref8), Some(told));
     }
     Ok(())
 }

@@ -150,7 +150,7 @@ fn heads_of_usual_entries_tell_a_reader_little(rt: HostRuntime) -> Result<(), Fa
     Ok(())
 }
 
-// A head takes a reader of its own, one for the code, one for a reference to a sibling with what stands behind it,
+// A head takes a reader of its own, one for the code, one for a reference to a sibling with what stands after it,
 // and one to look for the reference.
 #[test]
 fn heads_with_a_reference_copy_a_reader_seldom(rt: HostRuntime) -> Result<(), Fail> {

@@ -7,12 +7,12 @@ ghost use Rattle.gimli_units.specs.Entry.{Attr, with_value};
 
 use super::Attribute;
 use crate::AttributeValue;
-use crate::attribute::taker::TakeAttribute;
+use crate::attribute::sink::AttributeSink;
 use gimli_base::{AttributeSpecification, Reader};
 use std::alloc::Allocator;
 
 // A list that has room: it stands for its attributes, and for how many they are and may be.
-impl<R: Reader, A: Allocator> TakeAttribute<R> for Vec<Attribute<R>, A> {
+impl<R: Reader, A: Allocator> AttributeSink<R> for Vec<Attribute<R>, A> {
     type Answer = ();
 
     ghost Stand = { List Attr × (ℕ × ℕ) };

@@ -29,8 +29,8 @@ rows-init g c =
       fits = c.requires;
     })
 
-pub returns-in-Err-clause-told : goal.returns-in-Err-clause-told
-returns-in-Err-clause-told g c =
+pub returns-in-Err-clause-outcome : goal.returns-in-Err-clause-outcome
+returns-in-Err-clause-outcome g c =
     let p = g.T.ReadEntries.place c.rows.entries in
     let start = g.T.ReadEntries.place c.args.entries.now in
     let back : to_z w64 (of_z w64 c.args.base) ≡ c.args.base = to_z-of_z w64 _ c.ranges.base in
@@ -40,15 +40,15 @@ returns-in-Err-clause-told g c =
     let room : c.rows.count < length c.args.rows.now =
     omega (arith, c.rows-test.true, c.rows.auto.rows) in
     let depth = rw back at c.place_of-place.ensures.depth in
-    rw (c.told_entries.ensures, c.wrote.ensures, c.row_refused.ensures)
+    rw (c.outcome_entries.ensures, c.wrote.ensures, c.row_refused.ensures)
     (entries_refused g.R.Offset.ReaderOffset.limit c.args.base start p
     c.args.rows.now c.rows.rows c.args.attrs.now c.rows.attrs c.place_of-place.result c.rows.count
     c.rows.used
     f c.place_of-place.ensures.offset depth c.in-Err.error some room
     (λ other. c.in-Err.ensures.refused (λ is. other (ap row_refused is))) c.in-Err.ensures.memory)
 
-pub returns-then-attributes-attrs-clause-told : goal.returns-then-attributes-attrs-clause-told
-returns-then-attributes-attrs-clause-told g c =
+pub returns-then-attributes-attrs-clause-outcome : goal.returns-then-attributes-attrs-clause-outcome
+returns-then-attributes-attrs-clause-outcome g c =
     let p = g.T.ReadEntries.place c.rows.entries in
     let start = g.T.ReadEntries.place c.args.entries.now in
     let back : to_z w64 (of_z w64 c.args.base) ≡ c.args.base = to_z-of_z w64 _ c.ranges.base in
@@ -65,7 +65,7 @@ returns-then-attributes-attrs-clause-told g c =
     ∙ length-map e.attributes attr_of in
     let large : length c.args.attrs.now - c.rows.used < length e.attributes =
     omega (arith, many, c.if-attributes-attrs.true, c.rows.auto.attrs) in
-    rw (c.told_entries-then-attributes-attrs.ensures, c.wrote-then-attributes-attrs.ensures, many)
+    rw (c.outcome_entries-then-attributes-attrs.ensures, c.wrote-then-attributes-attrs.ensures, many)
     (entries_large g.R.Offset.ReaderOffset.limit c.args.base start p
     c.args.rows.now c.rows.rows c.args.attrs.now c.rows.attrs c.place_of-place.result c.rows.count
     c.rows.used
@@ -105,8 +105,8 @@ rows-preserved g c =
     c.rows.rows c.args.attrs.now c.rows.attrs c.write_attrs.new.into c.rows.count c.rows.used e
     (g.T.ReadEntries.place c.read.new.self).rest _ f room space some r.past.is refl wrote)
 
-pub returns-clause-told : goal.returns-clause-told
-returns-clause-told g c =
+pub returns-clause-outcome : goal.returns-clause-outcome
+returns-clause-outcome g c =
     let p = g.T.ReadEntries.place c.rows.entries in
     let start = g.T.ReadEntries.place c.args.entries.now in
     let back : to_z w64 (of_z w64 c.args.base) ≡ c.args.base = to_z-of_z w64 _ c.ranges.base in
@@ -117,7 +117,7 @@ returns-clause-told g c =
     elim c.if-is_empty.branch [
       | then-is_empty w ↦
           let none : length p.rest.bytes ≡ 0 = c.is_empty-2.ensures.0 w.if-is_empty.true in
-          rw (c.told_entries-2.ensures, c.wrote-2.ensures, w.status-is)
+          rw (c.outcome_entries-2.ensures, c.wrote-2.ensures, w.status-is)
           (entries_ended limit c.args.base start p c.args.rows.now
           c.rows.rows c.args.attrs.now c.rows.attrs c.place_of.result c.rows.count c.rows.used
           f offset depth none)
@@ -129,7 +129,7 @@ returns-clause-told g c =
                 absurd (some (v.is_empty.ensures.0 (cc)))
             | else-rows-test v ↦ omega (arith, v.rows-test.false, c.rows.auto.rows)
           ] in
-          rw (c.told_entries-2.ensures, c.wrote-2.ensures, w.status-is)
+          rw (c.outcome_entries-2.ensures, c.wrote-2.ensures, w.status-is)
           (entries_full limit c.args.base start p c.args.rows.now
           c.rows.rows c.args.attrs.now c.rows.attrs c.place_of.result c.rows.count c.rows.used
           f offset depth some full)
@@ -141,18 +141,18 @@ returns-in-Err-clause-row_memory g c =
     let start = g.T.ReadEntries.place c.args.entries.now in
     let some : length p.rest.bytes ≡ 0 → ⊥ = λ none. let t : c.is_empty.result ≡ true =
     c.is_empty.ensures.1 none in let no = c.if-not-is_empty.true in cc in
-    rw (c.told_entries.ensures, c.row_refused.ensures, c.place_of-place.ensures.offset)
-    (λ fits told. onward_next start p c.rows.invariant.onward fits some
-    (c.in-Err.ensures.takes (row_memory c.in-Err.error told)))
+    rw (c.outcome_entries.ensures, c.row_refused.ensures, c.place_of-place.ensures.offset)
+    (λ fits outcome. onward_next start p c.rows.invariant.onward fits some
+    (c.in-Err.ensures.takes (row_memory c.in-Err.error outcome)))
 
 pub returns-then-attributes-attrs-clause-row_memory : goal.returns-then-attributes-attrs-clause-row_memory
 returns-then-attributes-attrs-clause-row_memory g c =
-    rw c.told_entries-then-attributes-attrs.ensures (λ _ told. absurd (omega (arith, told)))
+    rw c.outcome_entries-then-attributes-attrs.ensures (λ _ outcome. absurd (omega (arith, outcome)))
 
 pub returns-clause-row_memory : goal.returns-clause-row_memory
 returns-clause-row_memory g c =
-    rw c.told_entries-2.ensures
-    (λ _ told. absurd (elim c.if-is_empty.branch [
-      | then-is_empty w ↦ omega (arith, told, w.status-is)
-      | else-is_empty w ↦ omega (arith, told, w.status-is)
+    rw c.outcome_entries-2.ensures
+    (λ _ outcome. absurd (elim c.if-is_empty.branch [
+      | then-is_empty w ↦ omega (arith, outcome, w.status-is)
+      | else-is_empty w ↦ omega (arith, outcome, w.status-is)
     ]))

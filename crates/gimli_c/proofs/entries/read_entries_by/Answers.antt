@@ -16,7 +16,7 @@ returns-in-Ok-clause-resumes g c =
     let limit = g.R.Offset.ReaderOffset.limit in
     let u = unit_view c.in-Ok.header in
     let codes = codes_of (table_in c.args.table) in
-    let told = rw back at c.unit_entries.ensures.told (table_in c.args.table)
+    let outcome = rw back at c.unit_entries.ensures.outcome (table_in c.args.table)
     c.entries_by-opened.ensures.opened in
     rw (← c.in-Ok.ensures)
     (unit_resumes limit u codes c.in-Ok.header.entries_fit (at number c.args.depth)
@@ -24,7 +24,7 @@ returns-in-Ok-clause-resumes g c =
     (moved_entries (unit_ahead limit u codes (at number c.args.depth)) (at number c.args.depth)
     c.args.rows.now c.args.attrs.now c.unit_entries.result.place c.unit_entries.new.rows
     c.unit_entries.new.attrs c.unit_entries.result.filled
-    c.unit_entries.result.status told))
+    c.unit_entries.result.status outcome))
 
 pub returns-in-Ok-clause-row_memory : goal.returns-in-Ok-clause-row_memory
 unfolding range_from
@@ -35,4 +35,4 @@ returns-in-Ok-clause-row_memory g c =
 pub returns-in-Err-clause-row_memory : goal.returns-in-Err-clause-row_memory
 returns-in-Err-clause-row_memory g c =
     rw (c.no_entries.ensures, c.refusal_status.ensures)
-    (λ told. absurd (refusal_no_row c.in-Err.error told))
+    (λ outcome. absurd (refusal_no_row c.in-Err.error outcome))

@@ -6,25 +6,25 @@ use Rattle.gimli_units.specs.RawPlace.{RawPlace}
 use Rattle.gimli_units.specs.UnitHeld.{unit_view}
 use Rattle.gimli_c.specs.Fronts.{at}
 use Rattle.gimli_c.proofs.Bounds.{unread_bounds, read_bounds, below_end, bytes_left}
-use Rattle.gimli_c.proofs.EntryBounds.{told_ended, told_outside, told_deep, told_filled}
+use Rattle.gimli_c.proofs.EntryBounds.{outcome_ended, outcome_outside, outcome_deep, outcome_filled}
 use Rattle.gimli_c.proofs.Memory.{refusal_no_row, bytes_fit, unit_takes}
 use Rattle.gimli_c.proofs.entries.unit_entries.Goals.{then-left-via-then-left}
 use Rattle.gimli_c.proofs.entries.unit_entries.Goals.{then-left-via-else-left+then-steps-left}
 use Rattle.gimli_c.proofs.entries.unit_entries.Goals as goal
 
-pub returns-then-start-whole-clause-told : goal.returns-then-start-whole-clause-told
-returns-then-start-whole-clause-told g c = λ t opened.
+pub returns-then-start-whole-clause-outcome : goal.returns-then-start-whole-clause-outcome
+returns-then-start-whole-clause-outcome g c = λ t opened.
     let back : to_z w64 (of_z w64 c.args.depth) ≡ c.args.depth = to_z-of_z w64 _ c.ranges.depth in
     let number = g.R.Offset.ReaderOffset.number c.args.offset in
     let here : number ≡ whole_length (unit_view c.args.unit.now) =
     sym c.into_u64-start.ensures.value ∙ c.if-start-whole.true ∙ c.into_u64-whole.ensures.value
     ∙ c.length_including_self.ensures in
     rw (c.no_entries.ensures, back)
-    (told_ended g.R.Offset.ReaderOffset.limit (unit_view c.args.unit.now) t
+    (outcome_ended g.R.Offset.ReaderOffset.limit (unit_view c.args.unit.now) t
     (at number c.args.depth) c.args.rows.now c.args.attrs.now c.args.unit.now.entries_fit here)
 
-pub returns-in-Err-clause-told : goal.returns-in-Err-clause-told
-returns-in-Err-clause-told g c = λ t opened.
+pub returns-in-Err-clause-outcome : goal.returns-in-Err-clause-outcome
+returns-in-Err-clause-outcome g c = λ t opened.
     let no = rw c.in-Err.is at opened in
     let back : to_z w64 (of_z w64 c.args.depth) ≡ c.args.depth = to_z-of_z w64 _ c.ranges.depth in
     let number = g.R.Offset.ReaderOffset.number c.args.offset in
@@ -32,7 +32,7 @@ returns-in-Err-clause-told g c = λ t opened.
     λ h. c.if-start-whole.false (c.into_u64-start.ensures.value ∙ h
     ∙ sym (c.into_u64-whole.ensures.value ∙ c.length_including_self.ensures)) in
     rw (c.no_entries-in-Err.ensures, c.refusal_status.ensures, back)
-    (told_outside g.R.Offset.ReaderOffset.limit (unit_view c.args.unit.now) t
+    (outcome_outside g.R.Offset.ReaderOffset.limit (unit_view c.args.unit.now) t
     (at number c.args.depth) c.args.rows.now c.args.attrs.now apart c.in-Err.error
     no)
 
@@ -53,8 +53,8 @@ overflow_sub-left g c =
       c.length_including_self.ensures,
     )
 
-pub returns-then-left-clause-told : goal.returns-then-left-clause-told
-returns-then-left-clause-told g c = λ t opened.
+pub returns-then-left-clause-outcome : goal.returns-then-left-clause-outcome
+returns-then-left-clause-outcome g c = λ t opened.
     let p = g.T.ReadEntries.place c.in-Ok.entries in
     let is = rw c.in-Ok.is at opened in
     let back : to_z w64 (of_z w64 c.args.depth) ≡ c.args.depth = to_z-of_z w64 _ c.ranges.depth in
@@ -80,7 +80,7 @@ returns-then-left-clause-told g c = λ t opened.
       )
     ] in
     rw (c.no_entries-then-left.ensures, back)
-    (told_deep g.R.Offset.ReaderOffset.limit (unit_view c.args.unit.now) t
+    (outcome_deep g.R.Offset.ReaderOffset.limit (unit_view c.args.unit.now) t
     (at number c.args.depth) c.args.rows.now c.args.attrs.now apart p
     is deep)
 
@@ -115,8 +115,8 @@ fill_entries-requires g c =
       none,
     ))
 
-pub returns-clause-told : goal.returns-clause-told
-returns-clause-told g c = λ t opened.
+pub returns-clause-outcome : goal.returns-clause-outcome
+returns-clause-outcome g c = λ t opened.
     let p = g.T.ReadEntries.place c.in-Ok.entries in
     let is = rw c.in-Ok.is at opened in
     let back : to_z w64 (of_z w64 c.args.depth) ≡ c.args.depth = to_z-of_z w64 _ c.ranges.depth in
@@ -132,8 +132,8 @@ returns-clause-told g c = λ t opened.
     let shallow : unsigned_abs c.args.depth + (whole_length (unit_view c.args.unit.now) - number)
     < 2 ^ 63 =
     omega (arith, c.if-left.false, c.if-steps-left.false, start, whole, steps) in
-    let f = rw back at c.fill_entries.ensures.told in
-    told_filled g.R.Offset.ReaderOffset.limit (unit_view c.args.unit.now) t
+    let f = rw back at c.fill_entries.ensures.outcome in
+    outcome_filled g.R.Offset.ReaderOffset.limit (unit_view c.args.unit.now) t
     (at number c.args.depth) c.args.rows.now c.args.attrs.now apart p
     c.fill_entries.result.place c.fill_entries.new.rows c.fill_entries.new.attrs
     c.fill_entries.result.filled c.fill_entries.result.status
@@ -148,23 +148,23 @@ returns-in-Err-clause-memory g c =
 
 pub returns-then-start-whole-clause-row_memory : goal.returns-then-start-whole-clause-row_memory
 returns-then-start-whole-clause-row_memory g c =
-    rw c.no_entries.ensures (λ _ _ told. absurd (omega (arith, told)))
+    rw c.no_entries.ensures (λ _ _ outcome. absurd (omega (arith, outcome)))
 
 pub returns-in-Err-clause-row_memory : goal.returns-in-Err-clause-row_memory
 returns-in-Err-clause-row_memory g c =
     rw (c.no_entries-in-Err.ensures, c.refusal_status.ensures)
-    (λ _ _ told. absurd (refusal_no_row c.in-Err.error told))
+    (λ _ _ outcome. absurd (refusal_no_row c.in-Err.error outcome))
 
 pub returns-then-left-clause-row_memory : goal.returns-then-left-clause-row_memory
 returns-then-left-clause-row_memory g c =
-    rw c.no_entries-then-left.ensures (λ _ _ told. absurd (omega (arith, told)))
+    rw c.no_entries-then-left.ensures (λ _ _ outcome. absurd (omega (arith, outcome)))
 
 pub returns-clause-row_memory : goal.returns-clause-row_memory
-returns-clause-row_memory g c = λ t opened told.
+returns-clause-row_memory g c = λ t opened outcome.
     let p = g.T.ReadEntries.place c.in-Ok.entries in
     let is = rw c.in-Ok.is at opened in
     let u = unit_view c.args.unit.now in
     let number = g.R.Offset.ReaderOffset.number c.args.offset in
     let fits = c.args.unit.now.entries_fit in
     (unit_takes u t number fits p is c.fill_entries.result.place.offset
-    (c.fill_entries.ensures.row_memory (bytes_fit u t number fits p is) told)).1
+    (c.fill_entries.ensures.row_memory (bytes_fit u t number fits p is) outcome)).1

@@ -13,7 +13,7 @@ returns-in-Ok-None-clause-starts g c = λ _.
 pub returns-in-Err-abbreviations-clause-memory : goal.returns-in-Err-abbreviations-clause-memory
 returns-in-Err-abbreviations-clause-memory g c =
     rw (c.refusal_status-in-Err-abbreviations.ensures, ← c.in-Ok.ensures)
-    (λ told. inl
+    (λ outcome. inl
     (table_takes c.in-Err-abbreviations.error (unit_view c.in-Ok.header).abbreviations
     (g.R.Reader.view c.args.sections.now.abbreviations.section)
-    c.in-Err-abbreviations.ensures.without_memory told))
+    c.in-Err-abbreviations.ensures.without_memory outcome))

@@ -42,7 +42,7 @@ pub returns-in-Ok-None : goal.returns-in-Ok-None
 returns-in-Ok-None g c =
     let limit = g.R.Offset.ReaderOffset.limit in
     let ahead = rw c.in-Ok-None.field-0-is at c.in-Ok-None.ensures.ahead in
-    rw c.status_behind.ensures
+    rw c.status_after.ensures
     (list_ended location_row (locations_ahead limit c.args.list.now)
     (locations_ahead limit c.found.list) c.args.locations.now c.found.locations c.found.count
     c.found.invariant.front ahead)
@@ -50,7 +50,7 @@ returns-in-Ok-None g c =
 pub returns-in-Err : goal.returns-in-Err
 returns-in-Err g c =
     let limit = g.R.Offset.ReaderOffset.limit in
-    rw (c.status_behind-in-Err.ensures, c.row_refused.ensures)
+    rw (c.status_after-in-Err.ensures, c.row_refused.ensures)
     (list_refused location_row (locations_ahead limit c.args.list.now)
     (locations_ahead limit c.found.list) c.args.locations.now c.found.locations c.found.count
     c.found.invariant.front c.in-Err.error (locations_ahead limit c.next.new.self)

@@ -37,14 +37,14 @@ pub returns-in-Ok-None : goal.returns-in-Ok-None
 returns-in-Ok-None g c =
     let limit = g.R.Offset.ReaderOffset.limit in
     let ahead = rw c.in-Ok-None.field-0-is at c.in-Ok-None.ensures.ahead in
-    rw c.status_behind.ensures
+    rw c.status_after.ensures
     (list_ended range_row (ranges_ahead limit c.args.list.now) (ranges_ahead limit c.found.list)
     c.args.ranges.now c.found.ranges c.found.count c.found.invariant.front ahead)
 
 pub returns-in-Err : goal.returns-in-Err
 returns-in-Err g c =
     let limit = g.R.Offset.ReaderOffset.limit in
-    rw (c.status_behind-in-Err.ensures, c.row_refused.ensures)
+    rw (c.status_after-in-Err.ensures, c.row_refused.ensures)
     (list_refused range_row (ranges_ahead limit c.args.list.now) (ranges_ahead limit c.found.list)
     c.args.ranges.now c.found.ranges c.found.count c.found.invariant.front c.in-Err.error
     (ranges_ahead limit c.next.new.self) c.in-Err.ensures.ahead)

@@ -30,8 +30,8 @@ rows-init g c =
       fits = c.requires.fits;
     })
 
-pub returns-in-Err-clause-told : goal.returns-in-Err-clause-told
-returns-in-Err-clause-told g c = λ given.
+pub returns-in-Err-clause-outcome : goal.returns-in-Err-clause-outcome
+returns-in-Err-clause-outcome g c = λ given.
     let p = g.T.ReadEntries.place c.rows.entries in
     let start = g.T.ReadEntries.place c.args.entries.now in
     let back : to_z w64 (of_z w64 c.args.base) ≡ c.args.base = to_z-of_z w64 _ c.ranges.base in
@@ -81,8 +81,8 @@ rows-preserved g c =
       fits = rw back (omega (arith, fits, further.near, further.shorter));
     }
 
-pub returns-clause-told : goal.returns-clause-told
-returns-clause-told g c = λ given.
+pub returns-clause-outcome : goal.returns-clause-outcome
+returns-clause-outcome g c = λ given.
     let p = g.T.ReadEntries.place c.rows.entries in
     let start = g.T.ReadEntries.place c.args.entries.now in
     let back : to_z w64 (of_z w64 c.args.base) ≡ c.args.base = to_z-of_z w64 _ c.ranges.base in

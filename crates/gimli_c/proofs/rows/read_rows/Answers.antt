@@ -4,15 +4,15 @@ use Rattle.gimli_base.specs.Abbreviations.{map_at}
 use Rattle.gimli_units.specs.UnitHeld.{unit_view}
 use Rattle.gimli_c.specs.Fronts.{at, unit_ahead}
 use Rattle.gimli_base.specs.Table.{codes_of}
-use Rattle.gimli_c.proofs.Bounds.{told_undeclared, told_given}
+use Rattle.gimli_c.proofs.Bounds.{outcome_undeclared, outcome_given}
 use Rattle.gimli_c.proofs.Heads.{same_answer}
 use Rattle.gimli_c.proofs.Shorter.{no_steps}
 use Rattle.gimli_c.proofs.Memory.{table_takes}
 use Rattle.gimli_c.proofs.Resume.{unit_resumes, moved_rows}
 use Rattle.gimli_c.proofs.rows.read_rows.Goals as goal
 
-pub returns-clause-told : goal.returns-clause-told
-returns-clause-told g c =
+pub returns-clause-outcome : goal.returns-clause-outcome
+returns-clause-outcome g c =
     let back : to_z w64 (of_z w64 c.args.depth) ≡ c.args.depth = to_z-of_z w64 _ c.ranges.depth in
     let number = g.R.Offset.ReaderOffset.number c.args.offset in
     let u = unit_view c.in-Ok.header in
@@ -22,7 +22,7 @@ returns-clause-told g c =
       back,
       ← c.in-Ok.ensures,
     )
-    (told_undeclared g.R.Offset.ReaderOffset.limit (unit_view c.in-Ok.header)
+    (outcome_undeclared g.R.Offset.ReaderOffset.limit (unit_view c.in-Ok.header)
     (at number c.args.depth) c.args.rows.now c.in-Ok.header.entries_fit
     c.in-Err-abbreviations.error
     (map_at u.abbreviations (g.R.Reader.view c.args.sections.now.abbreviations.section))
@@ -33,8 +33,8 @@ returns-in-Ok-abbreviations-clause-resumes g c =
     let back : to_z w64 (of_z w64 c.args.depth) ≡ c.args.depth = to_z-of_z w64 _ c.ranges.depth in
     let number = g.R.Offset.ReaderOffset.number c.args.offset in
     let table = c.in-Ok-abbreviations.table in
-    let told = told_given _ _ _ _ _ _ _ _
-    (rw back at c.unit_rows.ensures.told table (same_answer c.entries_raw-opened.ensures))
+    let outcome = outcome_given _ _ _ _ _ _ _ _
+    (rw back at c.unit_rows.ensures.outcome table (same_answer c.entries_raw-opened.ensures))
     (no_steps c.entries_raw-opened.result) in
     rw (← c.in-Ok.ensures, ← c.in-Ok-abbreviations.ensures.value)
     (unit_resumes g.R.Offset.ReaderOffset.limit (unit_view c.in-Ok.header)
@@ -43,15 +43,15 @@ returns-in-Ok-abbreviations-clause-resumes g c =
     (moved_rows (unit_ahead g.R.Offset.ReaderOffset.limit (unit_view c.in-Ok.header)
     (codes_of c.in-Ok-abbreviations.table) (at number c.args.depth)) (at number c.args.depth)
     c.args.rows.now c.unit_rows.result.place c.unit_rows.new.rows c.unit_rows.result.count
-    c.unit_rows.result.status told))
+    c.unit_rows.result.status outcome))
 
-pub returns-in-Ok-abbreviations-clause-told : goal.returns-in-Ok-abbreviations-clause-told
-returns-in-Ok-abbreviations-clause-told g c =
+pub returns-in-Ok-abbreviations-clause-outcome : goal.returns-in-Ok-abbreviations-clause-outcome
+returns-in-Ok-abbreviations-clause-outcome g c =
     let back : to_z w64 (of_z w64 c.args.depth) ≡ c.args.depth = to_z-of_z w64 _ c.ranges.depth in
     let table = c.in-Ok-abbreviations.table in
     rw (← c.in-Ok.ensures, ← c.in-Ok-abbreviations.ensures.value)
-    (told_given _ _ _ _ _ _ _ _
-    (rw back at c.unit_rows.ensures.told table (same_answer c.entries_raw-opened.ensures))
+    (outcome_given _ _ _ _ _ _ _ _
+    (rw back at c.unit_rows.ensures.outcome table (same_answer c.entries_raw-opened.ensures))
     (no_steps c.entries_raw-opened.result))
 
 pub returns-clause-memory : goal.returns-clause-memory
@@ -67,4 +67,4 @@ returns-clause-memory g c =
 
 pub returns-in-Ok-abbreviations-clause-memory : goal.returns-in-Ok-abbreviations-clause-memory
 returns-in-Ok-abbreviations-clause-memory g c =
-    rw (← c.in-Ok.ensures) (λ told. absurd (c.unit_rows.ensures.memory told))
+    rw (← c.in-Ok.ensures) (λ outcome. absurd (c.unit_rows.ensures.memory outcome))

@@ -4,7 +4,7 @@ use Rattle.gimli_base.specs.Table.{codes_of}
 use Rattle.gimli_units.specs.UnitHeld.{unit_view}
 use Rattle.gimli_c.specs.Fronts.{at, unit_ahead}
 use Rattle.gimli_c.specs.Tables.{table_in}
-use Rattle.gimli_c.proofs.Bounds.{told_given, told_under}
+use Rattle.gimli_c.proofs.Bounds.{outcome_given, outcome_under}
 use Rattle.gimli_c.proofs.Resume.{unit_resumes, moved_rows}
 use Rattle.gimli_c.proofs.rows.read_rows_by.Goals as goal
 
@@ -15,20 +15,20 @@ returns-in-Ok-clause-resumes g c = λ given.
     let limit = g.R.Offset.ReaderOffset.limit in
     let u = unit_view c.in-Ok.header in
     let codes = codes_of (table_in c.args.table) in
-    let told = told_given _ _ _ _ _ _ _ _
-    (rw back at c.unit_rows.ensures.told (table_in c.args.table) c.entries_by-opened.ensures.opened)
+    let outcome = outcome_given _ _ _ _ _ _ _ _
+    (rw back at c.unit_rows.ensures.outcome (table_in c.args.table) c.entries_by-opened.ensures.opened)
     (c.entries_by-opened.ensures.steps given) in
     rw (← c.in-Ok.ensures)
     (unit_resumes limit u codes c.in-Ok.header.entries_fit (at number c.args.depth)
     c.unit_rows.result.place c.unit_rows.result.count
     (moved_rows (unit_ahead limit u codes (at number c.args.depth)) (at number c.args.depth)
     c.args.rows.now c.unit_rows.result.place c.unit_rows.new.rows c.unit_rows.result.count
-    c.unit_rows.result.status told))
+    c.unit_rows.result.status outcome))
 
-pub returns-in-Ok-clause-told : goal.returns-in-Ok-clause-told
-returns-in-Ok-clause-told g c =
+pub returns-in-Ok-clause-outcome : goal.returns-in-Ok-clause-outcome
+returns-in-Ok-clause-outcome g c =
     let back : to_z w64 (of_z w64 c.args.depth) ≡ c.args.depth = to_z-of_z w64 _ c.ranges.depth in
     rw (← c.in-Ok.ensures)
-    (told_under _ _ _ _ _ _ _ _ _
-    (rw back at c.unit_rows.ensures.told (table_in c.args.table) c.entries_by-opened.ensures.opened)
+    (outcome_under _ _ _ _ _ _ _ _ _
+    (rw back at c.unit_rows.ensures.outcome (table_in c.args.table) c.entries_by-opened.ensures.opened)
     c.entries_by-opened.ensures.steps)

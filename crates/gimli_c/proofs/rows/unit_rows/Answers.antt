@@ -6,25 +6,25 @@ use Rattle.gimli_units.specs.RawPlace.{RawPlace}
 use Rattle.gimli_units.specs.UnitHeld.{unit_view}
 use Rattle.std.specs.Prelude.{IfOk}
 use Rattle.gimli_c.specs.Fronts.{at, ahead_of, Filled}
-use Rattle.gimli_c.proofs.Bounds.{unread_bounds, read_bounds, below_end, bytes_left, told_ended, told_outside}
-use Rattle.gimli_c.proofs.Bounds.{told_deep, told_filled, told_any}
+use Rattle.gimli_c.proofs.Bounds.{unread_bounds, read_bounds, below_end, bytes_left, outcome_ended, outcome_outside}
+use Rattle.gimli_c.proofs.Bounds.{outcome_deep, outcome_filled, outcome_any}
 use Rattle.gimli_c.proofs.rows.unit_rows.Goals.{then-left-via-then-left}
 use Rattle.gimli_c.proofs.rows.unit_rows.Goals.{then-left-via-else-left+then-steps-left}
 use Rattle.gimli_c.proofs.rows.unit_rows.Goals as goal
 
-pub returns-then-start-whole-clause-told : goal.returns-then-start-whole-clause-told
-returns-then-start-whole-clause-told g c = λ t opened.
+pub returns-then-start-whole-clause-outcome : goal.returns-then-start-whole-clause-outcome
+returns-then-start-whole-clause-outcome g c = λ t opened.
     let back : to_z w64 (of_z w64 c.args.depth) ≡ c.args.depth = to_z-of_z w64 _ c.ranges.depth in
     let number = g.R.Offset.ReaderOffset.number c.args.offset in
     let here : number ≡ whole_length (unit_view c.args.unit.now) =
     sym c.into_u64-start.ensures.value ∙ c.if-start-whole.true ∙ c.into_u64-whole.ensures.value
     ∙ c.length_including_self.ensures in
     rw (c.no_rows.ensures, back)
-    (told_any _ _ _ _ _ _ _ _ (told_ended g.R.Offset.ReaderOffset.limit (unit_view c.args.unit.now) t
+    (outcome_any _ _ _ _ _ _ _ _ (outcome_ended g.R.Offset.ReaderOffset.limit (unit_view c.args.unit.now) t
     (at number c.args.depth) c.args.rows.now c.args.unit.now.entries_fit here))
 
-pub returns-in-Err-clause-told : goal.returns-in-Err-clause-told
-returns-in-Err-clause-told g c = λ t opened.
+pub returns-in-Err-clause-outcome : goal.returns-in-Err-clause-outcome
+returns-in-Err-clause-outcome g c = λ t opened.
     let no = rw c.in-Err.is at opened in
     let back : to_z w64 (of_z w64 c.args.depth) ≡ c.args.depth = to_z-of_z w64 _ c.ranges.depth in
     let number = g.R.Offset.ReaderOffset.number c.args.offset in
@@ -32,7 +32,7 @@ returns-in-Err-clause-told g c = λ t opened.
     λ h. c.if-start-whole.false (c.into_u64-start.ensures.value ∙ h
     ∙ sym (c.into_u64-whole.ensures.value ∙ c.length_including_self.ensures)) in
     rw (c.no_rows-in-Err.ensures, c.refusal_status.ensures, back)
-    (told_any _ _ _ _ _ _ _ _ (told_outside g.R.Offset.ReaderOffset.limit (unit_view c.args.unit.now) t
+    (outcome_any _ _ _ _ _ _ _ _ (outcome_outside g.R.Offset.ReaderOffset.limit (unit_view c.args.unit.now) t
     (at number c.args.depth) c.args.rows.now apart c.in-Err.error no))
 
 pub overflow_sub-left : goal.overflow_sub-left
@@ -52,8 +52,8 @@ overflow_sub-left g c =
       c.length_including_self.ensures,
     )
 
-pub returns-then-left-clause-told : goal.returns-then-left-clause-told
-returns-then-left-clause-told g c = λ t opened.
+pub returns-then-left-clause-outcome : goal.returns-then-left-clause-outcome
+returns-then-left-clause-outcome g c = λ t opened.
     let p = g.T.ReadEntries.place c.in-Ok.entries in
     let is = rw c.in-Ok.is at opened in
     let back : to_z w64 (of_z w64 c.args.depth) ≡ c.args.depth = to_z-of_z w64 _ c.ranges.depth in
@@ -79,7 +79,7 @@ returns-then-left-clause-told g c = λ t opened.
       )
     ] in
     rw (c.no_rows-then-left.ensures, back)
-    (told_any _ _ _ _ _ _ _ _ (told_deep g.R.Offset.ReaderOffset.limit (unit_view c.args.unit.now) t
+    (outcome_any _ _ _ _ _ _ _ _ (outcome_deep g.R.Offset.ReaderOffset.limit (unit_view c.args.unit.now) t
     (at number c.args.depth) c.args.rows.now apart p is deep))
 
 pub fill_rows-requires-clause-fits : goal.fill_rows-requires-clause-fits
@@ -124,8 +124,8 @@ fill_rows-requires-clause-within g c =
     let end = ap (λ (p : RawPlace). p.end) yes.1 in
     omega (arith, bytes, end)
 
-pub returns-clause-told : goal.returns-clause-told
-returns-clause-told g c = λ t opened.
+pub returns-clause-outcome : goal.returns-clause-outcome
+returns-clause-outcome g c = λ t opened.
     let p = g.T.ReadEntries.place c.in-Ok.entries in
     let is = rw c.in-Ok.is at opened in
     let back : to_z w64 (of_z w64 c.args.depth) ≡ c.args.depth = to_z-of_z w64 _ c.ranges.depth in
@@ -145,8 +145,8 @@ returns-clause-told g c = λ t opened.
     → Filled (ahead_of g.R.Offset.ReaderOffset.limit c.args.depth p) c.args.rows.now
     c.fill_rows.result.place c.fill_rows.new.rows c.fill_rows.result.count
     c.fill_rows.result.status =
-    λ given. rw back at (c.fill_rows.ensures.told (rw c.in-Ok.is at given)) in
-    told_filled g.R.Offset.ReaderOffset.limit (unit_view c.args.unit.now) t
+    λ given. rw back at (c.fill_rows.ensures.outcome (rw c.in-Ok.is at given)) in
+    outcome_filled g.R.Offset.ReaderOffset.limit (unit_view c.args.unit.now) t
     (at number c.args.depth) c.args.rows.now apart _ p c.fill_rows.result.place
     c.fill_rows.new.rows c.fill_rows.result.count c.fill_rows.result.status
     is shallow f

@@ -9,8 +9,8 @@ use Rattle.gimli_c.proofs.SiblingLaw.{sibling_from, begins_from, sibling_refused
 use Rattle.gimli_c.proofs.sibling.find_in_unit.Goals.{then-follows, else-follows}
 use Rattle.gimli_c.proofs.sibling.find_in_unit.Goals as goal
 
-pub returns-in-Ok-clause-told : goal.returns-in-Ok-clause-told
-returns-in-Ok-clause-told g c = λ honest m r.
+pub returns-in-Ok-clause-outcome : goal.returns-in-Ok-clause-outcome
+returns-in-Ok-clause-outcome g c = λ honest m r.
     let limit = g.R.Offset.ReaderOffset.limit in
     let u = unit_view c.args.unit.now in
     let t = c.args.table.now in
@@ -26,12 +26,12 @@ returns-in-Ok-clause-told g c = λ honest m r.
     ] in
     let from = sibling_from limit u t c.args.follows n c.args.depth c.args.row.now c.in-Ok.cursor is
     in
-    let told = rw back at c.find_behind.ensures.told in
-    told (λ f. honest_cursor limit u t c.args.follows (Some n) c.in-Ok.cursor is
+    let outcome = rw back at c.find_after.ensures.outcome in
+    outcome (λ f. honest_cursor limit u t c.args.follows (Some n) c.in-Ok.cursor is
     (honest (sym from.0 ∙ f))) m r ∙ from.1
 
-pub returns-in-Ok-clause-behind : goal.returns-in-Ok-clause-behind
-returns-in-Ok-clause-behind g c = λ found.
+pub returns-in-Ok-clause-after : goal.returns-in-Ok-clause-after
+returns-in-Ok-clause-after g c = λ found.
     let limit = g.R.Offset.ReaderOffset.limit in
     let u = unit_view c.args.unit.now in
     let t = c.args.table.now in
@@ -45,10 +45,10 @@ returns-in-Ok-clause-behind g c = λ found.
           (sym c.in-Ok.is ∙ w.cursor-is ∙ w.entries_plain_at_offset-cursor.ensures)
     ] in
     rw (begins_from limit u t c.args.follows n c.args.depth c.args.row.now c.in-Ok.cursor is
-    c.args.unit.now.entries_fit) at (c.find_behind.ensures.behind found)
+    c.args.unit.now.entries_fit) at (c.find_after.ensures.after found)
 
-pub returns-in-Err-clause-told : goal.returns-in-Err-clause-told
-returns-in-Err-clause-told g c = λ _ _ _.
+pub returns-in-Err-clause-outcome : goal.returns-in-Err-clause-outcome
+returns-in-Err-clause-outcome g c = λ _ _ _.
     let u = unit_view c.args.unit.now in
     let t = c.args.table.now in
     let n = g.R.Offset.ReaderOffset.number c.args.offset in
@@ -65,7 +65,7 @@ returns-in-Err-clause-told g c = λ _ _ _.
     c.in-Err.error is)
 
 pub returns-in-Ok-clause-row_memory : goal.returns-in-Ok-clause-row_memory
-returns-in-Ok-clause-row_memory g c = λ told.
+returns-in-Ok-clause-row_memory g c = λ outcome.
     let u = unit_view c.args.unit.now in
     let t = c.args.table.now in
     let n = g.R.Offset.ReaderOffset.number c.args.offset in
@@ -81,11 +81,11 @@ returns-in-Ok-clause-row_memory g c = λ told.
     let reader = cursor_reader u t c.args.follows n c.in-Ok.cursor is in
     let p = c.in-Ok.cursor.raw in
     unit_takes_from u t n fits p reader
-    (c.find_behind.ensures.row_memory (bytes_fit u t n fits p reader) told)
+    (c.find_after.ensures.row_memory (bytes_fit u t n fits p reader) outcome)
 
 pub returns-in-Err-clause-row_memory : goal.returns-in-Err-clause-row_memory
 returns-in-Err-clause-row_memory g c =
-    rw c.refusal_status.ensures (λ told. absurd (refusal_no_row c.in-Err.error told))
+    rw c.refusal_status.ensures (λ outcome. absurd (refusal_no_row c.in-Err.error outcome))
 
 pub returns-in-Err-clause-memory : goal.returns-in-Err-clause-memory
 returns-in-Err-clause-memory g c =

@@ -5,15 +5,15 @@ use Rattle.gimli_units.specs.UnitHeld.{unit_view}
 use Rattle.gimli_c.proofs.Memory.{table_takes, refusal_no_row}
 use Rattle.gimli_c.proofs.sibling.find_sibling.Goals as goal
 
-pub returns-in-Ok-abbreviations-clause-told : goal.returns-in-Ok-abbreviations-clause-told
+pub returns-in-Ok-abbreviations-clause-outcome : goal.returns-in-Ok-abbreviations-clause-outcome
 unfolding range_from
-returns-in-Ok-abbreviations-clause-told g c =
+returns-in-Ok-abbreviations-clause-outcome g c =
     let back : to_z w64 (of_z w64 c.args.depth) ≡ c.args.depth = to_z-of_z w64 _ c.ranges.depth in
-    rw (← c.in-Ok.ensures, ← c.in-Ok-abbreviations.ensures.value) (rw back at c.find_in_unit.ensures.told)
+    rw (← c.in-Ok.ensures, ← c.in-Ok-abbreviations.ensures.value) (rw back at c.find_in_unit.ensures.outcome)
 
 pub returns-in-Ok-abbreviations-clause-memory : goal.returns-in-Ok-abbreviations-clause-memory
 returns-in-Ok-abbreviations-clause-memory g c =
-    rw (← c.in-Ok.ensures) (λ told. absurd (c.find_in_unit.ensures.memory told))
+    rw (← c.in-Ok.ensures) (λ outcome. absurd (c.find_in_unit.ensures.memory outcome))
 
 pub returns-in-Ok-abbreviations-clause-row_memory : goal.returns-in-Ok-abbreviations-clause-row_memory
 unfolding range_from
@@ -30,8 +30,8 @@ returns-clause-memory g c =
 pub returns-clause-row_memory : goal.returns-clause-row_memory
 returns-clause-row_memory g c =
     rw c.refusal_status-in-Err-abbreviations.ensures
-    (λ told. absurd (refusal_no_row c.in-Err-abbreviations.error told))
+    (λ outcome. absurd (refusal_no_row c.in-Err-abbreviations.error outcome))
 
 pub returns-in-Err-clause-row_memory : goal.returns-in-Err-clause-row_memory
 returns-in-Err-clause-row_memory g c =
-    rw c.refusal_status.ensures (λ told. absurd (refusal_no_row c.in-Err.error told))
+    rw c.refusal_status.ensures (λ outcome. absurd (refusal_no_row c.in-Err.error outcome))

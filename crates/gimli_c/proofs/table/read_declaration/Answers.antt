@@ -64,7 +64,7 @@ returns-clause-read g c =
     c.in_ok-tag.ensures.value c.if-tag-eq0.false _ _ c.in_ok-has_children.ensures.value few in
     let ss = r.specifications in
     let flag = flag_number c.in_ok-has_children.has_children few in
-    let told : ℕ → ℕ → GimliDeclaration = λ n f. record {
+    let outcome : ℕ → ℕ → GimliDeclaration = λ n f. record {
       code = c.in_ok-code.code;
       first = c.args.from;
       attributes = n;
@@ -76,9 +76,9 @@ returns-clause-read g c =
       read = all_read _ _ _ c.in_ok-code.ensures.value c.if-code-eq0.false _ _
           c.in_ok-tag.ensures.value c.if-tag-eq0.false _ _ c.in_ok-has_children.ensures.value
           few _ _ r.read;
-      is = ap (λ (n : ℕ). told n c.in_ok-has_children.has_children) r.count
-          ∙ ap (λ (f : ℕ). told (length ss) f) flag;
+      is = ap (λ (n : ℕ). outcome n c.in_ok-has_children.has_children) r.count
+          ∙ ap (λ (f : ℕ). outcome (length ss) f) flag;
       takes = omega (arith, r.takes, less);
-      behind = r.behind;
+      after = r.after;
       steps = r.steps;
     }

@@ -5,8 +5,8 @@ use Rattle.gimli_base.specs.Items.{all_items}
 use Rattle.gimli_base.proofs.ItemTurns.{items_begin, items_more, items_refused, items_end}
 use Rattle.gimli_base.proofs.AbbreviationReads.{specification_at-shorter}
 use Rattle.gimli_c.specs.Tables.{specification_in}
-use Rattle.gimli_c.specs.TableReads.{AreBehind, HaveSteps}
-use Rattle.gimli_c.proofs.TableFront.{behind_none, behind_more, behind_counted, behind_put}
+use Rattle.gimli_c.specs.TableReads.{AreWrittenAfter, HaveSteps}
+use Rattle.gimli_c.proofs.TableFront.{after_none, after_more, after_counted, after_put}
 use Rattle.gimli_c.proofs.TableFront.{steps_put, steps_left}
 use Rattle.gimli_c.proofs.table.read_specifications.Goals.{then-at-specifications}
 use Rattle.gimli_c.proofs.table.read_specifications.Goals.{else-at-specifications}
@@ -19,7 +19,7 @@ each-init g c = record {
   read = items_begin _ _;
   at_is = omega arith;
   takes = omega arith;
-  behind = behind_none c.args.from c.args.specifications.now;
+  after = after_none c.args.from c.args.specifications.now;
 }
 
 pub returns-in_err-specification-clause-refused : goal.returns-in_err-specification-clause-refused
@@ -44,19 +44,19 @@ each-preserved g c =
       read = items_more _ _ _ _ _ _ inv.read next shorter;
       at_is = omega (arith, inv.at_is, longer);
       takes = omega (arith, inv.takes, longer, shorter);
-      behind = elim c.if-at-specifications.branch [
+      after = elim c.if-at-specifications.branch [
         | then-at-specifications w ↦
             let room : c.args.from + length inv.taken < length c.each.specifications =
             omega (arith, w.if-at-specifications.true, inv.at_is, c.each.auto.specifications) in
             rw (w.specifications-is, inv.at_is)
-            (behind_more c.args.from inv.taken c.args.specifications.now c.each.specifications
-            c.in-Some.specification s inv.behind room refl)
+            (after_more c.args.from inv.taken c.args.specifications.now c.each.specifications
+            c.in-Some.specification s inv.after room refl)
         | else-at-specifications w ↦
             let full : length c.each.specifications ≤ c.args.from + length inv.taken =
             omega (arith, w.if-at-specifications.false, inv.at_is, c.each.auto.specifications) in
             rw w.specifications-is
-            (behind_counted c.args.from inv.taken c.args.specifications.now
-            c.each.specifications s inv.behind full)
+            (after_counted c.args.from inv.taken c.args.specifications.now
+            c.each.specifications s inv.after full)
       ];
     }
 
@@ -69,7 +69,7 @@ returns-clause-read g c =
     let shorter = specification_at-shorter _ _ _ last in
     let n = length inv.taken in
     let count : c.each.at - c.args.from ≡ n = omega (arith, inv.at_is) in
-    let both : AreBehind c.args.from inv.taken c.args.specifications.now
+    let both : AreWrittenAfter c.args.from inv.taken c.args.specifications.now
     c.if-at-specifications-2.specifications
     × HaveSteps c.args.from n c.args.specifications.now c.if-at-specifications-2.specifications =
     elim c.if-at-specifications-2.branch [
@@ -78,16 +78,16 @@ returns-clause-read g c =
           omega (arith, inv.at_is, w.if-at-specifications-2.true) in
           let same = rw count at w.put_steps.ensures.same in
           rw (w.specifications-is, count) (
-            behind_put c.args.from inv.taken c.args.specifications.now c.each.specifications _
-                inv.behind fits same,
+            after_put c.args.from inv.taken c.args.specifications.now c.each.specifications _
+                inv.after fits same,
             steps_put c.args.from inv.taken c.args.specifications.now c.each.specifications _
-                inv.behind fits same w.put_steps.ensures.steps,
+                inv.after fits same w.put_steps.ensures.steps,
           )
       | else-at-specifications-2 w ↦
           rw w.specifications-is (
-            inv.behind,
+            inv.after,
             steps_left c.args.from n c.args.specifications.now c.each.specifications
-                inv.behind.long (omega (arith, inv.at_is, w.if-at-specifications-2.false)),
+                inv.after.long (omega (arith, inv.at_is, w.if-at-specifications-2.false)),
           )
     ] in
     record {
@@ -95,6 +95,6 @@ returns-clause-read g c =
       read = sym ended;
       count = omega (arith, inv.at_is);
       takes = omega (arith, inv.at_is, inv.takes, shorter);
-      behind = both.0;
+      after = both.0;
       steps = both.1;
     }

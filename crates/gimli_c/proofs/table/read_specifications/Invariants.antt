@@ -1,7 +1,7 @@
 use Rattle.std.proofs.Common.{◌≡◌, ◌+◌, ◌≤◌, List, length}
 use Rattle.gimli_base.specs.Abbreviations.{Specification, specification_at}
 use Rattle.gimli_base.specs.Items.{items_at, ItemsSoFar}
-use Rattle.gimli_c.specs.TableReads.{AreBehind}
+use Rattle.gimli_c.specs.TableReads.{AreWrittenAfter}
 use Rattle.gimli_c.proofs.table.read_specifications.Given as goal
 
 abbrev pub invariant-each : goal.invariant-each
@@ -13,7 +13,7 @@ invariant-each g l =
       read : ItemsSoFar specification_at (items_at specification_at before) taken rest;
       at_is : l.at ≡ l.from + length taken;
       takes : length taken + length rest.bytes ≤ length before.bytes;
-      behind : AreBehind l.from taken l.initial.specifications l.specifications;
+      after : AreWrittenAfter l.from taken l.initial.specifications l.specifications;
     }
 
 abbrev pub decreases-each : goal.decreases-each

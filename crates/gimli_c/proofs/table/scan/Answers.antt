@@ -18,8 +18,8 @@ returns-then-declared-count g c =
     let inv = c.declared.invariant in
     let n = rw c.in-Ok-Some.field-0-is at c.in-Ok-Some.ensures.read in
     let lt = declaration_at-shorter _ _ _ n.read in
-    rw c.none_told.ensures (record {
-      told = scan_unordered _ _ _ _ _ _ _ _ inv.front _ _ _ n lt c.if-declared-count.true;
+    rw c.no_table.ensures (record {
+      outcome = scan_unordered _ _ _ _ _ _ _ _ inv.front _ _ _ n lt c.if-declared-count.true;
       written = λ is. absurd (omega (arith, is));
     })
 
@@ -62,7 +62,7 @@ returns-else-fits g c =
 pub returns-in-Err : goal.returns-in-Err
 returns-in-Err g c =
     let inv = c.declared.invariant in
-    rw (c.none_told-in-Err.ensures, c.refusal_status.ensures) (record {
-      told = scan_refused _ _ _ _ _ _ _ _ inv.front _ c.in-Err.ensures.refused;
+    rw (c.no_table-in-Err.ensures, c.refusal_status.ensures) (record {
+      outcome = scan_refused _ _ _ _ _ _ _ _ inv.front _ c.in-Err.ensures.refused;
       written = λ is. absurd (omega (arith, is));
     })

@@ -7,7 +7,7 @@ use Rattle.gimli_units.proofs.EntryReads.{entry_at-shorter}
 use Rattle.gimli_units.proofs.HeadReads.{entry_of_head, refusal_of_head}
 use Rattle.gimli_units.specs.RawPlace.{RawPlace}
 use Rattle.gimli_units.specs.Rows.{Row}
-use Rattle.gimli_units.specs.CursorMoves.{rows_of}
+use Rattle.gimli_units.specs.CursorModel.{rows_of}
 use Rattle.gimli_headers.specs.OpenRows.{check_held, judgement, IsPassedRow}
 use Rattle.gimli_headers.proofs.RowTurns.{ended_rows, refused_rows, more_rows, turn_judged}
 use Rattle.gimli_headers.proofs.RowTurns.{none_first, none_after}
@@ -58,7 +58,7 @@ rows-preserved g c =
     let deep : to_z w64 (of_z w64 c.next_depth-depth.result) ≡ p.depth =
     to_z-of_z w64 _ (record { sfits = c.next_depth-depth.type_inv }) ∙ c.next_depth-depth.ensures in
     let next = c.in-Ok.ensures.same
-    ∙ ap (λ (d : ℤ). record p { rest = q.rest; depth = d }) h.of.behind in
+    ∙ ap (λ (d : ℤ). record p { rest = q.rest; depth = d }) h.of.after in
     let more : (rows_of limit p).rows ≡ r ∷ (rows_of limit q).rows =
     more_rows limit p q r some h.of.reads next c.next_offset-offset.ensures c.next_offset.ensures refl in
     let same_end : q.end ≡ p.end = ap (λ (x : RawPlace). x.end) c.in-Ok.ensures.same in
@@ -81,15 +81,15 @@ rows-preserved g c =
     } in
     record {
       same = turn_judged (number c.args.end.0) p.end q.end (check_held number c.rows.check)
-          (check_held number c.go_behind.new.check) r _ _ _ end same_end more
-          (λ others. c.in_ok-go_behind-in-Ok.ensures.judged r others is) c.rows.invariant.same;
-      rise = rw h.of.behind (c.in_ok-go_behind-in-Ok.ensures.rise r is);
+          (check_held number c.go_past.new.check) r _ _ _ end same_end more
+          (λ others. c.in_ok-go_past-in-Ok.ensures.judged r others is) c.rows.invariant.same;
+      rise = rw h.of.after (c.in_ok-go_past-in-Ok.ensures.rise r is);
       end = same_end ∙ c.rows.invariant.end;
       idle = λ none. none_after c.args.entries.now.end _ r _ more (c.rows.invariant.idle none);
     }
 
-pub returns-in_err-go_behind-in-Ok-clause-without_memory : goal.returns-in_err-go_behind-in-Ok-clause-without_memory
-returns-in_err-go_behind-in-Ok-clause-without_memory g c = λ none.
+pub returns-in_err-go_past-in-Ok-clause-without_memory : goal.returns-in_err-go_past-in-Ok-clause-without_memory
+returns-in_err-go_past-in-Ok-clause-without_memory g c = λ none.
     let limit = g.R.Offset.ReaderOffset.limit in
     let number = g.R.Offset.ReaderOffset.number in
     let p = c.rows.entries in
@@ -108,7 +108,7 @@ returns-in_err-go_behind-in-Ok-clause-without_memory g c = λ none.
     let deep : to_z w64 (of_z w64 c.next_depth-depth.result) ≡ p.depth =
     to_z-of_z w64 _ (record { sfits = c.next_depth-depth.type_inv }) ∙ c.next_depth-depth.ensures in
     let next = c.in-Ok.ensures.same
-    ∙ ap (λ (d : ℤ). record p { rest = q.rest; depth = d }) h.of.behind in
+    ∙ ap (λ (d : ℤ). record p { rest = q.rest; depth = d }) h.of.after in
     let more : (rows_of limit p).rows ≡ r ∷ (rows_of limit q).rows =
     more_rows limit p q r some h.of.reads next c.next_offset-offset.ensures c.next_offset.ensures refl in
     let same_end : q.end ≡ p.end = ap (λ (x : RawPlace). x.end) c.in-Ok.ensures.same in
@@ -131,7 +131,7 @@ returns-in_err-go_behind-in-Ok-clause-without_memory g c = λ none.
     } in
     let no : usable_target (number c.args.end.0) r ≡ None =
     rw c.requires (none_first c.args.entries.now.end _ r _ more (c.rows.invariant.idle none)) in
-    absurd (let ok = c.in_err-go_behind-in-Ok.ensures.without_memory r is no in cc)
+    absurd (let ok = c.in_err-go_past-in-Ok.ensures.without_memory r is no in cc)
 
 pub returns-clause-value : goal.returns-clause-value
 returns-clause-value g c =

@@ -1,6 +1,6 @@
 use Rattle.std.proofs.Common.{◌≡◌, length, None}
 use Rattle.std.specs.List.{All}
-use Rattle.gimli_units.specs.CursorMoves.{rows_of}
+use Rattle.gimli_units.specs.CursorModel.{rows_of}
 use Rattle.gimli_units.specs.FirstFalse.{first_false}
 use Rattle.gimli_units.specs.Honest.{usable_target}
 use Rattle.gimli_headers.specs.OpenRows.{check_held, Rise, judgement}

@@ -13,8 +13,8 @@ unwrap-whole_length-requires g c =
     omega (arith, left, same, c.from_u8-field.ensures, c.initial_length_size.ensures) in
     search rules
 
-pub unwrap-behind-requires : goal.unwrap-behind-requires
-unwrap-behind-requires g c =
+pub unwrap-after-requires : goal.unwrap-after-requires
+unwrap-after-requires g c =
     let left = set_at-left _ _ _ _ _ c.in-Ok.ensures in
     let same = ap (λ (v : View). length v.bytes) c.copy-rest.ensures in
     let number = g.R.Offset.ReaderOffset.number in
@@ -32,7 +32,7 @@ returns-in-Ok-clause-fits g c =
     let number = g.R.Offset.ReaderOffset.number in
     let whole : number c.unwrap-whole_length.result
     ≡ number c.from_u8-field.result + number c.in-Ok.header.length = search rules in
-    let sum : number c.unwrap-behind.result
+    let sum : number c.unwrap-after.result
     ≡ number c.args.offset.now.0 + number c.unwrap-whole_length.result = search rules in
     omega (arith, left, same, whole, sum, c.from_u8-field.ensures, c.initial_length_size.ensures)
 

@@ -1,8 +1,8 @@
 use Rattle.std.proofs.Common.{◌≡◌, rules, refl, sym, ◌∙◌, arith, ◌<◌, length, Ok, Err, None, Some}
 use Rattle.gimli_lists.specs.Places.{next_raw, entry_conversion}
 use Rattle.gimli_lists.proofs.PlaceSteps.{Next, Converted, InList-trans, InList-read, ahead_none}
-use Rattle.gimli_lists.proofs.PlaceSteps.{ahead_stop, next_raw-ended, next_raw-refused, behind_end}
-use Rattle.gimli_lists.proofs.PlaceSteps.{behind_refused, behind_one, behind_more, spent_one}
+use Rattle.gimli_lists.proofs.PlaceSteps.{ahead_stop, next_raw-ended, next_raw-refused, after_end}
+use Rattle.gimli_lists.proofs.PlaceSteps.{after_refused, after_one, after_more, spent_one}
 use Rattle.gimli_lists.proofs.PlaceSteps.{spent_more, stepped-inside, stepped-ahead}
 use Rattle.gimli_lists.proofs.PlaceSteps.{stepped-shorter, stepped-sound}
 use Rattle.gimli_lists.proofs.next_item.first_item.Goals as goal
@@ -191,7 +191,7 @@ entries-preserved g c =
           c.take_raw.ensures.same read made c.entries.invariant.1,
       omega (arith, left, c.entries.invariant.2),
       λ t h. c.entries.invariant.3 t
-          (behind_more w.grammar takes w.limit p q s entry (Ok None) c.take_raw.ensures.same read
+          (after_more w.grammar takes w.limit p q s entry (Ok None) c.take_raw.ensures.same read
           made t refl h),
       λ t h. c.entries.invariant.4 t
           (spent_more w.grammar takes w.limit p q s entry (Ok None) c.take_raw.ensures.same read
@@ -242,7 +242,7 @@ returns-in_err-item-clause-place g c =
     let made : ◌≡◌ {A = Converted w.Payload} (Err c.in_err-item.field-0.0, s)
     (entry_conversion w.limit entry q) = search rules in
     c.entries.invariant.3 s
-    (behind_one w.grammar takes w.limit p q s entry (Err c.in_err-item.field-0.0)
+    (after_one w.grammar takes w.limit p q s entry (Err c.in_err-item.field-0.0)
     c.take_raw.ensures.same read made refl)
 
 pub returns-in-Some-2-clause-place : goal.returns-in-Some-2-clause-place
@@ -258,7 +258,7 @@ returns-in-Some-2-clause-place g c =
     let made : ◌≡◌ {A = Converted w.Payload} (Ok (Some (w.resolved c.in-Some-2.item)), s)
     (entry_conversion w.limit entry q) = search rules in
     c.entries.invariant.3 s
-    (behind_one w.grammar takes w.limit p q s entry (Ok (Some (w.resolved c.in-Some-2.item)))
+    (after_one w.grammar takes w.limit p q s entry (Ok (Some (w.resolved c.in-Some-2.item)))
     c.take_raw.ensures.same read made refl)
 
 pub returns-clause-place : goal.returns-clause-place
@@ -269,7 +269,7 @@ returns-clause-place g c =
     let q = w.place c.take_raw.new.self in
     let read : ◌≡◌ {A = Next w.Payload} (Ok None, q.raw) (next_raw w.grammar p.raw) =
     search rules in
-    c.entries.invariant.3 q (behind_end w.grammar takes w.limit p q c.take_raw.ensures.same read)
+    c.entries.invariant.3 q (after_end w.grammar takes w.limit p q c.take_raw.ensures.same read)
 
 pub returns-in_err-raw-clause-place : goal.returns-in_err-raw-clause-place
 returns-in_err-raw-clause-place g c =
@@ -280,7 +280,7 @@ returns-in_err-raw-clause-place g c =
     let e = c.in_err-raw.field-0.0 in
     let read : ◌≡◌ {A = Next w.Payload} (Err e, q.raw) (next_raw w.grammar p.raw) = search rules in
     c.entries.invariant.3 q
-    (behind_refused w.grammar takes w.limit p q e c.take_raw.ensures.same read)
+    (after_refused w.grammar takes w.limit p q e c.take_raw.ensures.same read)
 
 pub returns-in_err-item-clause-spent : goal.returns-in_err-item-clause-spent
 returns-in_err-item-clause-spent g c =

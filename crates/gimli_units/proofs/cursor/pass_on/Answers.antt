@@ -3,8 +3,8 @@ use Rattle.std.proofs.Common.{of_z, Err}
 use Rattle.gimli_base.specs.Table.{codes_of}
 use Rattle.std.specs.Option.{option_map, option_copied}
 use Rattle.std.proofs.lemmas.Int.{to_z-of_z}
-use Rattle.gimli_units.specs.CursorMoves.{CursorView}
-use Rattle.gimli_units.specs.CursorRead.{no_pass, without_entry}
+use Rattle.gimli_units.specs.CursorModel.{CursorView}
+use Rattle.gimli_units.specs.SearchSteps.{no_pass, without_entry}
 use Rattle.gimli_units.proofs.CursorSteps.{did_refuse}
 use Rattle.gimli_units.proofs.HeadReads.{refusal_of_head}
 use Rattle.gimli_units.proofs.Memory.{entry_at-never}

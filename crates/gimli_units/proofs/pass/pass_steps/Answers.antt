@@ -80,7 +80,7 @@ returns-then-not-pass_step-2 g c =
     let next = value_over limit e all sought start c.values.steps.now left found v
     c.values.invariant s rest is after u c.in_ok-found.ensures in
     (rw (c.pass_step-in-Some-split_first.ensures.kept c.if-not-pass_step-2.true) at
-    c.pass_each_cold-then-not-pass_step-2.ensures)
+    c.pass_each_on_copy-then-not-pass_step-2.ensures)
     ∙ sym next.same
 
 pub values-preserved : goal.values-preserved

@@ -7,10 +7,10 @@ use Rattle.gimli_walk.proofs.cursor.run_cursor_plain.Goals as goal
 
 pub returns-clause-run : goal.returns-clause-run
 returns-clause-run g c =
-    let told = answer_held g.R.Reader.view g.R.Offset.ReaderOffset.number in
+    let answer = answer_held g.R.Reader.view g.R.Offset.ReaderOffset.number in
     let all = c.collect_steps.ensures in
     run_from g.R.Offset.ReaderOffset.limit _ _ false _ _ _ _ _ _ c.args.unit.now.entries_fit
-    c.in_ok-cursor.ensures all.run (sym (length-map c.collect_steps.result.answers.items told))
+    c.in_ok-cursor.ensures all.run (sym (length-map c.collect_steps.result.answers.items answer))
     (stopped_is _ _ _ all.stopped all.whole)
 
 pub returns-in_err-cursor-clause-run : goal.returns-in_err-cursor-clause-run

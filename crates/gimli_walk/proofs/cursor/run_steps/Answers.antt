@@ -39,15 +39,15 @@ steps-preserved g c =
       is = refl;
       fine = c.wants_memory.ensures c.if-wants_memory.false;
     }))
-    (g.met.S.Sink.more c.args.sink.now c.steps.sink c.tell.new.self so.all (a ∷ []) so.are_told
-    c.in_ok-tell.ensures.told)
+    (g.met.S.Sink.more c.args.sink.now c.steps.sink c.tell.new.self so.all (a ∷ []) so.are_answered
+    c.in_ok-tell.ensures.answer)
 
 pub returns-then-wants_memory : goal.returns-then-wants_memory
 returns-then-wants_memory g c =
     let left = drop c.steps.step-index c.args.steps.now in
     so_far_stopped _ _ _ _ _ _ c.steps.invariant
     (run_none g.R.Offset.ReaderOffset.limit c.steps.cursor left) c.steps-test.true
-    c.steps.invariant.are_told
+    c.steps.invariant.are_answered
 
 pub returns-in_err-tell : goal.returns-in_err-tell
 returns-in_err-tell g c =
@@ -58,7 +58,7 @@ returns-in_err-tell g c =
     (so_far_refused _ _ _ _ g.S.Sink.writes _ _ c.in_err-tell.field-0.0 so
     (run_none g.R.Offset.ReaderOffset.limit c.steps.cursor left) c.steps-test.true
     (λ m. rw append-nil at
-    (g.met.S.Sink.more c.args.sink.now c.steps.sink c.tell.new.self so.all [] so.are_told
+    (g.met.S.Sink.more c.args.sink.now c.steps.sink c.tell.new.self so.all [] so.are_answered
     (c.tell.ensures.kept (c.in_err-tell.was ∙ ap Err m))))
     (λ w. c.tell.ensures.fault (c.in_err-tell.was ∙ ap Err w)))
 

@@ -2,7 +2,7 @@ use Rattle.std.proofs.Common.{rules, ◌≡◌, ◌∙◌, sym, ap, Ok, Err, ℕ
 use Rattle.std.proofs.Math.Nat.{max-zero}
 use Rattle.gimli_units.specs.UnitHeld.{unit_view}
 use Rattle.gimli_walk.proofs.Dumps.{dump_ended, dump_refused, dump_more, dump_cut, dump_whole}
-use Rattle.gimli_walk.proofs.Dumps.{behind_status, behind_behind, until_outcome, first_takes_none}
+use Rattle.gimli_walk.proofs.Dumps.{after_status, after_after, until_outcome, first_takes_none}
 use Rattle.gimli_walk.proofs.Dumps.{others_take_none}
 use Rattle.gimli_walk.proofs.dump.dump_units.Goals as goal
 
@@ -45,11 +45,11 @@ units-preserved g c =
     let greater : c.max-status.result ≡ max c.units.status next = search rules in
     record {
       completes = λ final written rest.
-          until_outcome start final _ (behind_status c.units.status (behind_status next written))
-          (behind_status c.max-status.result written)
-          (behind_behind c.units.status next written
-          ∙ ap (λ (n : ℕ). behind_status n written) (sym greater))
-          (c.units.invariant.completes final (behind_status next written)
+          until_outcome start final _ (after_status c.units.status (after_status next written))
+          (after_status c.max-status.result written)
+          (after_after c.units.status next written
+          ∙ ap (λ (n : ℕ). after_status n written) (sym greater))
+          (c.units.invariant.completes final (after_status next written)
           (dump_more limit declarations out mid final c.units.units c.next.new.self u next
           written (rw c.in-Ok-Some.field-0-is at c.in-Ok-Some.ensures.ahead)
           c.in_ok-next-in-Ok-Some.ensures.text rest));

@@ -7,7 +7,7 @@ use Rattle.gimli_headers.specs.Units.{units_of, units_ahead}
 use Rattle.gimli_base.specs.declared.common.SectionId.TheVariants.{DebugInfo}
 use Rattle.std.specs.List.{All}
 use Rattle.gimli_walk.specs.Stops.{WroteUntil}
-use Rattle.gimli_walk.proofs.Dumps.{place_dump, behind_status}
+use Rattle.gimli_walk.proofs.Dumps.{place_dump, after_status}
 use Rattle.gimli_walk.proofs.dump.dump_units.Given as goal
 
 -- whatever completes the units that are left completes the whole; where no unit takes memory, none
@@ -20,7 +20,7 @@ invariant-units g l =
       completes : (final : Option (List ℕ)) (written : Result ℕ Stop)
           → WroteUntil (g.W.Write.contents l.out) final (text l.units) written
           → WroteUntil (g.W.Write.contents l.initial.out) final (text l.initial.units)
-          (behind_status l.status written);
+          (after_status l.status written);
       idle :
           All (λ u. unit_takes_memory (g.R.Reader.view l.debug_abbrev.section) u ≡ false)
           (units_of limit DebugInfo (g.R.Reader.view l.debug_info.section)).items

@@ -1,5 +1,5 @@
 use Rattle.std.proofs.Common.{rules, ◌≡◌, ◌++◌, length}
-use Rattle.gimli_walk.proofs.WrittenLines.{Wrote-behind}
+use Rattle.gimli_walk.proofs.WrittenLines.{Wrote-after}
 use Rattle.gimli_walk.proofs.Dumps.{nothing_dumped}
 use Rattle.gimli_walk.specs.Text.{all_lines}
 use Rattle.gimli_walk.proofs.dump_vec.dump_to_vec.Goals as goal
@@ -22,4 +22,4 @@ returns-clause-text g c =
     let old = c.args.text.now.items in
     let lines = c.fill-2.new.text.items in
     let grown : c.extend_from_slice.new.self.items ≡ old ++ lines = search rules in
-    rw grown (Wrote-behind old lines _ _ c.in_ok-status.ensures.text)
+    rw grown (Wrote-after old lines _ _ c.in_ok-status.ensures.text)

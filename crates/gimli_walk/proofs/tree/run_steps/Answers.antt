@@ -21,7 +21,7 @@ steps-preserved g c =
     c.steps.step-index turned.0 so
     (tree_run_more limit c.steps.walker new steps c.steps.step-index _ turned.0 next turned.1)
     (g.met.S.TreeSink.more c.args.sink.now c.steps.sink c.turn.new.sink so.all (turned.0 ∷ [])
-    so.are_told turned.2)
+    so.are_answered turned.2)
 
 pub returns-in_err-turn : goal.returns-in_err-turn
 returns-in_err-turn g c =
@@ -32,7 +32,7 @@ returns-in_err-turn g c =
     (so_far_refused _ _ _ _ g.S.TreeSink.writes _ _ c.in_err-turn.field-0.0 so
     (tree_run_none g.R.Offset.ReaderOffset.limit c.steps.walker left) c.steps-test.true
     (λ m. rw append-nil at
-    (g.met.S.TreeSink.more c.args.sink.now c.steps.sink c.turn.new.sink so.all [] so.are_told
+    (g.met.S.TreeSink.more c.args.sink.now c.steps.sink c.turn.new.sink so.all [] so.are_answered
     (c.turn.ensures.kept (c.in_err-turn.was ∙ ap Err m))))
     (λ w. c.turn.ensures.fault (c.in_err-turn.was ∙ ap Err w)))
 

@@ -9,7 +9,7 @@ returns-then-leave-clause-turned g c =
     let left = c.leave.ensures.left in
     let turned = leave_turned g.R.Offset.ReaderOffset.limit s.tree _ s.is_on true s.lists
     (sym c.if-leave.true ∙ left.0) left.1 in
-    on_ok c.tell.result (λ told. (has_left, turned, told)) c.tell.ensures.told
+    on_ok c.tell.result (λ answer. (has_left, turned, answer)) c.tell.ensures.answer
 
 pub returns-else-leave-clause-turned : goal.returns-else-leave-clause-turned
 returns-else-leave-clause-turned g c =
@@ -17,5 +17,5 @@ returns-else-leave-clause-turned g c =
     let left = c.leave.ensures.left in
     let turned = leave_turned g.R.Offset.ReaderOffset.limit s.tree _ s.is_on false s.lists
     (sym c.if-leave.false ∙ left.0) left.1 in
-    on_ok c.tell-else-leave.result (λ told. (no_node, turned, told))
-    c.tell-else-leave.ensures.told
+    on_ok c.tell-else-leave.result (λ answer. (no_node, turned, answer))
+    c.tell-else-leave.ensures.answer

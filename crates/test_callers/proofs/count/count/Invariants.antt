@@ -1,6 +1,6 @@
 use Rattle.std.proofs.Common.{◌≡◌, ◌<◌, ◌+◌, ◌^◌, unsigned_abs, length, true}
-use Rattle.gimli_units.specs.CursorMoves.{rows_of}
-use Rattle.gimli_units.specs.CursorMoves.{IsHonestCursor}
+use Rattle.gimli_units.specs.CursorModel.{rows_of}
+use Rattle.gimli_units.specs.CursorModel.{IsHonestCursor}
 use Rattle.gimli_units.specs.TreeMoves.{list_of}
 use Rattle.test_callers.specs.Children.{count_in}
 use Rattle.test_callers.proofs.count.count.Given as goal

@@ -1,6 +1,6 @@
 use Rattle.std.proofs.Common.{◌≡◌, ◌<◌, ◌+◌, ◌^◌, length}
-use Rattle.gimli_units.specs.CursorMoves.{rows_of}
-use Rattle.gimli_units.specs.CursorMoves.{IsHonestCursor}
+use Rattle.gimli_units.specs.CursorModel.{rows_of}
+use Rattle.gimli_units.specs.CursorModel.{IsHonestCursor}
 use Rattle.test_callers.specs.Subtree.{count_innermost}
 use Rattle.test_callers.proofs.nested.count_entered.Given as goal
 

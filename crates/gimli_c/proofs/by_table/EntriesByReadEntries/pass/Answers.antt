@@ -4,8 +4,8 @@ use Rattle.gimli_c.specs.TableReads.{PlaceBy}
 use Rattle.gimli_c.proofs.ByTable.{read_past}
 use Rattle.gimli_c.proofs.by_table.EntriesByReadEntries.pass.Goals as goal
 
-pub go_behind-requires : goal.go_behind-requires
-go_behind-requires g c =
+pub go_past-requires : goal.go_past-requires
+go_past-requires g c =
     let shorter = c.in_ok-head.ensures.shorter in
     let same = ap (λ (v : View). length v.bytes) c.copy-rest.ensures in
     let left = ap (λ (e : PlaceBy). length e.place.rest.bytes) c.self.view_is in
@@ -14,6 +14,6 @@ go_behind-requires g c =
 pub returns-clause-past : goal.returns-clause-past
 returns-clause-past g c = λ given.
     let own = rw (← c.self.view_is) at given in
-    let moved = ap (λ (e : PlaceBy). e.place) (rw (← c.self.view_is) at c.go_behind.ensures) in
+    let moved = ap (λ (e : PlaceBy). e.place) (rw (← c.self.view_is) at c.go_past.ensures) in
     rw (← c.self.view_is)
     (read_past _ _ _ _ (rw c.copy-rest.ensures at (c.in_ok-head.ensures.past own)) _ moved)

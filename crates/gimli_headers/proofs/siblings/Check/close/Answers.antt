@@ -26,7 +26,7 @@ overflow_add-entry g c =
     rw back (omega (arith, ints, less, fits, range))
 
 pub returns-in_default-clause-judged : goal.returns-in_default-clause-judged
-returns-in_default-clause-judged g c = λ end r rest null at behind.
+returns-in_default-clause-judged g c = λ end r rest null at after.
     let items = c.args.self.now.open.items in
     let there : slice_get items (length items - 1)
     ≡ None = sym (rw (c.deref.ensures.value, c.in_default.is) at c.last.ensures.value) in
@@ -49,7 +49,7 @@ returns-then-entry-depth-clause-rise g c =
     other_rise g.Offset.ReaderOffset.number c.args.depth items c.requires e there other
 
 pub returns-then-entry-depth-clause-judged : goal.returns-then-entry-depth-clause-judged
-returns-then-entry-depth-clause-judged g c = λ end r rest null at behind.
+returns-then-entry-depth-clause-judged g c = λ end r rest null at after.
     let e = c.in-Some.entry.now in
     let items = c.args.self.now.open.items in
     let there = sym (rw c.deref.ensures.value at c.in-Some.ensures.value) in
@@ -74,7 +74,7 @@ returns-then-well-clause-rise g c =
     there deep left
 
 pub returns-then-well-clause-judged : goal.returns-then-well-clause-judged
-returns-then-well-clause-judged g c = λ end r rest null at behind.
+returns-then-well-clause-judged g c = λ end r rest null at after.
     let e = c.in-Some.entry.now in
     let items = c.args.self.now.open.items in
     let there = sym (rw c.deref.ensures.value at c.in-Some.ensures.value) in
@@ -88,7 +88,7 @@ returns-then-well-clause-judged g c = λ end r rest null at behind.
     rw (← c.deref.ensures.len, c.deref.ensures.value) at c.pop.ensures.rest in
     let well : g.Offset.ReaderOffset.number e.target.0
     ≡ r.next = sym c.into_u64.ensures.value ∙ c.if-well.true ∙ c.into_u64-2.ensures.value
-    ∙ sym behind in
+    ∙ sym after in
     closes_well g.Offset.ReaderOffset.number c.args.depth items c.requires end _ r rest null at e
     c.pop.new.self.items there deep left well
 
@@ -109,7 +109,7 @@ returns-clause-rise g c =
     there deep left
 
 pub returns-clause-judged : goal.returns-clause-judged
-returns-clause-judged g c = λ end r rest null at behind.
+returns-clause-judged g c = λ end r rest null at after.
     let e = c.in-Some.entry.now in
     let items = c.args.self.now.open.items in
     let there = sym (rw c.deref.ensures.value at c.in-Some.ensures.value) in
@@ -123,6 +123,6 @@ returns-clause-judged g c = λ end r rest null at behind.
     rw (← c.deref.ensures.len, c.deref.ensures.value) at c.pop.ensures.rest in
     let badly : g.Offset.ReaderOffset.number e.target.0 ≡ r.next
     → ⊥ = λ same. c.if-well.false
-    (c.into_u64.ensures.value ∙ same ∙ behind ∙ sym c.into_u64-2.ensures.value) in
+    (c.into_u64.ensures.value ∙ same ∙ after ∙ sym c.into_u64-2.ensures.value) in
     closes_badly g.Offset.ReaderOffset.number c.args.depth items c.requires end _ r rest null at e
     c.pop.new.self.items there deep left badly

@@ -1,7 +1,7 @@
 use Rattle.std.proofs.Common.{rules, ap, w64, FitsSigned}
 use Rattle.std.proofs.lemmas.Int.{to_z-of_z}
 use Rattle.gimli_units.specs.Entry.{entry_of}
-use Rattle.gimli_units.specs.CursorMoves.{CursorView}
+use Rattle.gimli_units.specs.CursorModel.{CursorView}
 use Rattle.gimli_units.proofs.Jumps.{left_at}
 use Rattle.gimli_units.proofs.Onward.{onward_start, onward_follow}
 use Rattle.gimli_units.proofs.cursor.EntriesCursor.follow.Goals as goal

@@ -8,6 +8,6 @@ invariant_of-result g c =
       shallow = omega (arith, c.requires.shallow);
       fits = c.requires.fits;
       next_shallow = c.requires.shallow;
-      behind = λ entry. absurd (cc);
+      after = λ entry. absurd (cc);
       past = λ entry. absurd (cc);
     })

@@ -1,6 +1,6 @@
 use Rattle.std.proofs.Common.{◌≡◌, ◌∙◌, ap, w64, to_z, of_z}
 use Rattle.std.proofs.lemmas.Int.{to_z-of_z}
-use Rattle.gimli_units.specs.CursorMoves.{CursorView}
+use Rattle.gimli_units.specs.CursorModel.{CursorView}
 use Rattle.gimli_units.proofs.PassedOn.{sound_pass}
 use Rattle.gimli_units.proofs.SeekTurns.{passing_on, passing_shorter, passing_out, passing_to}
 use Rattle.gimli_units.proofs.SeekTurns.{passed_here}

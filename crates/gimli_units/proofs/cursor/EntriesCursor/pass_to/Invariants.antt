@@ -1,5 +1,5 @@
 use Rattle.std.proofs.Common.{◌≡◌, length}
-use Rattle.gimli_units.specs.CursorRead.{without_entry}
+use Rattle.gimli_units.specs.SearchSteps.{without_entry}
 use Rattle.gimli_units.proofs.SeekTurns.{Passing}
 use Rattle.gimli_units.proofs.cursor.EntriesCursor.pass_to.Given as goal
 

@@ -1,7 +1,7 @@
 use Rattle.std.proofs.Common.{rules, ◌≡◌, ◌∙◌, ap, length, Ok, Err, true, false, w64}
 use Rattle.std.specs.Ordering.{int_eq}
 use Rattle.std.proofs.lemmas.Int.{to_z-of_z}
-use Rattle.gimli_units.specs.CursorMoves.{CursorView}
+use Rattle.gimli_units.specs.CursorModel.{CursorView}
 use Rattle.gimli_units.proofs.SeekTurns.{Leaving, leaving_start, leaving_sound, leaving_to}
 use Rattle.gimli_units.proofs.SeekTurns.{leaving_after, left_to, left_end, left_out}
 use Rattle.gimli_units.proofs.cursor.EntriesCursor.seek.Goals.{then-is_before+in_ok-pass_to}

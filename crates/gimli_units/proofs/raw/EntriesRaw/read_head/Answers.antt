@@ -6,16 +6,16 @@ use Rattle.gimli_units.proofs.EntryReads.{abbreviation_at-later, attributes_at-l
 use Rattle.gimli_units.proofs.HeadReads.{declared_here}
 use Rattle.gimli_units.proofs.raw.EntriesRaw.read_head.Goals as goal
 
-pub go_behind_null-requires : goal.go_behind_null-requires
-go_behind_null-requires g c =
+pub go_past_null-requires : goal.go_past_null-requires
+go_past_null-requires g c =
     let shorter = IsLater-length 1 _ _
     (abbreviation_at-later _ _ _ _ c.in_ok-declared.ensures) in
     let same = ap (λ (v : View). length v.bytes) c.copy-rest.ensures in
     let left = ap (λ (p : RawPlace). length p.rest.bytes) c.self.view_is in
     omega (arith, shorter, same, left)
 
-pub go_behind_entry-requires : goal.go_behind_entry-requires
-go_behind_entry-requires g c =
+pub go_past_entry-requires : goal.go_past_entry-requires
+go_past_entry-requires g c =
     let shorter = IsLater-length 1 _ _
     (abbreviation_at-later _ _ _ _ c.in_ok-declared.ensures) in
     let passed = IsLater-length 0 _ _

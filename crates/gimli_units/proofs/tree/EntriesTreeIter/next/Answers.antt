@@ -1,5 +1,5 @@
 use Rattle.std.proofs.Common.{rules, ◌≡◌, refl, sym, ap, ◌∙◌, [], Ok, Err, true, false}
-use Rattle.gimli_units.proofs.TreeSteps.{end_told}
+use Rattle.gimli_units.proofs.TreeSteps.{end_answer}
 use Rattle.gimli_units.proofs.tree.EntriesTreeIter.next.Goals as goal
 
 pub returns-in_err-advance-clause-refused : goal.returns-in_err-advance-clause-refused
@@ -20,7 +20,7 @@ returns-in_err-advance-clause-refused g c =
 pub returns-then-not-branch-clause-answers : goal.returns-then-not-branch-clause-answers
 returns-then-not-branch-clause-answers g c fits honest =
     let no : c.advance.result ≡ Ok false = search rules in
-    end_told g.R.Offset.ReaderOffset.limit c.args.self.now.tree.now c.advance.new.self.tree.now
+    end_answer g.R.Offset.ReaderOffset.limit c.args.self.now.tree.now c.advance.new.self.tree.now
     c.args.self.now.depth c.args.self.now.is_open
     (λ o. rw no at c.advance.ensures.gone_on o fits) honest
 

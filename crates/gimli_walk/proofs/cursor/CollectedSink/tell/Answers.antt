@@ -13,8 +13,8 @@ returns-in-Err-clause-kept g c =
     (collected_none (answer_held g.R.Reader.view g.R.Offset.ReaderOffset.number)
     (IsPaired g.R.Offset.ReaderOffset.number) c.args.self.now.answers.items)
 
-pub returns-clause-told : goal.returns-clause-told
-returns-clause-told g c =
+pub returns-clause-answer : goal.returns-clause-answer
+returns-clause-answer g c =
     let number = g.R.Offset.ReaderOffset.number in
     let depth : to_z w64 (of_z w64 c.depth.result)
     ≡ c.depth.result = to_z-of_z w64 _ (record { sfits = c.depth.type_inv }) in
