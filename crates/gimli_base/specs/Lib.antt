@@ -12,3 +12,4 @@ pub mod Width
 pub mod Steps
 pub mod Address
 pub mod ListsBase
+pub mod Sections

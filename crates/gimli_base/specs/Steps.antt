@@ -26,8 +26,8 @@ is_sibling s = s.name.0 == 0x01
 abbrev pub is_ref8 : Specification → Bool
 is_ref8 s = s.form.0 == 0x14 || s.form.0 == 0x24
 
--- the step s stands for the attributes ss: their number, their size under each encoding, and whether
--- one may be a reference of 8 bytes
+-- the step s stands for the attributes ss: their number, their size under each encoding, and
+-- whether one may be a reference of 8 bytes
 pub record IsRun (s : Step) (ss : List Specification) : Type 0 where
   pub counted : s.values ≡ length ss
   pub well_formed : All IsWellFormed ss

@@ -2,7 +2,7 @@
 
 ghost use Rattle.std.proofs.Common.{ap};
 ghost use Rattle.std.specs.Prelude.{ℕ, ◌≡◌, ◌≢◌, ◌==◌, [], is_some, if◌then◌else◌, Some, None};
-ghost use Rattle.std.specs.Prelude.{Option, OnOk, IfOk, IfErr, IfSome, IsSome, unwrap_or, pos};
+ghost use Rattle.std.specs.Prelude.{Option, OnOk, OnErr, IfOk, IfErr, IfSome, IsSome, unwrap_or, pos};
 ghost use Rattle.std.specs.Prelude.{true, false, cond, length, ◌<◌, ◌^◌};
 ghost use Rattle.std.specs.Option.{option_copied};
 ghost use Rattle.std.specs.Ordering.{nat_cmp};
@@ -31,6 +31,7 @@ ghost use Rattle.gimli_base.specs.Steps.{AreSteps, IsRun};
 ghost use Rattle.gimli_base.specs.Table.{Table, codes_of};
 ghost use Rattle.gimli_base.specs.Offset.{answer_of};
 ghost use Rattle.gimli_base.specs.Reading.{read_of, answer_leaving, map_read, UnlessMemory};
+ghost use Rattle.gimli_base.specs.Sections.{abbrev_content};
 
 use crate::attributes::Attributes;
 use crate::step::Step;
@@ -148,8 +149,24 @@ impl AttributeSpecification {
         self.width
     }
 
-    /// The next declared attribute, or none where two zeros end the list; where it is refused, the
-    /// input is left anywhere.
+    /// Reads the next declared attribute, or none where two zeros end the list (DWARF 5, 7.5.3). It
+    /// is for those who keep declarations of their own: `DebugAbbrev::abbreviations` reads a table.
+    ///
+    /// Refusals: `UnexpectedEof`, `BadUnsignedLeb128`, `BadSignedLeb128`, `AttributeNameZero`,
+    /// `AttributeFormZero`; the input then stays.
+    #[inline]
+    pub fn read<R: Reader>(input: &mut R) -> Result<Option<AttributeSpecification>>
+        ensures value { read_of result (R.view input.new) ≡ specification_at (R.view input.old) }
+        ensures kept { OnErr result (input.new ≡ input.old) }
+    {
+        let mut rest = input.copy();
+        let specification = AttributeSpecification::parse(&mut rest)?;
+        *input = rest;
+        Ok(specification)
+    }
+
+    // The next declared attribute, or none where two zeros end the list; where it is refused, the
+    // input is left anywhere.
     #[inline(always)]
     #[tactic(auto, unfolding(crate::specs::Abbreviations::specification_at))]
     pub(crate) fn parse<R: Reader>(input: &mut R) -> Result<Option<AttributeSpecification>>
@@ -501,10 +518,10 @@ impl<R: Reader> DebugAbbrev<R> {
         alloc: A,
         offset: DebugAbbrevOffset<R::Offset>,
     ) -> Result<Abbreviations<A>>
-        ensures value { let section = ⟦<DebugAbbrev<R> as Section<R>>⟧.content self.now in
+        ensures value { let section = abbrev_content R.view self.now in
             UnlessMemory result
             (answer_of codes_of result ≡ map_at (R.Offset.number offset.0) section) }
-        ensures without_memory { let section = ⟦<DebugAbbrev<R> as Section<R>>⟧.content self.now in
+        ensures without_memory { let section = abbrev_content R.view self.now in
             table_takes_memory_at (R.Offset.number offset.0) section ≡ false →
             answer_of codes_of result ≡ map_at (R.Offset.number offset.0) section }
     {

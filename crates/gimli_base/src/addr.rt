@@ -4,6 +4,7 @@ ghost use Rattle.std.proofs.Common.{ap};
 ghost use Rattle.std.specs.Prelude.{◌≡◌};
 ghost use Rattle.gimli_base.specs.declared.common.SectionId.TheVariants.{DebugAddr as AddrSection};
 ghost use Rattle.gimli_base.specs.Address.{table_address};
+ghost use Rattle.gimli_base.specs.Sections.{addr_content};
 
 use crate::{
     DebugAddrBase, DebugAddrIndex, Error, Reader, ReaderOffset, Result, Section, SectionId,
@@ -55,7 +56,7 @@ impl<R: Reader> DebugAddr<R> {
         index: DebugAddrIndex<R::Offset>,
     ) -> Result<u64>
         ensures { result ≡ table_address R.Offset.limit address_size (R.Offset.number base.0)
-            (R.Offset.number index.0) (⟦<DebugAddr<R> as Section<R>>⟧.content self.now) }
+            (R.Offset.number index.0) (addr_content R.view self.now) }
     {
         let mut input = self.section.copy();
         input.skip(base.0)?;

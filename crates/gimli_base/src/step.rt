@@ -50,7 +50,8 @@ impl Step {
     #[inline(always)]
     pub fn push(&mut self, specification: &AttributeSpecification, is_seen: bool) -> bool
         ensures pushed { result ≡ true → AddsValue specification.now self.old self.new }
-        ensures no_sibling { result ≡ true → is_seen ≡ false → is_sibling specification.now ≡ false }
+        ensures no_sibling { result ≡ true → is_seen ≡ false
+            → is_sibling specification.now ≡ false }
         ensures kept { result ≡ false → self.new ≡ self.old }
     {
         if specification.name() == DW_AT_sibling && !is_seen {

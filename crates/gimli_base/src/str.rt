@@ -5,6 +5,7 @@ ghost use Rattle.std.specs.Prelude.{◌≡◌};
 ghost use Rattle.gimli_base.specs.declared.common.SectionId.TheVariants.{DebugStr as StrSection};
 ghost use Rattle.gimli_base.specs.Offset.{answer_of};
 ghost use Rattle.gimli_base.specs.Reading.{text_from};
+ghost use Rattle.gimli_base.specs.Sections.{str_content};
 
 use crate::{DebugStrOffset, EndianSlice, Endianity, Reader, Result, Section, SectionId};
 
@@ -59,7 +60,7 @@ impl<R: Reader> DebugStr<R> {
     pub fn get_str(&self, offset: DebugStrOffset<R::Offset>) -> Result<R>
         ensures { answer_of R.view result
             ≡ text_from (R.Offset.number offset.0)
-            (⟦<DebugStr<R> as Section<R>>⟧.content self.now) }
+            (str_content R.view self.now) }
     {
         let mut input = self.section.copy();
         input.skip(offset.0)?;

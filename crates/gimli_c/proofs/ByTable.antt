@@ -2,7 +2,8 @@
 use Rattle.std.proofs.Common.{◌≡◌, ◌≢◌, ℕ, zero, suc, ◌-◌, ◌<◌, ◌≤◌, ◌==◌}
 use Rattle.std.proofs.Common.{Bool, true, false, if◌then◌else◌}
 use Rattle.std.proofs.Common.{◌&&◌, not, cond, nat_lt, ℤ, pos, List, [], ◌∷◌, map, length}
-use Rattle.std.proofs.Common.{get_or, Option, Some, None, Result, Ok, Err, refl, sym, ap, ◌∙◌, arith}
+use Rattle.std.proofs.Common.{get_or, Option, Some, None, Result, Ok, Err, refl, sym, ap, ◌∙◌}
+use Rattle.std.proofs.Common.{arith}
 use Rattle.std.proofs.Common.{length-drop}
 use Rattle.std.specs.Prelude.{slice_get}
 use Rattle.std.specs.Option.{option_map}
@@ -15,7 +16,7 @@ use Rattle.gimli_base.specs.declared.error.Error.TheVariants.{OffsetOutOfBounds}
 use Rattle.gimli_base.specs.View.{View, cut}
 use Rattle.gimli_base.specs.declared.error.Error.TheVariants.{InvalidAbbreviationCode}
 use Rattle.gimli_base.specs.Reading.{Reads, uleb_at}
-use Rattle.gimli_base.specs.Abbreviations.{Specification, Declaration, Map}
+use Rattle.gimli_base.specs.Abbreviations.{Specification, Declaration}
 use Rattle.gimli_base.specs.Table.{Table, codes_of}
 use Rattle.gimli_units.specs.Entry.{Attr, Entry, attributes_at, abbreviation_at, entry_at}
 use Rattle.gimli_units.specs.Entry.{entry_of_declared, null_entry}
@@ -24,13 +25,13 @@ use Rattle.gimli_units.specs.Sized.{left_by}
 use Rattle.gimli_units.specs.Unit.{UnitView, whole_length, header_size, in_bounds, range_from}
 use Rattle.gimli_units.specs.Unit.{entries_from}
 use Rattle.gimli_c.specs.declared.attrs.GimliAttr.{GimliAttr}
-use Rattle.gimli_c.specs.declared.reading.Head.{Head}
 use Rattle.gimli_c.specs.declared.table.GimliDeclaration.{GimliDeclaration}
 use Rattle.gimli_c.specs.declared.table.GimliSpecification.{GimliSpecification}
 use Rattle.gimli_c.specs.Attrs.{attr_of}
-use Rattle.gimli_c.specs.Heads.{null_head, declared_head, head_in_c, AreRead, IsReadPast, IsReadWith}
+use Rattle.gimli_c.specs.Heads.{null_head, declared_head, head_in_c, AreRead, IsReadPast}
+use Rattle.gimli_c.specs.Heads.{IsReadWith}
+use Rattle.gimli_c.specs.Heads.{table_head, depth_after_head, place_after}
 use Rattle.gimli_c.specs.Tables.{specification_in, declaration_in, table_of}
-use Rattle.gimli_c.specs.TableReads.{table_head, depth_after_head, IsHeadRead, IsHeadReadWith}
 
 -- what a caller's table has under a code
 pub code_in : (ds : List GimliDeclaration) (ss : List GimliSpecification) (code : ℕ) → 0 < code
@@ -110,100 +111,78 @@ module _ (ds : List GimliDeclaration) (ss : List GimliSpecification) (v w : View
       rw (← read, other, found) refl
 
 -- a null is read
-pub null_read : (limit : ℕ) (e : Encoding) (m : Map) (v w : View)
-    → ◌≡◌ {A = Reads (Option Declaration)} (Ok (None, w)) (abbreviation_at m v)
-    → IsHeadRead limit e m v null_head w
+pub null_past : (limit : ℕ) (p : RawPlace) (w : View)
+    → ◌≡◌ {A = Reads (Option Declaration)} (Ok (None, w))
+    (abbreviation_at (codes_of p.abbreviations) p.rest)
+    → IsReadPast limit p null_head (place_after p w null_head)
 unfolding entry_at
-null_read limit e m v w h = record {
-  entry = null_entry;
-  is = rw (← h) refl;
-  head_is = refl;
-  after = λ depth. refl;
-}
+null_past limit p w h =
+    record { entry = null_entry; is = rw (← h) refl; head_is = refl; moved = refl }
 
-pub null_read_with : (limit : ℕ) (e : Encoding) (m : Map) (v w : View) (ns : List GimliAttr)
-    → ◌≡◌ {A = Reads (Option Declaration)} (Ok (None, w)) (abbreviation_at m v) → ns ≡ []
-    → IsHeadReadWith limit e m v null_head ns w
-unfolding null_read
-null_read_with limit e m v w ns h none =
-    record { read = null_read limit e m v w h; numbers_are = none }
+pub null_past_with : (limit : ℕ) (p : RawPlace) (w : View) (ns : List GimliAttr)
+    → ◌≡◌ {A = Reads (Option Declaration)} (Ok (None, w))
+    (abbreviation_at (codes_of p.abbreviations) p.rest) → ns ≡ []
+    → IsReadWith limit p null_head ns (place_after p w null_head)
+unfolding null_past
+null_past_with limit p w ns h none = record { past = null_past limit p w h; numbers_are = none }
 
--- an entry of a declaration, which may have the tag 0
-module _ (limit : ℕ) (e : Encoding) (m : Map) (v a w : View) (d : Declaration)
-    (h : ◌≡◌ {A = Reads (Option Declaration)} (Ok (Some d, a)) (abbreviation_at m v))
-    (r : AreRead limit e d.attributes a w) where
+-- an entry of a declaration is read, which may have the tag 0
+module _ (limit : ℕ) (p : RawPlace) (v w : View) (d : Declaration)
+    (h : ◌≡◌ {A = Reads (Option Declaration)} (Ok (Some d, v))
+    (abbreviation_at (codes_of p.abbreviations) p.rest))
+    (r : AreRead limit p.encoding d.attributes v w) where
   abbrev entry_read : Entry
   entry_read = entry_of_declared d r.attributes
 
-  entry_is : ◌≡◌ {A = Reads Entry} (Ok (entry_read, w)) (entry_at limit e m v)
+  abbrev entry_set : Entry
+  entry_set = record { tag = d.tag; has_children = d.has_children; attributes = r.attributes }
+
+  entry_is : ◌≡◌ {A = Reads Entry} (Ok (entry_read, w))
+      (entry_at limit p.encoding (codes_of p.abbreviations) p.rest)
   unfolding entry_at
   entry_is = rw (← h, ← r.are) refl
 
-  tell_alike : table_head d ≡ head_in_c entry_read
-  tell_alike = cases (d.tag.0 == 0)
+  head_is : table_head d ≡ head_in_c entry_read
+  head_is = cases (d.tag.0 == 0)
     where
       cases : (b : Bool)
           → (if b then null_head else declared_head d)
-          ≡ head_in_c
-          (if b then null_entry
-          else record { tag = d.tag; has_children = d.has_children; attributes = r.attributes })
+          ≡ head_in_c (if b then null_entry else entry_set)
       cases true = refl
       cases false = refl
 
-  depth_is : (depth : ℤ) → depth_after_head (table_head d) depth ≡ depth_after entry_read depth
-  depth_is depth = cases (d.tag.0 == 0) refl
+  depth_is : depth_after_head (table_head d) p.depth ≡ depth_after entry_read p.depth
+  depth_is = cases (d.tag.0 == 0) refl
     where
-      flag : (f : Bool) → below_flag (not (cond f 1 0 == 0)) depth ≡ below_flag f depth
+      flag : (f : Bool) → below_flag (not (cond f 1 0 == 0)) p.depth ≡ below_flag f p.depth
       flag true = refl
       flag false = refl
 
       cases : (b : Bool) → (d.tag.0 == 0) ≡ b
-          → depth_after_head (if b then null_head else declared_head d) depth
-          ≡ depth_after
-          (if b then null_entry
-          else record { tag = d.tag; has_children = d.has_children; attributes = r.attributes })
-          depth
+          → depth_after_head (if b then null_head else declared_head d) p.depth
+          ≡ depth_after (if b then null_entry else entry_set) p.depth
       cases true known = refl
       cases false known = rw known (flag d.has_children)
 
-  pub entry_by : IsHeadRead limit e m v (table_head d) w
-  entry_by = record { entry = entry_read; is = entry_is; head_is = tell_alike; after = depth_is }
+  pub entry_past : IsReadPast limit p (table_head d) (place_after p w (table_head d))
+  entry_past = record {
+    entry = entry_read;
+    is = entry_is;
+    head_is = head_is;
+    moved = ap (λ (k : ℤ). record p { rest = w; depth = k }) depth_is;
+  }
 
-  pub entry_by_with : (ns : List GimliAttr)
+  pub entry_past_with : (ns : List GimliAttr)
       → ns ≡ (if d.tag.0 == 0 then [] else map attr_of r.attributes)
-      → IsHeadReadWith limit e m v (table_head d) ns w
-  unfolding entry_by
-  entry_by_with ns are = record { read = entry_by; numbers_are = are ∙ cases (d.tag.0 == 0) }
+      → IsReadWith limit p (table_head d) ns (place_after p w (table_head d))
+  unfolding entry_past
+  entry_past_with ns are = record { past = entry_past; numbers_are = are ∙ cases (d.tag.0 == 0) }
     where
       cases : (b : Bool)
           → (if b then [] else map attr_of r.attributes)
-          ≡ map attr_of
-          (if b then null_entry
-          else record { tag = d.tag; has_children = d.has_children; attributes = r.attributes }).attributes
+          ≡ map attr_of (if b then null_entry else entry_set).attributes
       cases true = refl
       cases false = refl
-
--- a reader that was moved after what was read
-module _ (limit : ℕ) (p : RawPlace) (head : Head) (w : View)
-    (r : IsHeadRead limit p.encoding (codes_of p.abbreviations) p.rest head w) where
-  abbrev after_read : RawPlace
-  after_read = record p { rest = w; depth = depth_after_head head p.depth }
-
-  read_here : IsReadPast limit p head after_read
-  read_here = record {
-    entry = r.entry;
-    is = r.is;
-    head_is = r.head_is;
-    moved = ap (λ (k : ℤ). record p { rest = w; depth = k }) (r.after p.depth);
-  }
-
-  pub read_past : (q : RawPlace) → q ≡ after_read → IsReadPast limit p head q
-  read_past q moved = rw moved read_here
-
-  pub read_with : (q : RawPlace) → q ≡ after_read → (ns : List GimliAttr)
-      → ns ≡ map attr_of r.entry.attributes → IsReadWith limit p head ns q
-  unfolding read_here
-  read_with q moved ns are = rw moved (record { past = read_here; numbers_are = are })
 
 -- an attribute of a caller's declaration, as the library has it
 pub item_in : (ss : List GimliSpecification) (i : ℕ) (d : GimliSpecification) (s : Specification)

@@ -3,7 +3,7 @@ use Rattle.std.proofs.Common.{◌≡◌, ℕ, zero, suc, ◌+◌, ◌-◌, ◌<�
 use Rattle.std.proofs.Common.{unsigned_abs, cond, true, false, Bool, if◌then◌else◌, List, [], ◌∷◌}
 use Rattle.std.proofs.Common.{◌++◌, map, take, drop, length, slice_set, Option, Some, None, Ok, Err}
 use Rattle.std.proofs.Common.{refl, sym, ap, ◌∙◌, arith, add-zero, zero-add, append_assoc}
-use Rattle.std.proofs.Common.{length-append}
+use Rattle.std.proofs.Common.{length-append, Result}
 use Rattle.std.proofs.Math.Seq.{take-append_seam, drop-append_seam}
 use Rattle.std.proofs.Math.Nat.{sub-zero, suc-add}
 use Rattle.std.proofs.lemmas.List.{length-map, map-append, append-nil}
@@ -23,10 +23,10 @@ use Rattle.gimli_c.specs.declared.entries.GimliEntry.{GimliEntry}
 use Rattle.gimli_c.specs.declared.rows.GimliPlace.{GimliPlace}
 use Rattle.gimli_c.specs.Status.{more, end, row_refused, memory_refused, row_memory_refused}
 use Rattle.gimli_c.specs.Attrs.{attr_of}
-use Rattle.gimli_c.specs.Fronts.{ahead_of, first_place}
+use Rattle.gimli_c.specs.Fronts.{ahead_of, first_place, IsIdle}
 use Rattle.gimli_c.specs.Entries.{attributes_of, all_attributes, numbered_row, number_rows, fit}
 use Rattle.gimli_c.specs.Entries.{status_fit}
-use Rattle.gimli_c.specs.Entries.{first_wants, wrote, AskMemory, FilledEntries}
+use Rattle.gimli_c.specs.Entries.{first_wants, wrote, AskMemory, FilledEntries, IsEntriesOutcome}
 use Rattle.gimli_c.specs.Heads.{AsksMemory}
 use Rattle.gimli_c.proofs.Slots.{slot, written_more}
 use Rattle.gimli_c.proofs.Front.{before_rows, depth_from, depth_near, first_ahead, some_left}
@@ -361,3 +361,26 @@ module _ (limit : ℕ) (base : ℤ) (start now : RawPlace) (old new : List Gimli
         rw (lt-ltb n (length old) room) refl,
         at_some (length old) n (n + suc (length after.rows)) after.refusal (omega arith),
       ))
+
+-- a call that reads no row writes none, and no attributes
+pub idle_entries : (r : Result Ahead ℕ) (place : GimliPlace) (old : List GimliEntry)
+    (attrs : List GimliAttr) (status : ℕ) → IsIdle r place status
+    → (status ≡ row_memory_refused → ⊥)
+    → IsEntriesOutcome r place old attrs place old attrs (wrote 0 0 0) status
+idle_entries (Ok ahead) place old attrs status idle not_row = record {
+  rows = refl;
+  attributes = refl;
+  used_is = refl;
+  after = idle.starts;
+  fits = omega arith;
+  none = λ _. refl;
+  short = λ is. absurd (not_row is);
+  whole = λ other _. let ends = idle.ends other in
+      rw (ends.0, ends.1, ends.2) (
+        sym (fit-nil (length old) (length attrs)),
+        none_wanted (length old) 0,
+        refl,
+      );
+}
+idle_entries (Err stop) place old attrs status idle not_row =
+    record { rows = refl; attributes = refl; none = refl; place_stays = refl; whole = idle }

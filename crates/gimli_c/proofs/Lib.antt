@@ -3,7 +3,6 @@ pub mod Heads
 pub mod Bounds
 pub mod Slots
 pub mod EntryFront
-pub mod EntryBounds
 pub mod Resume
 pub mod TypeUnits
 pub mod SiblingLaw

@@ -5,7 +5,8 @@ use Rattle.std.proofs.Common.{arith, length-append}
 use Rattle.std.proofs.lemmas.List.{length-map, map-append, append-nil, take_all, take-append-le}
 use Rattle.std.proofs.lemmas.List.{drop_all}
 use Rattle.gimli_base.specs.declared.error.Error.{Error}
-use Rattle.gimli_c.specs.Lists.{before_refusal, first_refusal, list_end_status, list_status, IsListed}
+use Rattle.gimli_c.specs.Lists.{before_refusal, first_refusal, list_end_status, list_status}
+use Rattle.gimli_c.specs.Lists.{IsListed}
 use Rattle.gimli_c.specs.Status.{end, row_refused}
 use Rattle.gimli_c.proofs.Slots.{slot}
 

@@ -1,28 +1,32 @@
 -- Readers that go on leave fewer bytes, whatever the steps of a table are.
-use Rattle.std.proofs.Common.{sym, ◌≡◌, ℕ, zero, suc, ◌+◌, ◌<◌, ◌≤◌, ◌==◌, ℤ, ◌-ℤ◌, pos, Bool, true}
-use Rattle.std.proofs.Common.{false, not, if◌then◌else◌, unsigned_abs, List, [], ◌∷◌, length, Option}
-use Rattle.std.proofs.Common.{Some, None, Result, Ok, Err, refl, ap, ◌∙◌, arith, length-drop}
+use Rattle.std.proofs.Common.{sym, ◌≡◌, ℕ, ◌+◌, ◌<◌, ◌≤◌, ◌==◌, ℤ, ◌-ℤ◌, pos, Bool, true}
+use Rattle.std.proofs.Common.{false, not, if◌then◌else◌, unsigned_abs, List, length}
+use Rattle.std.proofs.Common.{Option}
+use Rattle.std.proofs.Common.{map, Result, Ok, Err, refl, ap, ◌∙◌, arith, length-drop}
 use Rattle.std.specs.Prelude.{IfOk, IfErr, OnOk}
 use Rattle.std.proofs.lemmas.Int.{ints}
 use Rattle.gimli_base.specs.declared.common.Encoding.{Encoding}
 use Rattle.gimli_base.specs.declared.error.Error.{Error}
 use Rattle.gimli_base.specs.declared.error.Error.TheVariants.{OutOfMemory}
 use Rattle.gimli_base.specs.View.{View, cut}
-use Rattle.gimli_base.specs.Reading.{Reads, read_of}
+use Rattle.gimli_base.specs.Reading.{Reads, read_of, map_read}
 use Rattle.gimli_base.specs.Abbreviations.{Specification, Declaration, Map}
 use Rattle.gimli_base.specs.Table.{codes_of}
 use Rattle.gimli_base.proofs.Later.{IsLater-length, made_leaves_later}
 use Rattle.gimli_base.proofs.Memory.{Never}
-use Rattle.gimli_units.specs.Entry.{entry_at, attribute_at, attributes_at, abbreviation_at}
+use Rattle.gimli_units.specs.Entry.{attribute_at, attributes_at, abbreviation_at}
 use Rattle.gimli_units.specs.RawPlace.{RawPlace, below_flag, next_offset_of}
 use Rattle.gimli_units.specs.Sized.{left_by}
-use Rattle.gimli_units.proofs.EntryReads.{attribute_at-later, attributes_at-later, abbreviation_at-later}
+use Rattle.gimli_units.proofs.EntryReads.{attribute_at-later, attributes_at-later}
+use Rattle.gimli_units.proofs.EntryReads.{abbreviation_at-later}
 use Rattle.gimli_units.proofs.EntryReads.{entry_at-shorter}
-use Rattle.gimli_units.proofs.Memory.{attribute_at-never, attributes_at-never, entry_at-never}
+use Rattle.gimli_units.proofs.Memory.{attribute_at-never, attributes_at-never}
 use Rattle.gimli_c.specs.declared.reading.Head.{Head}
-use Rattle.gimli_c.specs.Heads.{IsReadPast, GoesOn}
-use Rattle.gimli_c.specs.TableReads.{depth_after_head}
+use Rattle.gimli_c.specs.Heads.{IsReadPast, GoesOn, depth_after_head, place_after}
+use Rattle.gimli_c.specs.Attrs.{attr_of}
+use Rattle.gimli_c.specs.declared.attrs.GimliAttr.{GimliAttr}
 use Rattle.gimli_c.proofs.Front.{depth_near}
+use Rattle.gimli_c.proofs.Heads.{numbers_of}
 
 -- what passed attributes leave,
 pub all_leave : (limit : ℕ) (e : Encoding) (ss : List Specification) (v w : View)
@@ -40,6 +44,16 @@ passed_leave limit e ss n v w (Ok x) less h =
     let more = all_leave limit e ss v w h in
     omega (arith, less, more)
 passed_leave limit e ss n v w (Err x) less h = tt
+
+pub numbers_leave : (limit : ℕ) (e : Encoding) (ss : List Specification) (v w : View)
+    (ns : List GimliAttr)
+    → ◌≡◌ {A = Reads (List GimliAttr)} (Ok (ns, w))
+    (map_read (map attr_of) (attributes_at limit e ss v)) → length w.bytes ≤ length v.bytes
+numbers_leave limit e ss v w ns h =
+    let n = numbers_of limit e ss v w ns h in
+    let later = IsLater-length 0 v w
+    (attributes_at-later limit e ss v n.0.attributes w n.0.are) in
+    omega (arith, later)
 
 -- a passed value,
 pub one_leaves : (limit : ℕ) (e : Encoding) (s : Specification) (v w : View)
@@ -62,15 +76,14 @@ pub bytes_leave : (n : ℕ) (v w : View) → w ≡ cut n v → length w.bytes �
 bytes_leave n v w is = rw is (omega (arith, length-drop n v.bytes))
 
 -- an entry that was read
-pub past_goes_on : (limit : ℕ) (p : RawPlace) (q : RawPlace) (r : Result Head Error)
-    → IfOk r (λ head. IsReadPast limit p head q) → OnOk r (GoesOn p q)
-past_goes_on limit p q (Ok head) past = record {
+pub past_goes_on : (limit : ℕ) (p q : RawPlace) (head : Head) → IsReadPast limit p head q
+    → GoesOn p q
+past_goes_on limit p q head past = record {
   shorter = entry_at-shorter limit p.encoding (codes_of p.abbreviations) p.rest q.rest past.entry
       past.is;
   near = rw past.moved (depth_near past.entry p.depth);
   same = rw past.moved refl;
 }
-past_goes_on limit p q (Err e) past = tt
 
 pub same_end : {p q : RawPlace} → GoesOn p q → q.end ≡ p.end
 same_end h = ap (λ (r : RawPlace). r.end) h.same
@@ -81,7 +94,7 @@ pub later_place : (p q : RawPlace) → q.end ≡ p.end → length p.rest.bytes �
 later_place p q end within less = omega (arith, end, within, less)
 
 -- a depth after a head is another by one at most
-pub head_near : (h : Head) (depth : ℤ)
+head_near : (h : Head) (depth : ℤ)
     → unsigned_abs (depth_after_head h depth) ≤ unsigned_abs depth + 1
 head_near h depth = cases (h.tag == 0) (not (h.has_children == 0))
   where
@@ -91,6 +104,11 @@ head_near h depth = cases (h.tag == 0) (not (h.has_children == 0))
     cases true flag = omega (arith, ints)
     cases false true = omega (arith, ints)
     cases false false = omega (arith, ints)
+
+-- a reader goes on past an entry with a head
+pub head_goes_on : (p : RawPlace) (w : View) (h : Head) → length w.bytes < length p.rest.bytes
+    → GoesOn p (place_after p w h)
+head_goes_on p w h less = record { shorter = less; near = head_near h p.depth; same = refl }
 
 -- what is read is never refused for memory
 pub refused_never : {A : Type 0} → (r : Result A Error) (e : Error) → Never r → Err e ≡ r
@@ -117,12 +135,6 @@ pub all_never : (limit : ℕ) (e : Encoding) (ss : List Specification) (v w : Vi
 all_never limit e ss v w (Ok x) h = tt
 all_never limit e ss v w (Err x) h =
     left_never (attributes_at limit e ss v) x (attributes_at-never limit e ss v) h
-
-pub entry_never : {A : Type 0} → (limit : ℕ) (e : Encoding) (m : Map) (v : View) (r : Result A Error)
-    → IfErr r (λ x. Err x ≡ entry_at limit e m v) → IfErr r (λ x. x ≡ OutOfMemory → ⊥)
-entry_never limit e m v (Ok x) h = tt
-entry_never limit e m v (Err x) h =
-    refused_never (entry_at limit e m v) x (entry_at-never limit e m v) h
 
 -- of a reader by the library's table nothing is asked
 pub no_steps : {T : Type 0} → (r : Result T Error) → IfOk r (λ _. Unit {0})

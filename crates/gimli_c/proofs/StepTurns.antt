@@ -1,6 +1,6 @@
 -- A turn of the loop that passes attributes by their steps.
-use Rattle.std.proofs.Common.{◌≡◌, ℕ, ◌+◌, ◌-◌, ◌≤◌, true, List, [], ◌∷◌, map}
-use Rattle.std.proofs.Common.{take, drop, length, Some, Ok, Err, refl, sym, ap, ◌∙◌, arith}
+use Rattle.std.proofs.Common.{◌≡◌, ℕ, ◌+◌, ◌-◌, ◌≤◌, List, [], ◌∷◌, map}
+use Rattle.std.proofs.Common.{take, drop, length, Ok, Err, refl, sym, ap, ◌∙◌, arith}
 use Rattle.std.proofs.Common.{length-drop}
 use Rattle.std.proofs.lemmas.List.{drop-map, take_all, drop-drop}
 use Rattle.gimli_base.specs.declared.common.Encoding.{Encoding}

@@ -3,7 +3,8 @@ use Rattle.std.proofs.Common.{◌≡◌, ℕ, suc, ◌+◌, ◌<◌, ◌≤◌, 
 use Rattle.std.proofs.Common.{if◌then◌else◌, ◌&&◌, nat_le, List, [], ◌∷◌, ◌++◌, map, take, drop}
 use Rattle.std.proofs.Common.{length, slice_set, Option, None, Ok, Err, refl, sym, ap}
 use Rattle.std.proofs.Common.{◌∙◌, arith, append_assoc, length-append, length-drop, add-zero}
-use Rattle.std.proofs.lemmas.List.{append-nil, map-append, take_more_set, take-set-le, drop-set-lt, drop-drop}
+use Rattle.std.proofs.lemmas.List.{append-nil, map-append, take_more_set, take-set-le, drop-set-lt}
+use Rattle.std.proofs.lemmas.List.{drop-drop}
 use Rattle.std.proofs.lemmas.List.{length-set, length-map, length-take-le}
 use Rattle.std.proofs.lemmas.Slice.{take-put_mid, take-put_mid_below, drop-put_mid}
 use Rattle.std.proofs.Math.Seq.{take-add}
@@ -15,13 +16,15 @@ use Rattle.gimli_base.specs.Reading.{Reads}
 use Rattle.gimli_base.specs.Items.{Items, ItemsSoFar}
 use Rattle.gimli_base.specs.Abbreviations.{Specification, Declaration, declaration_at}
 use Rattle.gimli_base.specs.Abbreviations.{declarations_at}
-use Rattle.gimli_base.proofs.ItemTurns.{items_begin, items_within, items_more, items_refused, items_end}
+use Rattle.gimli_base.proofs.ItemTurns.{items_begin, items_within, items_more, items_refused}
+use Rattle.gimli_base.proofs.ItemTurns.{items_end}
 use Rattle.gimli_c.specs.declared.table.GimliCounted.{GimliCounted}
 use Rattle.gimli_c.specs.declared.table.GimliDeclaration.{GimliDeclaration}
 use Rattle.gimli_c.specs.declared.table.GimliSpecification.{GimliSpecification}
 use Rattle.gimli_c.specs.Status.{more, end, unordered, refusal_status}
 use Rattle.gimli_c.specs.Tables.{specification_in, in_order, all_specifications, numbered}
-use Rattle.gimli_c.specs.Tables.{number_declarations, count_of, have_room, table_outcome, AreWritten}
+use Rattle.gimli_c.specs.Tables.{number_declarations, count_of, have_room, table_outcome}
+use Rattle.gimli_c.specs.Tables.{AreWritten}
 use Rattle.gimli_c.specs.TableReads.{AreWrittenAfter, OwnSteps, HaveSteps, WroteNext, IsScanned}
 use Rattle.gimli_c.proofs.TableSteps.{steps-append, own_steps}
 use Rattle.gimli_c.proofs.Slots.{slot}

@@ -1,4 +1,4 @@
--- The unit of an address, and how it is told to a caller of C (DWARF 5, 6.1.2).
+-- The unit of an address, as a caller of C gets it (DWARF 5, 6.1.2).
 use Rattle.std.specs.Prelude.{ℕ, ◌^◌, Option, Some, None, Result, Ok, Err}
 use Rattle.gimli_base.specs.declared.error.Error.{Error}
 use Rattle.gimli_walk.specs.UnitOfAddress.{unit_holding}

@@ -1,5 +1,6 @@
 -- The rows and attributes that a call writes, of the rows ahead of a place (DWARF 5, 2.3).
-use Rattle.std.specs.Prelude.{◌≡◌, ℕ, zero, suc, ◌+◌, ◌-◌, ◌<◌, ◌≤◌, min, nat_lt, nat_le, cond, if◌then◌else◌}
+use Rattle.std.specs.Prelude.{◌≡◌, ℕ, zero, suc, ◌+◌, ◌-◌, ◌<◌, ◌≤◌, min, nat_lt, nat_le, cond}
+use Rattle.std.specs.Prelude.{if◌then◌else◌}
 use Rattle.std.specs.Prelude.{◌≢◌, IsSome}
 use Rattle.std.specs.Prelude.{List, [], ◌∷◌, ◌++◌, map, take, drop, length, Option, Some, None}
 use Rattle.std.specs.Prelude.{Result, Ok, Err}
@@ -73,8 +74,8 @@ AskMemory [] refusal = IsSome refusal
 AskMemory (r ∷ rs) refusal = attributes_of r ≢ []
 
 -- Rows from the front of those ahead are written with their attributes, the rest stays as it was,
--- and the place is after them. They are as many as fit; where memory was refused for the table there
--- is none, and where it was for the attributes of a row, that row and those after it are not
+-- and the place is after them. They are as many as fit; where memory was refused for the table
+-- there is none, and where it was for the attributes of a row, that row and those after it are not
 -- written; then the row has some, or is refused.
 pub record FilledEntries (ahead : Ahead) (old : List GimliEntry) (old_attrs : List GimliAttr)
     (place : GimliPlace) (new : List GimliEntry) (attrs : List GimliAttr) (n : GimliFilled)

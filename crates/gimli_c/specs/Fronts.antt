@@ -1,8 +1,7 @@
 -- The rows that a call writes, of those ahead of a place (DWARF 5, 2.3).
-use Rattle.std.specs.Prelude.{◌≡◌, ℕ, ◌+◌, ◌-◌, ◌≤◌, ◌^◌, ◌==◌, nat_lt, min, ℤ, ◌+ℤ◌, unsigned_abs, cond}
-use Rattle.std.specs.Prelude.{if◌then◌else◌, List, [], ◌∷◌, ◌++◌, map, take, drop, length, Option}
-use Rattle.std.specs.Prelude.{Some, None, Result, Ok, Err}
-use Rattle.gimli_base.specs.declared.common.SectionId.{SectionId}
+use Rattle.std.specs.Prelude.{◌≡◌, ℕ, ◌+◌, ◌-◌, ◌<◌, ◌≤◌, ◌^◌, ◌==◌, nat_lt, min, ℤ, ◌+ℤ◌}
+use Rattle.std.specs.Prelude.{unsigned_abs, cond, if◌then◌else◌, List, [], ◌∷◌, ◌++◌, map, take}
+use Rattle.std.specs.Prelude.{drop, length, Option, Some, None, Result, Ok, Err}
 use Rattle.gimli_base.specs.declared.error.Error.{Error}
 use Rattle.gimli_base.specs.declared.error.Error.TheVariants.{OffsetOutOfBounds}
 use Rattle.gimli_base.specs.View.{View}
@@ -10,14 +9,14 @@ use Rattle.gimli_base.specs.Abbreviations.{Map, map_at}
 use Rattle.gimli_base.specs.Table.{codes_of}
 use Rattle.gimli_units.specs.UnitRows.{unit_rows_from}
 use Rattle.gimli_units.specs.Entry.{entry_at}
-use Rattle.gimli_units.specs.RawPlace.{RawPlace}
+use Rattle.gimli_units.specs.RawPlace.{RawPlace, next_offset_of}
 use Rattle.gimli_units.specs.Rows.{Row, Ahead, ahead_at}
 use Rattle.gimli_units.specs.Unit.{UnitView, whole_length, in_bounds}
-use Rattle.gimli_headers.specs.Units.{header_at}
 use Rattle.gimli_c.specs.declared.rows.GimliRow.{GimliRow}
 use Rattle.gimli_c.specs.declared.sections.GimliSections.{GimliSections}
+use Rattle.gimli_c.specs.declared.sections.UnitSections.{UnitSections}
 use Rattle.gimli_c.specs.declared.rows.GimliPlace.{GimliPlace}
-use Rattle.gimli_c.specs.Units.{units_id, units_view, abbreviations_view}
+use Rattle.gimli_c.specs.Units.{abbreviations_view, section_unit, unit_of, declarations_of}
 use Rattle.gimli_c.specs.Status.{more, end, too_deep, refusal_status, row_refused, memory_refused}
 
 abbrev pub row_in_c : Row → GimliRow
@@ -56,15 +55,16 @@ read_ahead limit (Ok u) declarations place =
     declared_ahead limit u (map_at u.abbreviations declarations) place
 read_ahead limit (Err e) declarations place = Err (refusal_status e)
 
--- the rows from a place on, of the unit at an offset of a section
-abbrev pub rows_ahead : ℕ → SectionId → View → View → ℕ → GimliPlace → Result Ahead ℕ
-rows_ahead limit section units abbreviations unit place =
-    read_ahead limit (header_at limit section unit units) abbreviations place
+-- the rows from a place on, of the unit at an offset of opened sections
+abbrev pub unit_rows_of : {R : Type 0} → ℕ → (R → View) → UnitSections R → ℕ → GimliPlace
+    → Result Ahead ℕ
+unit_rows_of limit view s unit place =
+    read_ahead limit (unit_of limit view s unit) (declarations_of view s) place
 
 -- the rows from a place on, of the unit at an offset of a caller's units
 abbrev pub section_rows : GimliSections → ℕ → GimliPlace → Result Ahead ℕ
 section_rows s unit place =
-    rows_ahead (2 ^ 64) (units_id s) (units_view s) (abbreviations_view s) unit place
+    read_ahead (2 ^ 64) (section_unit s unit) (abbreviations_view s) place
 
 -- what is ahead after so many rows
 abbrev pub ahead_after : ℕ → Ahead → Ahead
@@ -111,6 +111,23 @@ pub record Stopped (stop : ℕ) (from : GimliPlace) (old : List GimliRow) (place
   pub none : count ≡ 0
   pub place_stays : place ≡ from
   pub whole : (status ≡ memory_refused → ⊥) → status ≡ stop
+
+-- A call reads no row from a place on. Where there are rows ahead, memory was refused for their
+-- table; else the unit ends there, or the status says why none is read.
+pub record IsIdleAt (ahead : Ahead) (place : GimliPlace) (status : ℕ) : Type 0 where
+  pub starts : place ≡ first_place ahead.rows ahead.stop ahead.stop_depth
+  pub ends : (status ≡ memory_refused → ⊥)
+      → (ahead.rows ≡ []) × (ahead.refusal ≡ None) × (status ≡ end)
+
+abbrev pub IsIdle : Result Ahead ℕ → GimliPlace → ℕ → Type 0
+IsIdle (Ok ahead) place status = IsIdleAt ahead place status
+IsIdle (Err stop) place status = (status ≡ memory_refused → ⊥) → status ≡ stop
+
+-- a reader of entries stands at a place, and the depths from there on are in range
+pub record StandsAt (place : GimliPlace) (p : RawPlace) : Type 0 where
+  pub offset : next_offset_of p ≡ place.offset
+  pub within : length p.rest.bytes ≤ p.end
+  pub fits : unsigned_abs place.depth + unsigned_abs p.depth + length p.rest.bytes < 2 ^ 63
 
 -- what a call does
 abbrev pub IsRowsOutcome : Result Ahead ℕ → GimliPlace → List GimliRow → GimliPlace

@@ -1,6 +1,7 @@
--- What a row tells of its entry, and an entry that was read past (DWARF 5, 7.5.2).
+-- What a row says of its entry, and an entry that was read past (DWARF 5, 7.5.2).
 use Rattle.std.specs.Prelude.{◌+◌, ◌<◌, ◌≤◌, length, unsigned_abs, ◌≡◌, ◌≢◌, ℕ, List, []}
-use Rattle.std.specs.Prelude.{map, cond, Some, Result, Ok, Err}
+use Rattle.std.specs.Prelude.{map, cond, Some, Result, Ok, Err, ◌==◌, not, if◌then◌else◌, ℤ, pos}
+use Rattle.std.specs.Prelude.{◌-ℤ◌}
 use Rattle.gimli_base.specs.declared.common.Encoding.{Encoding}
 use Rattle.gimli_base.specs.declared.error.Error.{Error}
 use Rattle.gimli_base.specs.Offset.{answer_of}
@@ -9,10 +10,11 @@ use Rattle.gimli_base.specs.Reading.{Reads}
 use Rattle.gimli_base.specs.Abbreviations.{Specification, Declaration}
 use Rattle.gimli_base.specs.Table.{Table, codes_of}
 use Rattle.gimli_units.specs.Entry.{Attr, Entry, attributes_at, entry_at}
-use Rattle.gimli_units.specs.RawPlace.{RawPlace, depth_after}
+use Rattle.gimli_units.specs.RawPlace.{RawPlace, below_flag, depth_after}
 use Rattle.gimli_units.specs.Unit.{UnitView, entries_from}
 use Rattle.gimli_c.specs.declared.attrs.GimliAttr.{GimliAttr}
 use Rattle.gimli_c.specs.declared.reading.Head.{Head}
+use Rattle.gimli_c.specs.declared.table.GimliSpecification.{GimliSpecification}
 use Rattle.gimli_c.specs.Attrs.{attr_of}
 
 abbrev pub null_head : Head
@@ -23,6 +25,24 @@ declared_head d = record { tag = d.tag.0; has_children = cond d.has_children 1 0
 
 abbrev pub head_in_c : Entry → Head
 head_in_c e = record { tag = e.tag.0; has_children = cond e.has_children 1 0 }
+
+-- the head of the entries of a declaration in a caller's table; they are nulls where its tag is 0
+abbrev pub table_head : Declaration → Head
+table_head d = if d.tag.0 == 0 then null_head else declared_head d
+
+-- the depth after an entry with this head
+abbrev pub depth_after_head : Head → ℤ → ℤ
+depth_after_head h depth =
+    if h.tag == 0 then depth -ℤ pos 1 else below_flag (not (h.has_children == 0)) depth
+
+-- where a reader stands after an entry with this head
+abbrev pub place_after : RawPlace → View → Head → RawPlace
+place_after p rest h = record p { rest = rest; depth = depth_after_head h p.depth }
+
+-- where a reader of entries by a caller's table stands, and the attributes of its table
+pub record PlaceBy : Type 0 where
+  pub place : RawPlace
+  pub specifications : List GimliSpecification
 
 -- the attributes of these specifications can be read at v, and end at w
 pub record AreRead (limit : ℕ) (e : Encoding) (ss : List Specification) (v w : View) : Type 0 where

@@ -1,4 +1,4 @@
--- Where a call may tell that memory was refused, for a table or for a row (DWARF 5, 7.5.2, 7.5.3).
+-- Where a call may say that memory was refused, for a table or for a row (DWARF 5, 7.5.2, 7.5.3).
 use Rattle.std.specs.Prelude.{◌≡◌, ◌⊎◌, ℕ, ◌<◌, ◌≤◌, true, None, Result, Ok, Err, All}
 use Rattle.gimli_base.specs.declared.error.Error.{Error}
 use Rattle.gimli_base.specs.View.{View}
@@ -10,8 +10,8 @@ use Rattle.gimli_units.specs.Unit.{UnitView, whole_length, in_bounds, range_from
 use Rattle.gimli_units.specs.UnitRows.{unit_rows}
 use Rattle.gimli_c.specs.Status.{refusal_status, memory_refused}
 
--- that memory was refused for the table is told only where reading it takes memory; a refusal of
--- the unit is told as it is
+-- the status says that memory was refused for the table only where reading it takes memory; a
+-- refusal of the unit has its own status
 abbrev pub TableMemory : Result UnitView Error → View → ℕ → Type 0
 TableMemory (Ok u) declarations status =
     status ≡ memory_refused → table_takes_memory_at u.abbreviations declarations ≡ true
@@ -52,8 +52,8 @@ HasReference limit u (Ok declared) =
     All (λ r. usable_target (whole_length u) r ≡ None) (unit_rows limit u declared) → ⊥
 HasReference limit u (Err e) = ⊥
 
--- that memory was refused for the check of references is told only where reading the table takes
--- memory, or a reference can be followed; a refusal of the unit is told as it is
+-- the status says that memory was refused for the check of references only where reading the table
+-- takes memory, or a reference can be followed; a refusal of the unit has its own status
 abbrev pub CheckMemory : ℕ → Result UnitView Error → View → ℕ → Type 0
 CheckMemory limit (Ok u) declarations status =
     status ≡ memory_refused

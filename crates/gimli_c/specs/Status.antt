@@ -1,4 +1,4 @@
--- The statuses of calls: what each number tells a caller of C.
+-- The statuses of calls: what each number says to a caller of C.
 use Rattle.std.specs.Prelude.{◌≡◌, ℕ, ◌+◌}
 use Rattle.gimli_base.specs.declared.error.Error.{Error}
 use Rattle.gimli_base.specs.Refusal.{number_of}

@@ -1,52 +1,17 @@
 -- Steps of reading a table of abbreviations into a caller's buffers (DWARF 5, 7.5.3).
-use Rattle.std.specs.Prelude.{◌≡◌, ℕ, ◌+◌, ◌<◌, ◌≤◌, ◌==◌, not, ℤ, pos, ◌-ℤ◌, if◌then◌else◌, List}
-use Rattle.std.specs.Prelude.{true, [], ◌∷◌, ◌++◌, map, take, drop, length, Option, Some, None, Ok}
-use Rattle.gimli_base.specs.declared.common.Encoding.{Encoding}
+use Rattle.std.specs.Prelude.{◌≡◌, ℕ, ◌+◌, ◌<◌, ◌≤◌, List, [], ◌∷◌, ◌++◌, map, take, drop}
+use Rattle.std.specs.Prelude.{length, Option, Some, None, Ok}
 use Rattle.gimli_base.specs.View.{View}
 use Rattle.gimli_base.specs.Reading.{Reads}
 use Rattle.gimli_base.specs.Items.{Items}
 use Rattle.gimli_base.specs.Steps.{IsRun}
-use Rattle.gimli_base.specs.Abbreviations.{Specification, Declaration, Map, specifications_at}
+use Rattle.gimli_base.specs.Abbreviations.{Specification, Declaration, specifications_at}
 use Rattle.gimli_base.specs.Abbreviations.{declaration_at}
-use Rattle.gimli_units.specs.Entry.{Entry, entry_at}
-use Rattle.gimli_units.specs.RawPlace.{RawPlace, below_flag, depth_after}
-use Rattle.gimli_c.specs.declared.attrs.GimliAttr.{GimliAttr}
-use Rattle.gimli_c.specs.declared.reading.Head.{Head}
 use Rattle.gimli_c.specs.declared.table.GimliCounted.{GimliCounted}
 use Rattle.gimli_c.specs.declared.table.GimliDeclaration.{GimliDeclaration}
 use Rattle.gimli_c.specs.declared.table.GimliSpecification.{GimliSpecification}
 use Rattle.gimli_c.specs.Status.{end}
-use Rattle.gimli_c.specs.Attrs.{attr_of}
-use Rattle.gimli_c.specs.Heads.{null_head, declared_head, head_in_c}
 use Rattle.gimli_c.specs.Tables.{specification_in, numbered, table_outcome, AreWritten}
-
--- where a reader of entries by a caller's table stands, and the attributes of its table
-pub record PlaceBy : Type 0 where
-  pub place : RawPlace
-  pub specifications : List GimliSpecification
-
--- what a row tells of an entry of this declaration; one of the tag 0 is a null
-abbrev pub table_head : Declaration → Head
-table_head d = if d.tag.0 == 0 then null_head else declared_head d
-
--- the depth after an entry of which a row tells this
-abbrev pub depth_after_head : Head → ℤ → ℤ
-depth_after_head h depth =
-    if h.tag == 0 then depth -ℤ pos 1 else below_flag (not (h.has_children == 0)) depth
-
--- an entry is read, of which a row tells this
-pub record IsHeadRead (limit : ℕ) (e : Encoding) (declared : Map) (v : View) (head : Head) (w : View)
-    : Type 0 where
-  pub entry : Entry
-  pub is : ◌≡◌ {A = Reads Entry} (Ok (entry, w)) (entry_at limit e declared v)
-  pub head_is : head ≡ head_in_c entry
-  pub after : (depth : ℤ) → depth_after_head head depth ≡ depth_after entry depth
-
--- the same, and these are its attributes
-pub record IsHeadReadWith (limit : ℕ) (e : Encoding) (declared : Map) (v : View) (head : Head)
-    (numbers : List GimliAttr) (w : View) : Type 0 where
-  pub read : IsHeadRead limit e declared v head w
-  pub numbers_are : numbers ≡ map attr_of read.entry.attributes
 
 -- the step of each attribute is that of as many attributes from it on, and there are so many
 abbrev pub OwnSteps : List GimliSpecification → Type 0

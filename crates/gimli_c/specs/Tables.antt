@@ -1,6 +1,7 @@
 -- A table of abbreviations that lies in a caller's buffers, and the rows that it gives (DWARF 5,
 -- 7.5.3).
-use Rattle.std.specs.Prelude.{◌≡◌, ℕ, ◌+◌, ◌≤◌, ◌==◌, ◌^◌, ◌&&◌, nat_le, not, if◌then◌else◌, Bool, true}
+use Rattle.std.specs.Prelude.{◌≡◌, ℕ, ◌+◌, ◌≤◌, ◌==◌, ◌^◌, ◌&&◌, nat_le, not, if◌then◌else◌, Bool}
+use Rattle.std.specs.Prelude.{true}
 use Rattle.std.specs.Prelude.{false, List, [], ◌∷◌, ◌++◌, map, take, drop, length, Result, Ok, Err}
 use Rattle.std.specs.Prelude.{cond, IfOk}
 use Rattle.gimli_base.specs.declared.error.Error.{Error}
@@ -66,8 +67,8 @@ read_by limit (Err e) t place = Err (refusal_status e)
 abbrev pub rows_by : GimliSections → ℕ → Table → GimliPlace → Result Ahead ℕ
 rows_by s unit t place = read_by (2 ^ 64) (section_unit s unit) t place
 
--- the status of a call that reads by a table: it never tells that memory was refused for a table,
--- and a refusal of the unit is told
+-- the status of a call that reads by a table: it never says that memory was refused for a table,
+-- and a refusal of the unit has its own
 abbrev pub NoTableRefused : Result UnitView Error → ℕ → Type 0
 NoTableRefused (Ok u) status = status ≡ memory_refused → ⊥
 NoTableRefused (Err e) status = status ≡ refusal_status e

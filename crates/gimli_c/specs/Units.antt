@@ -11,9 +11,11 @@ use Rattle.gimli_units.specs.declared.unit_type.UnitType.TheVariants.{Partial, S
 use Rattle.gimli_units.specs.declared.unit_type.UnitType.TheVariants.{SplitCompilation, SplitType}
 use Rattle.gimli_units.specs.declared.unit_type.UnitType.TheVariants.{Vendor}
 use Rattle.gimli_units.specs.Unit.{UnitView, whole_length, header_size}
+use Rattle.gimli_base.specs.Sections.{abbrev_content}
 use Rattle.gimli_headers.specs.Units.{header_at}
 use Rattle.gimli_c.specs.declared.unit.GimliUnit.{GimliUnit}
 use Rattle.gimli_c.specs.declared.sections.GimliSections.{GimliSections}
+use Rattle.gimli_c.specs.declared.sections.UnitSections.{UnitSections}
 use Rattle.gimli_c.specs.Status.{more, end, refusal_status}
 
 -- the view of a section's bytes, in the byte order that is named
@@ -82,3 +84,11 @@ unit_outcome section offset read old =
 -- the unit at an offset of a caller's units
 abbrev pub section_unit : GimliSections → ℕ → Result UnitView Error
 section_unit s offset = header_at (2 ^ 64) (units_id s) offset (units_view s)
+
+-- the unit at an offset of opened sections, and what their `.debug_abbrev` holds, by the view of
+-- their reader
+abbrev pub unit_of : {R : Type 0} → ℕ → (R → View) → UnitSections R → ℕ → Result UnitView Error
+unit_of limit view s offset = header_at limit (section_id s.types) offset (view s.units)
+
+abbrev pub declarations_of : {R : Type 0} → (R → View) → UnitSections R → View
+declarations_of view s = abbrev_content view s.abbreviations

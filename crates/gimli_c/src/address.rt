@@ -3,6 +3,7 @@
 ghost use Rattle.std.specs.Prelude.{◌≡◌};
 ghost use Rattle.gimli_walk.specs.UnitOfAddress.{unit_holding};
 ghost use Rattle.gimli_c.specs.Addresses.{holding_outcome};
+ghost use Rattle.gimli_lists.specs.Sections.{aranges_content};
 
 use crate::status::{END, MORE, refusal_status};
 use gimli_base::{Reader, ReaderOffset, Section};
@@ -11,7 +12,7 @@ use gimli_walk::unit_of_address;
 
 /// Finds the unit of an address.
 pub(crate) fn find_unit<R: Reader>(aranges: &DebugAranges<R>, address: u64, offset: &mut u64) -> u32
-    ensures { let section = ⟦<DebugAranges<R> as Section<R>>⟧.content aranges.now in
+    ensures { let section = aranges_content R.view aranges.now in
         (result, offset.new)
         ≡ holding_outcome (unit_holding R.Offset.limit address section) offset.old }
 {

@@ -142,11 +142,11 @@ impl<R: Reader, A: Allocator> AttributeSink<R> for Numbers<A> {
 
     type Answer = ();
 
-    ghost Stand = { List GimliAttr × (ℕ × ℕ) };
+    ghost Meaning = { List GimliAttr × (ℕ × ℕ) };
 
-    ghost stand = { λ l _. (l.0.items, (vec_len l.0, vec_capacity l.0)) };
+    ghost meaning = { λ l _. (l.0.items, (vec_len l.0, vec_capacity l.0)) };
 
-    ghost taken = { λ l a. (
+    ghost after_take = { λ l a. (
       l.0.items ++ attr_of a ∷ [],
       (vec_len l.0 + 1, vec_capacity l.0),
     ) };

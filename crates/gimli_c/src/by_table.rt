@@ -15,16 +15,15 @@ ghost use Rattle.gimli_units.specs.Sized.{left_by};
 ghost use Rattle.gimli_units.specs.Unit.{whole_length};
 ghost use Rattle.gimli_units.specs.UnitHeld.{unit_view};
 ghost use Rattle.gimli_c.specs.Attrs.{attr_of};
-ghost use Rattle.gimli_c.specs.Heads.{IsOpened, AsksMemory, GoesOn};
+ghost use Rattle.gimli_c.specs.Heads.{PlaceBy, IsOpened, AsksMemory, GoesOn};
+ghost use Rattle.gimli_c.specs.Heads.{place_after, table_head};
 ghost use Rattle.gimli_c.specs.Tables.{specification_in, declaration_in, declared_in, table_in};
 ghost use Rattle.gimli_c.specs.Tables.{HasSteps};
-ghost use Rattle.gimli_c.specs.TableReads.{table_head, depth_after_head, PlaceBy};
-ghost use Rattle.gimli_c.specs.TableReads.{IsHeadRead, IsHeadReadWith};
 
 use crate::attrs::Numbers;
 use crate::reading::{Head, ReadEntries};
 use crate::table::{GimliDeclaration, GimliSpecification, GimliTable};
-use gimli_base::{Encoding, Error, Reader, ReaderOffset, Result, Step};
+use gimli_base::{Encoding, Error, Reader, ReaderOffset, Result};
 use gimli_units::{Attribute, UnitHeader, UnitOffset};
 use std::alloc::Allocator;
 use std::marker::Model;
@@ -83,15 +82,13 @@ pub(crate) fn entries_by<'t, R: Reader>(
 }
 
 impl<'t, R: Reader> EntriesBy<'t, R> {
-    // Goes past an entry of which a row tells this.
+    // Goes on to what is left after an entry with this head, which it answers.
     #[inline(always)]
-    fn go_past(&mut self, rest: R, head: Head)
+    fn go_past(&mut self, rest: R, head: Head) -> Head
         requires { length (R.view rest).bytes < length self.old.place.rest.bytes }
-        ensures { let p = self.old.place in
-            self.new
-            ≡ record self.old {
-              place = record p { rest = R.view rest; depth = depth_after_head head p.depth };
-            } }
+        ensures head { result ≡ head }
+        ensures place { self.new
+            ≡ record self.old { place = place_after self.old.place (R.view rest) head } }
     {
         self.input = rest;
         if head.tag == 0 {
@@ -99,6 +96,7 @@ impl<'t, R: Reader> EntriesBy<'t, R> {
         } else if head.has_children != 0 {
             self.depth += 1;
         }
+        head
     }
 }
 
@@ -122,51 +120,33 @@ impl<'t, R: Reader> ReadEntries<R> for EntriesBy<'t, R> {
         self.depth
     }
 
+    // The input is copied, so that it stays in registers.
     #[inline(always)]
     fn pass(&mut self) -> Result<Head> {
         let mut rest = self.input.copy();
-        let head = pass_entry_by(&mut rest, self.encoding, self.table)?;
-        self.go_past(rest, head);
-        Ok(head)
+        let Some(declared) = next_declared(&mut rest, self.table)? else {
+            return Ok(self.go_past(rest, Head::null()));
+        };
+        let specifications = declared.attributes_in(self.table.specifications);
+        pass_steps_by(&mut rest, self.encoding, specifications)?;
+        Ok(self.go_past(rest, head_by(declared)))
     }
 
     #[inline(always)]
     fn read<A: Allocator>(&mut self, numbers: &mut Numbers<A>) -> Result<Head> {
+        numbers.0.clear();
         let mut rest = self.input.copy();
-        let head = read_numbers_by(&mut rest, self.encoding, self.table, numbers)?;
-        self.go_past(rest, head);
-        Ok(head)
+        let Some(declared) = next_declared(&mut rest, self.table)? else {
+            return Ok(self.go_past(rest, Head::null()));
+        };
+        let specifications = declared.attributes_in(self.table.specifications);
+        if declared.tag == 0 {
+            pass_values_by(&mut rest, self.encoding, specifications)?;
+        } else {
+            push_values_by(&mut rest, self.encoding, specifications, numbers)?;
+        }
+        Ok(self.go_past(rest, head_by(declared)))
     }
-}
-
-// Passes the next entry, and keeps its head; where it is refused, the input is left anywhere.
-#[inline(always)]
-fn pass_entry_by<R: Reader>(
-    input: &mut R,
-    encoding: Encoding,
-    table: GimliTable<'_>,
-) -> Result<Head>
-    ensures past { let declared = codes_of (table_in table.entry) in
-        HasSteps table.entry.specifications.now →
-        IfOk result (λ head. IsHeadRead R.Offset.limit encoding declared (R.view input.old) head
-        (R.view input.new)) }
-    ensures refused { let declared = codes_of (table_in table.entry) in
-        HasSteps table.entry.specifications.now →
-        IfErr result (λ e. Err e
-        ≡ entry_at R.Offset.limit encoding declared (R.view input.old)) }
-    ensures shorter { OnOk result
-        (length (R.view input.new).bytes < length (R.view input.old).bytes) }
-    ensures memory { IfErr result (λ e. e ≡ OutOfMemory → ⊥) }
-{
-    let Some(declared) = next_declared(input, table)? else {
-        return Ok(Head::null());
-    };
-    pass_steps_by(
-        input,
-        encoding,
-        declared.attributes_in(table.specifications),
-    )?;
-    Ok(head_by(declared))
 }
 
 // Passes what reading these attributes reads, with the same refusals, if the steps beside them are
@@ -189,7 +169,7 @@ fn pass_steps_by<R: Reader>(
     let mut left = specifications;
     'steps: while let Some((first, _)) = left.split_first() {
         let step = first.step;
-        let count = count_of(step);
+        let count = usize::from(step.values);
         if left.len() < count || !Attribute::pass_step(input, encoding, &step) {
             return pass_values_by(input, encoding, left);
         }
@@ -202,16 +182,8 @@ fn pass_steps_by<R: Reader>(
     Ok(())
 }
 
-// How many values a step has.
-#[inline(always)]
-fn count_of(step: Step) -> usize
-    ensures { result ≡ step.values }
-{
-    step.values as usize
-}
-
-// Passes the value of an attribute as it is read; where it is refused, the input stays. (As a
-// function of its own, so that its places are cleared where there is such a value.)
+// Passes the value of an attribute as it is read; where it is refused, the input stays. (It is a
+// function of its own, so that its stack slots are cleared only where there is such a value.)
 #[inline(always)]
 fn pass_value_by<R: Reader>(
     input: &mut R,
@@ -225,42 +197,7 @@ fn pass_value_by<R: Reader>(
     Attribute::pass(input, encoding, &attribute.specification())
 }
 
-// Reads the next entry, and keeps its head, and its attributes in place of those in `numbers`;
-// where it is refused, the input and the list are left anywhere.
-#[inline(always)]
-fn read_numbers_by<R: Reader, A: Allocator>(
-    input: &mut R,
-    encoding: Encoding,
-    table: GimliTable<'_>,
-    numbers: &mut Numbers<A>,
-) -> Result<Head>
-    ensures past { let declared = codes_of (table_in table.entry) in
-        IfOk result (λ head. IsHeadReadWith R.Offset.limit encoding declared (R.view input.old)
-        head numbers.new.0.items (R.view input.new)) }
-    ensures refused { let declared = codes_of (table_in table.entry) in
-        IfErr result (λ e. (e ≡ OutOfMemory → ⊥) → Err e
-        ≡ entry_at R.Offset.limit encoding declared (R.view input.old)) }
-    ensures memory { let declared = codes_of (table_in table.entry) in
-        IfErr result (λ _. AsksMemory
-        (entry_at R.Offset.limit encoding declared (R.view input.old))) }
-    ensures takes { let declared = codes_of (table_in table.entry) in
-        IfErr result (λ e. e ≡ OutOfMemory
-        → takes_memory (abbreviation_at declared (R.view input.old)) ≡ true) }
-{
-    numbers.0.clear();
-    let Some(declared) = next_declared(input, table)? else {
-        return Ok(Head::null());
-    };
-    let specifications = declared.attributes_in(table.specifications);
-    if declared.tag == 0 {
-        pass_values_by(input, encoding, specifications)?;
-        return Ok(Head::null());
-    }
-    push_values_by(input, encoding, specifications, numbers)?;
-    Ok(head_by(declared))
-}
-
-// What a row tells of an entry of this declaration; one of the tag 0 is a null.
+// The head of the entries of a declaration; they are nulls where its tag is 0.
 #[inline(always)]
 fn head_by(declared: &GimliDeclaration) -> Head
     ensures { (ss : List GimliSpecification)

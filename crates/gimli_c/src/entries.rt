@@ -3,22 +3,21 @@
 ghost use Rattle.std.specs.Prelude.{◌≡◌, ◌+◌, ◌<◌, ◌≤◌, ◌^◌, length, unsigned_abs, Ok};
 ghost use Rattle.gimli_base.specs.Table.{Table, codes_of};
 ghost use Rattle.gimli_units.specs.UnitHeld.{unit_view};
-ghost use Rattle.gimli_headers.specs.Units.{header_at};
-ghost use Rattle.gimli_c.specs.Units.{section_id};
+ghost use Rattle.gimli_c.specs.Units.{unit_of, declarations_of};
 ghost use Rattle.gimli_c.specs.Heads.{IsOpened};
 ghost use Rattle.gimli_c.specs.Status.{memory_refused, row_memory_refused};
 ghost use Rattle.gimli_c.specs.Tables.{table_in, read_by, NoTableRefused};
-ghost use Rattle.gimli_c.specs.Fronts.{at, ahead_of, unit_ahead, rows_ahead, Resumes};
+ghost use Rattle.gimli_c.specs.Fronts.{at, ahead_of, unit_ahead, unit_rows_of, Resumes};
 ghost use Rattle.gimli_c.specs.Entries.{wrote, FilledEntries, IsEntriesOutcome};
 ghost use Rattle.gimli_c.specs.Memory.{TableMemory, DeclaredTakesMemory, RowTakesMemory};
 ghost use Rattle.gimli_c.specs.Memory.{RowTakesMemoryBy, TakesMemoryAhead};
 
 use crate::attrs::{GimliAttr, Numbers, write_attrs};
 use crate::by_table::entries_by;
-use crate::reading::ReadEntries;
+use crate::reading::{ReadEntries, start_at};
 use crate::rows::{GimliPlace, place_of};
-use crate::sections::{UnitSections, header_in};
-use crate::status::{END, MORE, TOO_DEEP, refusal_status, row_refused};
+use crate::sections::UnitSections;
+use crate::status::{END, MORE, refusal_status, row_refused};
 use crate::table::GimliTable;
 use gimli_base::{DebugAbbrev, Reader, ReaderOffset, Result, Section};
 use gimli_units::{UnitHeader, UnitOffset};
@@ -74,26 +73,20 @@ pub(crate) fn read_entries<R: Reader, A: Allocator + Copy>(
     attrs: &mut [GimliAttr],
 ) -> EntriesOutcome
     ensures outcome { let place = at (R.Offset.number offset) depth in
-        let declarations = ⟦<DebugAbbrev<R> as Section<R>>⟧.content sections.now.abbreviations in
-        let ahead = rows_ahead R.Offset.limit (section_id sections.now.types)
-        (R.view sections.now.units) declarations (R.Offset.number unit) in
+        let ahead = unit_rows_of R.Offset.limit R.view sections.now (R.Offset.number unit) in
         IsEntriesOutcome (ahead place) place rows.old attrs.old result.place rows.new attrs.new
         result.filled result.status }
     ensures resumes { let place = at (R.Offset.number offset) depth in
-        let declarations = ⟦<DebugAbbrev<R> as Section<R>>⟧.content sections.now.abbreviations in
-        let ahead = rows_ahead R.Offset.limit (section_id sections.now.types)
-        (R.view sections.now.units) declarations (R.Offset.number unit) in
+        let ahead = unit_rows_of R.Offset.limit R.view sections.now (R.Offset.number unit) in
         Resumes (ahead place) result.filled.rows (ahead result.place) }
-    ensures memory { let id = section_id sections.now.types in
-        let u = header_at R.Offset.limit id (R.Offset.number unit) (R.view sections.now.units) in
-        let declarations = ⟦<DebugAbbrev<R> as Section<R>>⟧.content sections.now.abbreviations in
-        TableMemory u declarations result.status }
-    ensures row_memory { let id = section_id sections.now.types in
-        let u = header_at R.Offset.limit id (R.Offset.number unit) (R.view sections.now.units) in
-        let declarations = ⟦<DebugAbbrev<R> as Section<R>>⟧.content sections.now.abbreviations in
-        result.status ≡ row_memory_refused → RowTakesMemory u declarations result.place.offset }
+    ensures memory { let u = unit_of R.Offset.limit R.view sections.now (R.Offset.number unit) in
+        TableMemory u (declarations_of R.view sections.now) result.status }
+    ensures row_memory { let number = R.Offset.number unit in
+        let u = unit_of R.Offset.limit R.view sections.now number in
+        result.status ≡ row_memory_refused
+        → RowTakesMemory u (declarations_of R.view sections.now) result.place.offset }
 {
-    let header = match header_in(&sections.units, sections.types, unit) {
+    let header = match sections.header(unit) {
         Ok(header) => header,
         Err(error) => return no_entries(offset, depth, refusal_status(error)),
     };
@@ -118,25 +111,22 @@ pub(crate) fn read_entries_by<R: Reader, A: Allocator>(
     attrs: &mut [GimliAttr],
 ) -> EntriesOutcome
     ensures outcome { let place = at (R.Offset.number offset) depth in
-        let u = header_at R.Offset.limit (section_id sections.now.types) (R.Offset.number unit)
-        (R.view sections.now.units) in
+        let u = unit_of R.Offset.limit R.view sections.now (R.Offset.number unit) in
         let ahead = read_by R.Offset.limit u (table_in table.entry) in
         IsEntriesOutcome (ahead place) place rows.old attrs.old result.place rows.new attrs.new
         result.filled result.status }
     ensures resumes { let place = at (R.Offset.number offset) depth in
-        let u = header_at R.Offset.limit (section_id sections.now.types) (R.Offset.number unit)
-        (R.view sections.now.units) in
+        let u = unit_of R.Offset.limit R.view sections.now (R.Offset.number unit) in
         let ahead = read_by R.Offset.limit u (table_in table.entry) in
         Resumes (ahead place) result.filled.rows (ahead result.place) }
-    ensures memory { let id = section_id sections.now.types in
-        let u = header_at R.Offset.limit id (R.Offset.number unit) (R.view sections.now.units) in
+    ensures memory { let u = unit_of R.Offset.limit R.view sections.now (R.Offset.number unit) in
         NoTableRefused u result.status }
-    ensures row_memory { let id = section_id sections.now.types in
-        let u = header_at R.Offset.limit id (R.Offset.number unit) (R.view sections.now.units) in
+    ensures row_memory { let number = R.Offset.number unit in
+        let u = unit_of R.Offset.limit R.view sections.now number in
         let declared = codes_of (table_in table.entry) in
         result.status ≡ row_memory_refused → RowTakesMemoryBy u declared result.place.offset }
 {
-    match header_in(&sections.units, sections.types, unit) {
+    match sections.header(unit) {
         Ok(header) => {
             let opened = entries_by(&header, table, offset);
             unit_entries(alloc, &header, opened, offset, depth, rows, attrs)
@@ -180,21 +170,10 @@ fn unit_entries<R: Reader, T: ReadEntries<R> + Drop, A: Allocator>(
         → result.status ≡ row_memory_refused
         → DeclaredTakesMemory u (Ok (codes_of t)) result.place.offset }
 {
-    let whole = unit.length_including_self().into_u64();
-    let start = offset.into_u64();
-    if start == whole {
-        return no_entries(offset, depth, END);
+    match start_at(unit, opened, offset, depth) {
+        Ok(mut entries) => fill_entries(alloc, &mut entries, depth, rows, attrs),
+        Err(status) => no_entries(offset, depth, status),
     }
-    let mut entries = match opened {
-        Ok(entries) => entries,
-        Err(error) => return no_entries(offset, depth, refusal_status(error)),
-    };
-    let left = whole - start;
-    let steps = depth.unsigned_abs() as u64;
-    if left >= 1 << 63 || steps >= (1 << 63) - left {
-        return no_entries(offset, depth, TOO_DEEP);
-    }
-    fill_entries(alloc, &mut entries, depth, rows, attrs)
 }
 
 // Fills rows and their attributes, the depths counted from `base`.

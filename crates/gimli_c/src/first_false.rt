@@ -1,13 +1,12 @@
 //! The check of a unit's sibling references.
 
 ghost use Rattle.std.specs.Prelude.{◌≡◌, ℕ};
-ghost use Rattle.gimli_headers.specs.Units.{header_at};
-ghost use Rattle.gimli_c.specs.Units.{section_id};
+ghost use Rattle.gimli_c.specs.Units.{unit_of, declarations_of};
 ghost use Rattle.gimli_c.specs.Status.{end, memory_refused};
 ghost use Rattle.gimli_c.specs.Siblings.{read_false, StandsIn, AreHonestIn};
 ghost use Rattle.gimli_c.specs.Memory.{CheckMemory};
 
-use crate::sections::{UnitSections, header_in};
+use crate::sections::UnitSections;
 use crate::status::{END, MORE, refusal_status};
 use gimli_base::{DebugAbbrev, Reader, ReaderOffset, Section};
 use gimli_headers::first_false_sibling;
@@ -20,22 +19,18 @@ pub(crate) fn find_false<R: Reader, A: Allocator + Copy>(
     unit: R::Offset,
     offset: &mut u64,
 ) -> u32
-    ensures outcome { let id = section_id sections.now.types in
-        let read = header_at R.Offset.limit id (R.Offset.number unit) (R.view sections.now.units) in
-        let declarations = ⟦<DebugAbbrev<R> as Section<R>>⟧.content sections.now.abbreviations in
+    ensures outcome { let u = unit_of R.Offset.limit R.view sections.now (R.Offset.number unit) in
+        let declarations = declarations_of R.view sections.now in
         (result ≡ memory_refused → ⊥) →
-        (result, offset.new) ≡ read_false R.Offset.limit read declarations offset.old }
-    ensures starts { let id = section_id sections.now.types in
-        let read = header_at R.Offset.limit id (R.Offset.number unit) (R.view sections.now.units) in
-        let declarations = ⟦<DebugAbbrev<R> as Section<R>>⟧.content sections.now.abbreviations in
-        result ≡ end → (at : ℕ) → StandsIn R.Offset.limit read declarations at →
-        AreHonestIn R.Offset.limit read declarations at }
-    ensures memory { let id = section_id sections.now.types in
-        let read = header_at R.Offset.limit id (R.Offset.number unit) (R.view sections.now.units) in
-        let declarations = ⟦<DebugAbbrev<R> as Section<R>>⟧.content sections.now.abbreviations in
-        CheckMemory R.Offset.limit read declarations result }
+        (result, offset.new) ≡ read_false R.Offset.limit u declarations offset.old }
+    ensures starts { let u = unit_of R.Offset.limit R.view sections.now (R.Offset.number unit) in
+        let declarations = declarations_of R.view sections.now in
+        result ≡ end → (at : ℕ) → StandsIn R.Offset.limit u declarations at →
+        AreHonestIn R.Offset.limit u declarations at }
+    ensures memory { let u = unit_of R.Offset.limit R.view sections.now (R.Offset.number unit) in
+        CheckMemory R.Offset.limit u (declarations_of R.view sections.now) result }
 {
-    let header = match header_in(&sections.units, sections.types, unit) {
+    let header = match sections.header(unit) {
         Ok(header) => header,
         Err(error) => return refusal_status(error),
     };

@@ -10,16 +10,17 @@ ghost use Rattle.gimli_base.specs.Table.{codes_of};
 ghost use Rattle.gimli_c.specs.Units.{units_view, abbreviations_view, unit_outcome, section_unit};
 ghost use Rattle.gimli_c.specs.Tables.{table_in, table_of, rows_by, IsTableAt, HasTableAt, Serves};
 ghost use Rattle.gimli_c.specs.Tables.{HasSteps, NoTableRefused};
-ghost use Rattle.gimli_c.specs.Fronts.{section_rows, IsRowsOutcome, IsRowsOutcomeIf, Resumes, WritesFirst};
+ghost use Rattle.gimli_c.specs.Fronts.{section_rows, IsRowsOutcome, IsRowsOutcomeIf, Resumes};
+ghost use Rattle.gimli_c.specs.Fronts.{WritesFirst};
 ghost use Rattle.gimli_c.specs.Entries.{IsEntriesOutcome};
 ghost use Rattle.gimli_c.specs.Status.{more, end, memory_refused, row_memory_refused};
 ghost use Rattle.gimli_c.specs.Status.{UnlessRefused};
-ghost use Rattle.gimli_c.specs.Memory.{TableMemory, RowTakesMemory, RowTakesMemoryBy, RowsTakeMemory};
-ghost use Rattle.gimli_c.specs.Memory.{CheckMemory};
+ghost use Rattle.gimli_c.specs.Memory.{TableMemory, CheckMemory, RowTakesMemory, RowsTakeMemory};
+ghost use Rattle.gimli_c.specs.Memory.{RowTakesMemoryBy};
 ghost use Rattle.gimli_c.specs.Siblings.{section_sibling, section_false, IsRowOf, UnitIsHonest};
 ghost use Rattle.gimli_c.specs.Addresses.{section_holding};
-ghost use Rattle.gimli_c.specs.Lists.{section_is_big, range_row, location_row, ranges_at, locations_at};
-ghost use Rattle.gimli_c.specs.Lists.{IsListOutcome};
+ghost use Rattle.gimli_c.specs.Lists.{section_is_big, range_row, location_row, ranges_at};
+ghost use Rattle.gimli_c.specs.Lists.{locations_at, IsListOutcome};
 
 mod address;
 mod attrs;
@@ -47,6 +48,20 @@ use std::alloc::Global;
 pub use table::{GimliCounted, GimliDeclaration, GimliSpecification, GimliTable};
 pub use unit::GimliUnit;
 
+// An expression with the byte order of a caller's sections, as `in_order!(sections, endian => ..)`.
+// Each byte order is a type of its own, so that the code is compiled for both.
+macro_rules! in_order {
+    ($sections:ident, $endian:ident => $body:expr) => {
+        if $sections.big == 0 {
+            let $endian = LittleEndian;
+            $body
+        } else {
+            let $endian = BigEndian;
+            $body
+        }
+    };
+}
+
 /// Reads the header of the unit at an offset of `units`. Status 0: `unit` is that unit. Otherwise
 /// `unit` is as it was: status 1 is that of the section's end, and any other that of a refusal.
 #[unsafe(no_mangle)]
@@ -56,11 +71,7 @@ pub extern "C" fn gimli_unit(sections: &GimliSections<'_>, offset: u64, unit: &m
         ≡ unit_outcome (units_view s) offset (section_unit s offset) unit.old }
 {
     let offset = offset as usize;
-    if sections.big == 0 {
-        unit::read_unit(&unit_sections(sections, LittleEndian), offset, unit)
-    } else {
-        unit::read_unit(&unit_sections(sections, BigEndian), offset, unit)
-    }
+    in_order!(sections, endian => unit::read_unit(&unit_sections(sections, endian), offset, unit))
 }
 
 /// Reads on in a unit of `units`, from a place on, as many rows as there is room for in `rows`, and
@@ -90,13 +101,10 @@ pub extern "C" fn gimli_rows(
 {
     let unit = unit as usize;
     let offset = place.offset as usize;
-    let outcome = if sections.big == 0 {
-        let opened = unit_sections(sections, LittleEndian);
+    let outcome = in_order!(sections, endian => {
+        let opened = unit_sections(sections, endian);
         rows::read_rows(alloc, &opened, unit, offset, place.depth, rows)
-    } else {
-        let opened = unit_sections(sections, BigEndian);
-        rows::read_rows(alloc, &opened, unit, offset, place.depth, rows)
-    };
+    });
     *count = outcome.count;
     *place = outcome.place;
     outcome.status
@@ -130,13 +138,10 @@ pub extern "C" fn gimli_entries(
 {
     let unit = unit as usize;
     let offset = place.offset as usize;
-    let outcome = if sections.big == 0 {
-        let opened = unit_sections(sections, LittleEndian);
+    let outcome = in_order!(sections, endian => {
+        let opened = unit_sections(sections, endian);
         entries::read_entries(alloc, &opened, unit, offset, place.depth, rows, attrs)
-    } else {
-        let opened = unit_sections(sections, BigEndian);
-        entries::read_entries(alloc, &opened, unit, offset, place.depth, rows, attrs)
-    };
+    });
     *filled = outcome.filled;
     *place = outcome.place;
     outcome.status
@@ -172,23 +177,9 @@ pub extern "C" fn gimli_table(
 {
     let offset = offset as usize;
     let abbreviations = sections.abbreviations;
-    let outcome = if sections.big == 0 {
-        table::read_table(
-            abbreviations,
-            LittleEndian,
-            offset,
-            declarations,
-            specifications,
-        )
-    } else {
-        table::read_table(
-            abbreviations,
-            BigEndian,
-            offset,
-            declarations,
-            specifications,
-        )
-    };
+    let outcome = in_order!(sections, endian => {
+        table::read_table(abbreviations, endian, offset, declarations, specifications)
+    });
     *counted = outcome.counted;
     outcome.status
 }
@@ -196,9 +187,9 @@ pub extern "C" fn gimli_table(
 /// The same as `gimli_rows` by a table in the caller's buffers: the rows are those that its
 /// declarations give, if the steps of its attributes are theirs, as where `gimli_table` wrote them.
 /// Those that it wrote and counted give the unit's own. Whatever the table holds, `count` is at
-/// most the room for rows, and the rows after the first `count` stay as they were; with status 0 and
-/// some room, the place is a later one. Of the sections only `units` is read, and no memory is asked
-/// for: statuses 280 and 536 do not come.
+/// most the room for rows, and the rows after the first `count` stay as they were; with status 0
+/// and some room, the place is a later one. Of the sections only `units` is read, and no memory is
+/// asked for: statuses 280 and 536 do not come.
 #[unsafe(no_mangle)]
 pub extern "C" fn gimli_rows_by(
     sections: &GimliSections<'_>,
@@ -221,13 +212,10 @@ pub extern "C" fn gimli_rows_by(
 {
     let unit = unit as usize;
     let offset = place.offset as usize;
-    let outcome = if sections.big == 0 {
-        let opened = unit_sections(sections, LittleEndian);
+    let outcome = in_order!(sections, endian => {
+        let opened = unit_sections(sections, endian);
         rows::read_rows_by(&opened, unit, *table, offset, place.depth, rows)
-    } else {
-        let opened = unit_sections(sections, BigEndian);
-        rows::read_rows_by(&opened, unit, *table, offset, place.depth, rows)
-    };
+    });
     *count = outcome.count;
     *place = outcome.place;
     outcome.status
@@ -260,13 +248,10 @@ pub extern "C" fn gimli_entries_by(
     let unit = unit as usize;
     let offset = place.offset as usize;
     let depth = place.depth;
-    let outcome = if sections.big == 0 {
-        let opened = unit_sections(sections, LittleEndian);
+    let outcome = in_order!(sections, endian => {
+        let opened = unit_sections(sections, endian);
         entries::read_entries_by(alloc, &opened, unit, *table, offset, depth, rows, attrs)
-    } else {
-        let opened = unit_sections(sections, BigEndian);
-        entries::read_entries_by(alloc, &opened, unit, *table, offset, depth, rows, attrs)
-    };
+    });
     *filled = outcome.filled;
     *place = outcome.place;
     outcome.status
@@ -311,13 +296,10 @@ pub extern "C" fn gimli_sibling(
     let unit = unit as usize;
     let offset = place.offset as usize;
     let follows = follows != 0;
-    if sections.big == 0 {
-        let opened = unit_sections(sections, LittleEndian);
+    in_order!(sections, endian => {
+        let opened = unit_sections(sections, endian);
         sibling::find_sibling(alloc, &opened, unit, offset, place.depth, follows, row)
-    } else {
-        let opened = unit_sections(sections, BigEndian);
-        sibling::find_sibling(alloc, &opened, unit, offset, place.depth, follows, row)
-    }
+    })
 }
 
 /// Finds the first row of a unit of `units` whose sibling reference can be followed and is false:
@@ -343,13 +325,10 @@ pub extern "C" fn gimli_first_false(
         CheckMemory (2 ^ 64) u (abbreviations_view sections.now) result }
 {
     let unit = unit as usize;
-    if sections.big == 0 {
-        let opened = unit_sections(sections, LittleEndian);
+    in_order!(sections, endian => {
+        let opened = unit_sections(sections, endian);
         first_false::find_false(alloc, &opened, unit, offset)
-    } else {
-        let opened = unit_sections(sections, BigEndian);
-        first_false::find_false(alloc, &opened, unit, offset)
-    }
+    })
 }
 
 /// Finds where the unit of an address begins in `.debug_info`: that of the first set of `aranges`
@@ -365,13 +344,10 @@ pub extern "C" fn gimli_unit_of_address(
 ) -> u32
     ensures { (result, offset.new) ≡ section_holding sections.now address offset.old }
 {
-    if sections.big == 0 {
-        let aranges = DebugAranges::new(sections.aranges, LittleEndian);
+    in_order!(sections, endian => {
+        let aranges = DebugAranges::new(sections.aranges, endian);
         address::find_unit(&aranges, address, offset)
-    } else {
-        let aranges = DebugAranges::new(sections.aranges, BigEndian);
-        address::find_unit(&aranges, address, offset)
-    }
+    })
 }
 
 /// Finds the ranges of the list that the value of an attribute names, as `gimli_entries` writes it
@@ -397,17 +373,15 @@ pub extern "C" fn gimli_ranges(
         let outcome = ranges_at (section_is_big s) s unit.now attribute.now bases.now in
         IsListOutcome range_row outcome into.old into.new count.new result }
 {
-    let outcome = if sections.big == 0 {
-        lists::find_ranges(sections, LittleEndian, unit, attribute, bases, into)
-    } else {
-        lists::find_ranges(sections, BigEndian, unit, attribute, bases, into)
-    };
+    let outcome = in_order!(sections, endian => {
+        lists::find_ranges(sections, endian, unit, attribute, bases, into)
+    });
     *count = outcome.count;
     outcome.status
 }
 
-/// The same of locations, whose expressions are told by where they lie in their section: in
-/// `loclists` from version 5 on, and else in `loc`. These two are read, and `addresses`.
+/// The same of locations. Of an expression the place in its section is written: in `loclists` from
+/// version 5 on, and else in `loc`. These two are read, and `addresses`.
 #[unsafe(no_mangle)]
 pub extern "C" fn gimli_locations(
     sections: &GimliSections<'_>,
@@ -421,11 +395,9 @@ pub extern "C" fn gimli_locations(
         let outcome = locations_at (section_is_big s) s unit.now attribute.now bases.now in
         IsListOutcome location_row outcome into.old into.new count.new result }
 {
-    let outcome = if sections.big == 0 {
-        lists::find_locations(sections, LittleEndian, unit, attribute, bases, into)
-    } else {
-        lists::find_locations(sections, BigEndian, unit, attribute, bases, into)
-    };
+    let outcome = in_order!(sections, endian => {
+        lists::find_locations(sections, endian, unit, attribute, bases, into)
+    });
     *count = outcome.count;
     outcome.status
 }

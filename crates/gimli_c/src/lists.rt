@@ -99,11 +99,14 @@ fn no_items(status: u32) -> Listed
     Listed { count: 0, status }
 }
 
-// The status where there is room for so many, and this is the status after the last.
-fn status_after(room: usize, count: usize, last: u32) -> u32
-    ensures { result ≡ list_status room count last }
+// So many, where there is room for some, and the status after the last.
+fn list_outcome(room: usize, count: usize, last: u32) -> Listed
+    ensures { result ≡ record { count = count; status = list_status room count last } }
 {
-    if room < count { MORE } else { last }
+    Listed {
+        count,
+        status: if room < count { MORE } else { last },
+    }
 }
 
 /// Fills the ranges of the list at an attribute's value.
@@ -116,8 +119,8 @@ pub(crate) fn find_ranges<E: Endianity>(
     bases: &GimliBases,
     ranges: &mut [GimliRange],
 ) -> Listed
-    ensures { let outcome = ranges_at (E.big endian) sections.now unit.now attribute.now bases.now
-        in
+    ensures { let s = sections.now in
+        let outcome = ranges_at (E.big endian) s unit.now attribute.now bases.now in
         IsListOutcome range_row outcome ranges.old ranges.new result.count result.status }
 {
     let encoding = encoding_of(unit);
@@ -153,9 +156,8 @@ fn fill_ranges<R: Reader>(list: &mut RngListIter<R>, ranges: &mut [GimliRange]) 
     ensures { IsListed range_row (ranges_ahead R.Offset.limit list.old) ranges.old ranges.new
         result.count result.status }
 {
-    let room = ranges.len();
     let mut count = 0;
-    'found: loop {
+    let last = 'found: loop {
         match list.next() {
             Ok(Some(range)) => {
                 if count < ranges.len() {
@@ -166,20 +168,11 @@ fn fill_ranges<R: Reader>(list: &mut RngListIter<R>, ranges: &mut [GimliRange]) 
                 }
                 count += 1;
             }
-            Ok(None) => {
-                return Listed {
-                    count,
-                    status: status_after(room, count, END),
-                };
-            }
-            Err(error) => {
-                return Listed {
-                    count,
-                    status: status_after(room, count, row_refused(error)),
-                };
-            }
+            Ok(None) => break END,
+            Err(error) => break row_refused(error),
         }
-    }
+    };
+    list_outcome(ranges.len(), count, last)
 }
 
 /// Fills the locations of the list at an attribute's value.
@@ -192,8 +185,8 @@ pub(crate) fn find_locations<E: Endianity>(
     bases: &GimliBases,
     locations: &mut [GimliLocation],
 ) -> Listed
-    ensures { let outcome = locations_at (E.big endian) sections.now unit.now attribute.now bases.now
-        in
+    ensures { let s = sections.now in
+        let outcome = locations_at (E.big endian) s unit.now attribute.now bases.now in
         IsListOutcome location_row outcome locations.old locations.new result.count result.status }
 {
     let encoding = encoding_of(unit);
@@ -234,9 +227,8 @@ fn fill_locations<R: Reader>(list: &mut LocListIter<R>, locations: &mut [GimliLo
     ensures { IsListed location_row (locations_ahead R.Offset.limit list.old) locations.old
         locations.new result.count result.status }
 {
-    let room = locations.len();
     let mut count = 0;
-    'found: loop {
+    let last = 'found: loop {
         match list.next() {
             Ok(Some(location)) => {
                 if count < locations.len() {
@@ -249,18 +241,9 @@ fn fill_locations<R: Reader>(list: &mut LocListIter<R>, locations: &mut [GimliLo
                 }
                 count += 1;
             }
-            Ok(None) => {
-                return Listed {
-                    count,
-                    status: status_after(room, count, END),
-                };
-            }
-            Err(error) => {
-                return Listed {
-                    count,
-                    status: status_after(room, count, row_refused(error)),
-                };
-            }
+            Ok(None) => break END,
+            Err(error) => break row_refused(error),
         }
-    }
+    };
+    list_outcome(locations.len(), count, last)
 }

@@ -1,22 +1,26 @@
-//! Entries that are read one after the other, each into what a row tells of it.
+//! Entries that are read one after the other, each into the head of its row.
 
 ghost use Rattle.std.specs.Prelude.{◌≡◌, ◌≢◌, ◌↔◌, true, [], map, length};
-ghost use Rattle.std.specs.Prelude.{IsTrue, IsOk, IfOk, IfErr, OnOk, OnErr};
-ghost use Rattle.gimli_base.specs.Table.{codes_of};
+ghost use Rattle.std.specs.Prelude.{IsTrue, IsOk, IfOk, IfErr, OnOk, OnErr, MatchResult, Ok};
+ghost use Rattle.gimli_base.specs.Table.{Table, codes_of};
 ghost use Rattle.gimli_base.specs.Reading.{read_of, answer_leaving, map_read, UnlessMemory};
 ghost use Rattle.gimli_units.specs.Entry.{attributes_at, abbreviation_at, entry_at, takes_memory};
 ghost use Rattle.gimli_units.specs.RawPlace.{RawPlace, next_offset_of};
+ghost use Rattle.gimli_units.specs.UnitHeld.{unit_view};
 ghost use Rattle.gimli_base.specs.declared.error.Error.TheVariants.{OutOfMemory};
 ghost use Rattle.gimli_c.specs.Attrs.{attr_of};
 ghost use Rattle.gimli_c.specs.Heads.{null_head, declared_head, IsReadPast, IsReadWith, AsksMemory};
-ghost use Rattle.gimli_c.specs.Heads.{GoesOn};
+ghost use Rattle.gimli_c.specs.Heads.{GoesOn, IsOpened};
+ghost use Rattle.gimli_c.specs.Fronts.{at, ahead_of, unit_ahead, IsIdle, StandsAt};
+ghost use Rattle.gimli_c.specs.Status.{memory_refused, row_memory_refused};
 
 use crate::attrs::Numbers;
+use crate::status::{END, TOO_DEEP, refusal_status};
 use gimli_base::{Abbreviation, AttributeSpecification, Reader, ReaderOffset, Result};
-use gimli_units::EntriesRaw;
+use gimli_units::{EntriesRaw, UnitHeader};
 use std::alloc::Allocator;
 
-/// What a row tells of its entry: of a null zeros.
+/// What a row says of its entry: of a null zeros.
 #[derive(Clone, Copy)]
 pub(crate) struct Head {
     pub(crate) tag: u16,
@@ -88,6 +92,46 @@ pub(crate) trait ReadEntries<R: Reader> {
         ensures kept { OnErr result (place self.new ≡ place self.old) };
 }
 
+/// The reader of a unit's entries that was opened at an offset, where rows are read from there on;
+/// else the status of the call.
+pub(crate) fn start_at<R: Reader, T: ReadEntries<R> + Drop>(
+    unit: &UnitHeader<R>,
+    opened: Result<T>,
+    offset: R::Offset,
+    depth: isize,
+) -> std::result::Result<T, u32>
+    requires { (t : Table)
+        × IsOpened T.place (unit_view unit.now) t (R.Offset.number offset) opened }
+    ensures opened { IfOk result (λ entries. opened ≡ Ok entries) }
+    ensures stands { let place = at (R.Offset.number offset) depth in
+        IfOk result (λ entries. StandsAt place (T.place entries)) }
+    ensures ahead { let number = R.Offset.number offset in
+        let place = at number depth in
+        (t : Table) → IsOpened T.place (unit_view unit.now) t number opened
+        → let ahead = unit_ahead R.Offset.limit (unit_view unit.now) (codes_of t) place in
+        MatchResult result
+        (λ entries. ahead ≡ Ok (ahead_of R.Offset.limit depth (T.place entries)))
+        (λ status. IsIdle ahead place status) }
+    ensures memory { IfErr result (λ status. status ≡ memory_refused → ⊥) }
+    ensures row_memory { IfErr result (λ status. status ≡ row_memory_refused → ⊥) }
+{
+    let whole = unit.length_including_self().into_u64();
+    let start = offset.into_u64();
+    if start == whole {
+        return Err(END);
+    }
+    let entries = match opened {
+        Ok(entries) => entries,
+        Err(error) => return Err(refusal_status(error)),
+    };
+    let left = whole - start;
+    let steps = depth.unsigned_abs() as u64;
+    if left >= 1 << 63 || steps >= (1 << 63) - left {
+        return Err(TOO_DEEP);
+    }
+    Ok(entries)
+}
+
 impl<'abbrev, R: Reader, B: Allocator> ReadEntries<R> for EntriesRaw<'abbrev, R, B> {
     ghost place = { λ e. e };
 
@@ -110,16 +154,28 @@ impl<'abbrev, R: Reader, B: Allocator> ReadEntries<R> for EntriesRaw<'abbrev, R,
 
     #[inline(always)]
     fn pass(&mut self) -> Result<Head> {
-        pass_entry(self)
+        match self.read_head()? {
+            Some(declared) => Ok(declared_head(declared)),
+            None => Ok(Head::null()),
+        }
     }
 
     #[inline(always)]
     fn read<A: Allocator>(&mut self, numbers: &mut Numbers<A>) -> Result<Head> {
-        read_numbers(self, numbers)
+        numbers.0.clear();
+        let mut rest = self.copy();
+        let Some(declared) = rest.read_abbreviation()? else {
+            *self = rest;
+            return Ok(Head::null());
+        };
+        let head = declared_head(declared);
+        push_numbers(&mut rest, declared.attributes(), numbers)?;
+        *self = rest;
+        Ok(head)
     }
 }
 
-// What a declaration tells of its entries.
+// The head of the entries of a declaration.
 #[inline(always)]
 fn declared_head<A: Allocator>(declared: &Abbreviation<A>) -> Head
     ensures value { result ≡ declared_head declared.now }
@@ -129,53 +185,6 @@ fn declared_head<A: Allocator>(declared: &Abbreviation<A>) -> Head
         tag: declared.tag().0,
         has_children: u8::from(declared.has_children()),
     }
-}
-
-// Reads on past the next entry, and keeps its head alone. Refused as reading the entry is; then
-// `entries` stays.
-#[inline(always)]
-fn pass_entry<R: Reader, A: Allocator>(entries: &mut EntriesRaw<'_, R, A>) -> Result<Head>
-    ensures past { IfOk result (λ head. IsReadPast R.Offset.limit entries.old head entries.new) }
-    ensures refused { IfErr result (λ e. Err e
-        ≡ entry_at R.Offset.limit entries.old.encoding (codes_of entries.old.abbreviations)
-        entries.old.rest) }
-    ensures kept { OnErr result (entries.new ≡ entries.old) }
-{
-    match entries.read_head()? {
-        Some(declared) => Ok(declared_head(declared)),
-        None => Ok(Head::null()),
-    }
-}
-
-// Reads the next entry, and keeps its head, and its attributes in place of those in `numbers`.
-// Refused as reading the entry is, or for memory; then `entries` stays.
-#[inline(always)]
-fn read_numbers<R: Reader, A: Allocator, B: Allocator>(
-    entries: &mut EntriesRaw<'_, R, B>,
-    numbers: &mut Numbers<A>,
-) -> Result<Head>
-    ensures past { IfOk result
-        (λ head. IsReadWith R.Offset.limit entries.old head numbers.new.0.items entries.new) }
-    ensures refused { IfErr result (λ e. (e ≡ OutOfMemory → ⊥) → Err e
-        ≡ entry_at R.Offset.limit entries.old.encoding (codes_of entries.old.abbreviations)
-        entries.old.rest) }
-    ensures memory { IfErr result (λ _. AsksMemory (entry_at R.Offset.limit entries.old.encoding
-        (codes_of entries.old.abbreviations) entries.old.rest)) }
-    ensures takes { let declared = codes_of entries.old.abbreviations in
-        IfErr result (λ e. e ≡ OutOfMemory
-        → takes_memory (abbreviation_at declared entries.old.rest) ≡ true) }
-    ensures kept { OnErr result (entries.new ≡ entries.old) }
-{
-    numbers.0.clear();
-    let mut rest = entries.copy();
-    let Some(declared) = rest.read_abbreviation()? else {
-        *entries = rest;
-        return Ok(Head::null());
-    };
-    let head = declared_head(declared);
-    push_numbers(&mut rest, declared.attributes(), numbers)?;
-    *entries = rest;
-    Ok(head)
 }
 
 // Reads the attributes of these specifications into an empty list; where one is refused, `entries`

@@ -6,19 +6,18 @@ ghost use Rattle.gimli_base.specs.Table.{Table, codes_of};
 ghost use Rattle.gimli_units.specs.RawPlace.{next_offset_of};
 ghost use Rattle.gimli_units.specs.Unit.{whole_length};
 ghost use Rattle.gimli_units.specs.UnitHeld.{unit_view};
-ghost use Rattle.gimli_headers.specs.Units.{header_at};
-ghost use Rattle.gimli_c.specs.Units.{section_id};
+ghost use Rattle.gimli_c.specs.Units.{unit_of, declarations_of};
 ghost use Rattle.gimli_c.specs.Heads.{IsOpened};
 ghost use Rattle.gimli_c.specs.Status.{more, memory_refused, row_memory_refused};
 ghost use Rattle.gimli_c.specs.Tables.{table_in, read_by, HasSteps, NoTableRefused};
-ghost use Rattle.gimli_c.specs.Fronts.{at, ahead_of, unit_ahead, rows_ahead, Filled, IsRowsOutcome, IsRowsOutcomeIf};
-ghost use Rattle.gimli_c.specs.Fronts.{Resumes, WritesFirst};
+ghost use Rattle.gimli_c.specs.Fronts.{at, ahead_of, unit_ahead, unit_rows_of, Filled, WritesFirst};
+ghost use Rattle.gimli_c.specs.Fronts.{IsRowsOutcome, IsRowsOutcomeIf, Resumes};
 ghost use Rattle.gimli_c.specs.Memory.{TableMemory};
 
 use crate::by_table::entries_by;
-use crate::reading::ReadEntries;
-use crate::sections::{UnitSections, header_in};
-use crate::status::{END, MORE, TOO_DEEP, refusal_status, row_refused};
+use crate::reading::{ReadEntries, start_at};
+use crate::sections::UnitSections;
+use crate::status::{END, MORE, refusal_status, row_refused};
 use crate::table::GimliTable;
 use gimli_base::{DebugAbbrev, Reader, ReaderOffset, Result, Section};
 use gimli_units::{UnitHeader, UnitOffset};
@@ -66,22 +65,16 @@ pub(crate) fn read_rows<R: Reader, A: Allocator + Copy>(
     rows: &mut [GimliRow],
 ) -> RowsOutcome
     ensures outcome { let place = at (R.Offset.number offset) depth in
-        let declarations = ⟦<DebugAbbrev<R> as Section<R>>⟧.content sections.now.abbreviations in
-        let ahead = rows_ahead R.Offset.limit (section_id sections.now.types)
-        (R.view sections.now.units) declarations (R.Offset.number unit) in
+        let ahead = unit_rows_of R.Offset.limit R.view sections.now (R.Offset.number unit) in
         IsRowsOutcome (ahead place) place rows.old result.place rows.new result.count
         result.status }
     ensures resumes { let place = at (R.Offset.number offset) depth in
-        let declarations = ⟦<DebugAbbrev<R> as Section<R>>⟧.content sections.now.abbreviations in
-        let ahead = rows_ahead R.Offset.limit (section_id sections.now.types)
-        (R.view sections.now.units) declarations (R.Offset.number unit) in
+        let ahead = unit_rows_of R.Offset.limit R.view sections.now (R.Offset.number unit) in
         Resumes (ahead place) result.count (ahead result.place) }
-    ensures memory { let id = section_id sections.now.types in
-        let u = header_at R.Offset.limit id (R.Offset.number unit) (R.view sections.now.units) in
-        let declarations = ⟦<DebugAbbrev<R> as Section<R>>⟧.content sections.now.abbreviations in
-        TableMemory u declarations result.status }
+    ensures memory { let u = unit_of R.Offset.limit R.view sections.now (R.Offset.number unit) in
+        TableMemory u (declarations_of R.view sections.now) result.status }
 {
-    let header = match header_in(&sections.units, sections.types, unit) {
+    let header = match sections.header(unit) {
         Ok(header) => header,
         Err(error) => return no_rows(offset, depth, refusal_status(error)),
     };
@@ -104,14 +97,12 @@ pub(crate) fn read_rows_by<R: Reader>(
     rows: &mut [GimliRow],
 ) -> RowsOutcome
     ensures outcome { let place = at (R.Offset.number offset) depth in
-        let u = header_at R.Offset.limit (section_id sections.now.types) (R.Offset.number unit)
-        (R.view sections.now.units) in
+        let u = unit_of R.Offset.limit R.view sections.now (R.Offset.number unit) in
         let ahead = read_by R.Offset.limit u (table_in table.entry) in
         IsRowsOutcomeIf (HasSteps table.entry.specifications.now) (ahead place) place rows.old
         result.place rows.new result.count result.status }
     ensures resumes { let place = at (R.Offset.number offset) depth in
-        let u = header_at R.Offset.limit (section_id sections.now.types) (R.Offset.number unit)
-        (R.view sections.now.units) in
+        let u = unit_of R.Offset.limit R.view sections.now (R.Offset.number unit) in
         let ahead = read_by R.Offset.limit u (table_in table.entry) in
         HasSteps table.entry.specifications.now →
         Resumes (ahead place) result.count (ahead result.place) }
@@ -119,11 +110,10 @@ pub(crate) fn read_rows_by<R: Reader>(
     ensures further { result.status ≡ more → 0 < length rows.old
         → R.Offset.number offset < result.place.offset }
     ensures row_memory { result.status ≡ row_memory_refused → ⊥ }
-    ensures memory { let id = section_id sections.now.types in
-        let u = header_at R.Offset.limit id (R.Offset.number unit) (R.view sections.now.units) in
+    ensures memory { let u = unit_of R.Offset.limit R.view sections.now (R.Offset.number unit) in
         NoTableRefused u result.status }
 {
-    match header_in(&sections.units, sections.types, unit) {
+    match sections.header(unit) {
         Ok(header) => {
             let opened = entries_by(&header, table, offset);
             unit_rows(&header, opened, offset, depth, rows)
@@ -167,21 +157,10 @@ fn unit_rows<R: Reader, T: ReadEntries<R> + Drop>(
     ensures memory { result.status ≡ memory_refused → ⊥ }
     ensures row_memory { result.status ≡ row_memory_refused → ⊥ }
 {
-    let whole = unit.length_including_self().into_u64();
-    let start = offset.into_u64();
-    if start == whole {
-        return no_rows(offset, depth, END);
+    match start_at(unit, opened, offset, depth) {
+        Ok(mut entries) => fill_rows(&mut entries, depth, rows),
+        Err(status) => no_rows(offset, depth, status),
     }
-    let mut entries = match opened {
-        Ok(entries) => entries,
-        Err(error) => return no_rows(offset, depth, refusal_status(error)),
-    };
-    let left = whole - start;
-    let steps = depth.unsigned_abs() as u64;
-    if left >= 1 << 63 || steps >= (1 << 63) - left {
-        return no_rows(offset, depth, TOO_DEEP);
-    }
-    fill_rows(&mut entries, depth, rows)
 }
 
 // Fills rows, their depths counted from `base`.

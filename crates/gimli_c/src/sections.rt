@@ -5,7 +5,7 @@ ghost use Rattle.gimli_base.specs.declared.common.SectionId.TheVariants.{DebugTy
 ghost use Rattle.gimli_base.specs.Offset.{answer_of};
 ghost use Rattle.gimli_headers.specs.Units.{header_at};
 ghost use Rattle.gimli_units.specs.UnitHeld.{unit_view};
-ghost use Rattle.gimli_c.specs.Units.{at_offset, section_id, units_id};
+ghost use Rattle.gimli_c.specs.Units.{at_offset, section_id, units_id, unit_of};
 
 use gimli_base::{DebugAbbrev, EndianSlice, Endianity, Error, Reader, Result};
 use gimli_headers::{DebugInfo, DebugTypes};
@@ -64,21 +64,19 @@ pub(crate) fn unit_sections<'a, E: Endianity>(
     }
 }
 
-/// The header of the unit at an offset of a section. Its own offset is 0 where the section is
-/// `.debug_types`.
-pub(crate) fn header_in<R: Reader>(
-    units: &R,
-    types: bool,
-    offset: R::Offset,
-) -> Result<UnitHeader<R>>
-    ensures { let number = R.Offset.number offset in
-        answer_of (λ h. at_offset number (unit_view h)) result
-        ≡ header_at R.Offset.limit (section_id types) number (R.view units.now) }
-{
-    if types {
-        type_header(units, offset)
-    } else {
-        DebugInfo::from(units.copy()).header_from_offset(DebugInfoOffset(offset))
+impl<R: Reader> UnitSections<R> {
+    /// The header of the unit at an offset. Its own offset is 0 where the section is
+    /// `.debug_types`.
+    pub(crate) fn header(&self, offset: R::Offset) -> Result<UnitHeader<R>>
+        ensures { let number = R.Offset.number offset in
+            answer_of (λ h. at_offset number (unit_view h)) result
+            ≡ unit_of R.Offset.limit R.view self.now number }
+    {
+        if self.types {
+            type_header(&self.units, offset)
+        } else {
+            DebugInfo::from(self.units.copy()).header_from_offset(DebugInfoOffset(offset))
+        }
     }
 }
 

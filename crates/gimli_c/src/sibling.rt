@@ -10,15 +10,14 @@ ghost use Rattle.gimli_units.specs.UnitHeld.{unit_view};
 ghost use Rattle.gimli_units.specs.UnitRows.{IsHonestFrom, start_view};
 ghost use Rattle.gimli_units.specs.CursorModel.{IsHonestCursor, IsRefused};
 ghost use Rattle.gimli_base.specs.Reading.{UnlessMemory};
-ghost use Rattle.gimli_headers.specs.Units.{header_at};
-ghost use Rattle.gimli_c.specs.Units.{section_id};
+ghost use Rattle.gimli_c.specs.Units.{unit_of, declarations_of};
 ghost use Rattle.gimli_c.specs.Status.{more, memory_refused, row_memory_refused, UnlessRefused};
 ghost use Rattle.gimli_c.specs.Siblings.{place_sibling, unit_sibling, read_sibling, AreHonestIn};
 ghost use Rattle.gimli_c.specs.Memory.{TableMemory, DeclaredTakesMemoryFrom, RowsTakeMemory};
 ghost use Rattle.gimli_c.specs.Memory.{TakesMemoryAhead};
 
 use crate::rows::GimliRow;
-use crate::sections::{UnitSections, header_in};
+use crate::sections::UnitSections;
 use crate::status::{END, MORE, refusal_status, row_refused};
 use gimli_base::{Abbreviations, DebugAbbrev, Reader, ReaderOffset, Result, Section};
 use gimli_units::{EntriesCursor, UnitHeader, UnitOffset};
@@ -34,25 +33,22 @@ pub(crate) fn find_sibling<R: Reader, A: Allocator + Copy>(
     follows: bool,
     row: &mut GimliRow,
 ) -> u32
-    ensures outcome { let id = section_id sections.now.types in
-        let read = header_at R.Offset.limit id (R.Offset.number unit) (R.view sections.now.units) in
-        let declarations = ⟦<DebugAbbrev<R> as Section<R>>⟧.content sections.now.abbreviations in
+    ensures outcome { let u = unit_of R.Offset.limit R.view sections.now (R.Offset.number unit) in
+        let declarations = declarations_of R.view sections.now in
         let number = R.Offset.number offset in
-        (follows ≡ true → AreHonestIn R.Offset.limit read declarations number) →
+        (follows ≡ true → AreHonestIn R.Offset.limit u declarations number) →
         UnlessRefused result ((result, row.new)
-        ≡ read_sibling R.Offset.limit read declarations number depth row.old) }
+        ≡ read_sibling R.Offset.limit u declarations number depth row.old) }
     ensures kept { (result ≡ more → ⊥) → row.new ≡ row.old }
     ensures after { result ≡ more → R.Offset.number offset < row.new.offset }
-    ensures memory { let id = section_id sections.now.types in
-        let read = header_at R.Offset.limit id (R.Offset.number unit) (R.view sections.now.units) in
-        let declarations = ⟦<DebugAbbrev<R> as Section<R>>⟧.content sections.now.abbreviations in
-        TableMemory read declarations result }
-    ensures row_memory { let id = section_id sections.now.types in
-        let read = header_at R.Offset.limit id (R.Offset.number unit) (R.view sections.now.units) in
-        let declarations = ⟦<DebugAbbrev<R> as Section<R>>⟧.content sections.now.abbreviations in
-        result ≡ row_memory_refused → RowsTakeMemory read declarations (R.Offset.number offset) }
+    ensures memory { let u = unit_of R.Offset.limit R.view sections.now (R.Offset.number unit) in
+        TableMemory u (declarations_of R.view sections.now) result }
+    ensures row_memory { let number = R.Offset.number unit in
+        let u = unit_of R.Offset.limit R.view sections.now number in
+        let declarations = declarations_of R.view sections.now in
+        result ≡ row_memory_refused → RowsTakeMemory u declarations (R.Offset.number offset) }
 {
-    let header = match header_in(&sections.units, sections.types, unit) {
+    let header = match sections.header(unit) {
         Ok(header) => header,
         Err(error) => return refusal_status(error),
     };

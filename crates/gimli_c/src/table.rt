@@ -1,12 +1,10 @@
 //! Tables of abbreviations in a caller's buffers.
 
 ghost use Rattle.std.specs.Prelude.{◌≡◌, ◌+◌, ◌<◌, ◌^◌, length, map, [], take, drop, IfOk, IfErr};
-ghost use Rattle.std.specs.Option.{option_map};
-ghost use Rattle.gimli_base.specs.Offset.{answer_of};
-ghost use Rattle.gimli_base.specs.Reading.{read_of};
-ghost use Rattle.gimli_base.specs.Abbreviations.{specification_at, specifications_at};
-ghost use Rattle.gimli_base.specs.Abbreviations.{declaration_at, declarations_at};
-ghost use Rattle.gimli_c.specs.Tables.{specification_in, declared_in, count_of, have_room, IsTableAt};
+ghost use Rattle.gimli_base.specs.Abbreviations.{specifications_at, declaration_at};
+ghost use Rattle.gimli_base.specs.Abbreviations.{declarations_at};
+ghost use Rattle.gimli_c.specs.Tables.{specification_in, declared_in, count_of, have_room};
+ghost use Rattle.gimli_c.specs.Tables.{IsTableAt};
 ghost use Rattle.gimli_c.specs.Lists.{section_view};
 ghost use Rattle.gimli_c.specs.TableReads.{WroteDeclared, ReadNext, IsScanned};
 ghost use Rattle.gimli_c.specs.TableReads.{OwnSteps};
@@ -38,13 +36,13 @@ pub struct GimliDeclaration {
 #[repr(C)]
 #[derive(Clone, Copy, Debug)]
 pub struct GimliSpecification {
-    /// The number that the form implicit_const has here; of any other form it tells nothing.
+    /// The number that the form implicit_const has here; with any other form it says nothing.
     pub constant: i64,
     /// The name.
     pub name: u16,
     /// The form.
     pub form: u16,
-    /// So many values from its own on are passed together; with no values it tells nothing.
+    /// So many values from its own on are passed together; with no values it says nothing.
     pub step: Step,
 }
 
@@ -69,6 +67,18 @@ pub struct GimliCounted {
 }
 
 impl GimliSpecification {
+    // A declared attribute of the library, with a step of no values.
+    fn of(specification: AttributeSpecification) -> GimliSpecification
+        ensures { specification_in result ≡ specification }
+    {
+        GimliSpecification {
+            constant: specification.implicit_const_value().unwrap_or(0),
+            name: specification.name().0,
+            form: specification.form().0,
+            step: Step::new(),
+        }
+    }
+
     /// The same as the library has it.
     #[inline(always)]
     pub(crate) fn specification(&self) -> AttributeSpecification
@@ -112,7 +122,7 @@ pub(crate) fn part_of(
     &after[..count]
 }
 
-/// What a reading of a table tells.
+/// What reading a table answers.
 #[derive(Clone, Copy)]
 pub(crate) struct TableOutcome {
     pub(crate) status: u32,
@@ -260,9 +270,9 @@ fn read_specifications<R: Reader>(
     ensures long { length specifications.new ≡ length specifications.old }
 {
     let mut at = from;
-    'each: while let Some(specification) = read_specification(input)? {
+    'each: while let Some(specification) = AttributeSpecification::read(input)? {
         if at < specifications.len() {
-            specifications[at] = specification;
+            specifications[at] = GimliSpecification::of(specification);
         }
         at += 1;
     }
@@ -290,30 +300,4 @@ fn put_steps(specifications: &mut [GimliSpecification])
         }
         specifications[index].step = step;
     }
-}
-
-// The next declared attribute, or none where two zeros end the list; where it is refused, the input
-// is left anywhere.
-#[inline]
-#[tactic(auto, unfolding(gimli_base::specs::Abbreviations::specification_at))]
-fn read_specification<R: Reader>(input: &mut R) -> Result<Option<GimliSpecification>>
-    ensures { read_of (answer_of (option_map specification_in) result) (R.view input.new)
-        ≡ specification_at (R.view input.old) }
-{
-    let name = input.read_uleb128_u16()?;
-    let form = input.read_uleb128_u16()?;
-    let mut constant = 0;
-    match (name, form) {
-        (0, 0) => return Ok(None),
-        (0, _) => return Err(Error::AttributeNameZero),
-        (_, 0) => return Err(Error::AttributeFormZero),
-        (_, 0x21) => constant = input.read_sleb128()?,
-        _ => {}
-    }
-    Ok(Some(GimliSpecification {
-        constant,
-        name,
-        form,
-        step: Step::new(),
-    }))
 }

@@ -1,12 +1,11 @@
 //! Units, as numbers.
 
 ghost use Rattle.std.specs.Prelude.{◌≡◌};
-ghost use Rattle.gimli_headers.specs.Units.{header_at};
 ghost use Rattle.gimli_units.specs.UnitHeld.{unit_view};
 ghost use Rattle.gimli_units.specs.UnitKind.{map_type};
-ghost use Rattle.gimli_c.specs.Units.{section_id, at_offset, unit_outcome, unit_numbers, type_numbers};
+ghost use Rattle.gimli_c.specs.Units.{at_offset, unit_of, unit_outcome, unit_numbers, type_numbers};
 
-use crate::sections::{UnitSections, header_in};
+use crate::sections::UnitSections;
 use crate::status::{END, MORE, refusal_status};
 use gimli_base::{Format, Reader, ReaderOffset};
 use gimli_units::{UnitHeader, UnitType};
@@ -51,16 +50,14 @@ pub(crate) fn read_unit<R: Reader>(
     offset: R::Offset,
     unit: &mut GimliUnit,
 ) -> u32
-    ensures { let section = R.view sections.now.units in
-        let number = R.Offset.number offset in
-        let id = section_id sections.now.types in
-        (result, unit.new)
-        ≡ unit_outcome section number (header_at R.Offset.limit id number section) unit.old }
+    ensures { let number = R.Offset.number offset in
+        let read = unit_of R.Offset.limit R.view sections.now number in
+        (result, unit.new) ≡ unit_outcome (R.view sections.now.units) number read unit.old }
 {
     if offset.into_u64() == sections.units.len().into_u64() {
         return END;
     }
-    match header_in(&sections.units, sections.types, offset) {
+    match sections.header(offset) {
         Ok(header) => {
             *unit = numbers_of(&header, offset);
             MORE

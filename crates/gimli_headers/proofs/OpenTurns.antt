@@ -109,12 +109,12 @@ module _ (end : ℕ) (opens : List OpenRow) (r : Row) (rest : List Row) where
       }) rest ≡ judgement end (record { opens = opens; first = None }) (r ∷ rest)
   entry_opened t entry rise some =
       let x : OpenRow = record { offset = r.offset; depth = r.depth; target = t } in
-      let leads : first_false end (r ∷ rest)
+      let to_sibling : first_false end (r ∷ rest)
       ≡ (if misses t (past_closer r.depth rest) then Some r.offset else first_false end rest) =
       ap
       (λ (u : Option ℕ). if (elim u [ None ↦ false | Some t ↦ misses t (past_closer r.depth rest) ])
       then Some r.offset else first_false end rest) some in
-      open_last opens x rest (first_false end rest) ∙ ap (first_open opens rest) (sym leads)
+      open_last opens x rest (first_false end rest) ∙ ap (first_open opens rest) (sym to_sibling)
       ∙ sym (entry_on (first_false end (r ∷ rest)) entry rise)
 
   -- a null that closes none

@@ -71,7 +71,7 @@ pub opened_rise : (end : ℕ) (r : Row) (xs : List OpenRow) (first : Option ℕ)
       opens = xs ++ record { offset = r.offset; depth = r.depth; target = t } ∷ [];
       first = first;
     } → Rise (depth_after r.entry r.depth) new.opens
-opened_rise end r xs first t new entry leads h is =
+opened_rise end r xs first t new entry to_sibling h is =
     rw is
     (rise_in (depth_after r.entry r.depth) xs
     (record { offset = r.offset; depth = r.depth; target = t }) (deeper r.entry.has_children refl)
@@ -82,7 +82,7 @@ opened_rise end r xs first t new entry leads h is =
     deeper true flag = rw (entry, flag) (omega (arith, ints))
     deeper false flag =
         let none : usable_target end r ≡ None = rw (entry, flag) refl in
-        let e : ◌≡◌ {A = Option ℕ} None (Some t) = sym none ∙ leads in absurd (cc)
+        let e : ◌≡◌ {A = Option ℕ} None (Some t) = sym none ∙ to_sibling in absurd (cc)
 
 pub on_ok : {A B : Type 0} → (r : Result (Unit {0}) Error) → (A → B) → OnOk r A → OnOk r B
 on_ok (Ok u) f h = f h
@@ -118,10 +118,10 @@ module _ (end : ℕ) (opens : List OpenRow) (r : Row) (rest : List Row)
         first = first;
       }
       → judgement end new rest ≡ judgement end (record { opens = opens; first = first }) (r ∷ rest)
-  opened_on None t new h leads is =
+  opened_on None t new h to_sibling is =
       ap (λ (n : Checked). judgement end n rest) is
-      ∙ entry_opened end opens r rest t entry rise leads
-  opened_on (Some o) t new h leads is = absurd (cc)
+      ∙ entry_opened end opens r rest t entry rise to_sibling
+  opened_on (Some o) t new h to_sibling is = absurd (cc)
 
 -- what is answered stays, where a row leaves it
 pub turn_judged : (n end next_end : ℕ) (old new : Checked) (r : Row) (rows rest : List Row)

@@ -1,3 +1,4 @@
+pub mod Sections
 pub mod Header
 pub mod Units
 pub mod OpenRows

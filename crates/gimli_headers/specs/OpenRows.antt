@@ -39,7 +39,7 @@ pub record IsPassedRow {O : Type 0} (g : O → ℕ) (x : Passed O) (after : ℕ)
   pub offset : r.offset ≡ g x.offset.0
   pub next : r.next ≡ after
   pub depth : r.depth ≡ x.depth
-  pub leads : target (kind_of r.entry) ≡ option_map (λ o. g o.0) x.sibling
+  pub to_sibling : target (kind_of r.entry) ≡ option_map (λ o. g o.0) x.sibling
 
 -- the depth of the outermost of these, or one that is given
 abbrev pub outermost_depth : ℤ → List OpenRow → ℤ

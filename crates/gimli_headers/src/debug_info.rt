@@ -15,6 +15,7 @@ ghost use Rattle.gimli_base.specs.Reading.{transpose};
 ghost use Rattle.gimli_headers.specs.Units.{IsNextUnit, units_ahead, units_of, before_units, Tiles};
 ghost use Rattle.gimli_headers.specs.Units.{IsHeaderAt};
 ghost use Rattle.gimli_units.specs.UnitHeld.{unit_view};
+ghost use Rattle.gimli_headers.specs.Sections.{info_content};
 
 use crate::parse::parse_unit_header;
 use crate::units::next_header;
@@ -86,7 +87,7 @@ impl<R: Reader> DebugInfo<R> {
     pub fn header_from_offset(&self, offset: DebugInfoOffset<R::Offset>) -> Result<UnitHeader<R>>
         ensures value { answer_of unit_view result
             ≡ header_at R.Offset.limit InfoSection (R.Offset.number offset.0)
-            (⟦<DebugInfo<R> as Section<R>>⟧.content self.now) }
+            (info_content R.view self.now) }
         ensures size { IfOk result (λ u. size_of_header (unit_view u) ≡ header_size (unit_view u)) }
     {
         let mut input = self.section.copy();
@@ -102,14 +103,14 @@ impl<R: Reader> DebugInfo<R> {
     /// the one at its offset.
     pub fn units(&self) -> DebugInfoUnitHeadersIter<R>
         ensures begin { result
-            ≡ record { rest = ⟦<DebugInfo<R> as Section<R>>⟧.content self.now; offset = 0 } }
+            ≡ record { rest = info_content R.view self.now; offset = 0 } }
         ensures tiles { Tiles R.Offset.limit InfoSection
-            (⟦<DebugInfo<R> as Section<R>>⟧.content self.now) }
+            (info_content R.view self.now) }
         ensures found { All
             (IsHeaderAt R.Offset.limit InfoSection
-            (⟦<DebugInfo<R> as Section<R>>⟧.content self.now))
+            (info_content R.view self.now))
             (units_of R.Offset.limit InfoSection
-            (⟦<DebugInfo<R> as Section<R>>⟧.content self.now)).items }
+            (info_content R.view self.now)).items }
     {
         DebugInfoUnitHeadersIter {
             input: self.section.copy(),

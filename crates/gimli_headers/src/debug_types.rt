@@ -14,6 +14,7 @@ ghost use Rattle.gimli_headers.specs.Units.{UnitsPlace, next_unit, IsNextUnit};
 ghost use Rattle.gimli_base.specs.Reading.{transpose};
 ghost use Rattle.gimli_headers.specs.Units.{units_ahead, units_of, before_units, Tiles, IsHeaderAt};
 ghost use Rattle.gimli_units.specs.UnitHeld.{unit_view};
+ghost use Rattle.gimli_headers.specs.Sections.{types_content};
 
 use crate::units::next_header;
 use gimli_base::{EndianSlice, Endianity, Reader, ReaderOffset, Result, Section, SectionId};
@@ -80,14 +81,14 @@ impl<R: Reader> DebugTypes<R> {
     /// the one at its offset.
     pub fn units(&self) -> DebugTypesUnitHeadersIter<R>
         ensures begin { result
-            ≡ record { rest = ⟦<DebugTypes<R> as Section<R>>⟧.content self.now; offset = 0 } }
+            ≡ record { rest = types_content R.view self.now; offset = 0 } }
         ensures tiles { Tiles R.Offset.limit TypesSection
-            (⟦<DebugTypes<R> as Section<R>>⟧.content self.now) }
+            (types_content R.view self.now) }
         ensures found { All
             (IsHeaderAt R.Offset.limit TypesSection
-            (⟦<DebugTypes<R> as Section<R>>⟧.content self.now))
+            (types_content R.view self.now))
             (units_of R.Offset.limit TypesSection
-            (⟦<DebugTypes<R> as Section<R>>⟧.content self.now)).items }
+            (types_content R.view self.now)).items }
     {
         DebugTypesUnitHeadersIter {
             input: self.section.copy(),

@@ -58,8 +58,8 @@ fn usable_target<Offset: ReaderOffset>(
     end: UnitOffset<Offset>,
 ) -> Option<UnitOffset<Offset>>
     ensures { let number = Offset.number in
-        let leads = option_map (λ o. number o.0) sibling in
-        option_map (λ o. number o.0) result ≡ within (number after.0) (number end.0) leads }
+        let to_sibling = option_map (λ o. number o.0) sibling in
+        option_map (λ o. number o.0) result ≡ within (number after.0) (number end.0) to_sibling }
 {
     let target = sibling?;
     let number = target.0.into_u64();

@@ -1,3 +1,4 @@
+pub mod Sections
 pub mod ListsHeader
 pub mod Aranges
 pub mod ArangeSets

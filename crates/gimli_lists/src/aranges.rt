@@ -13,6 +13,7 @@ ghost use Rattle.gimli_lists.specs.ArangeSets.{ArangeSet, SetsPlace, fields_size
 ghost use Rattle.gimli_lists.specs.ArangeSets.{set_fields_at, set_at, set_from, next_set};
 ghost use Rattle.gimli_lists.specs.ArangeSets.{sets_ahead, sets_of, IsNextSet};
 ghost use Rattle.gimli_lists.specs.Aranges.{ArangesPlace};
+ghost use Rattle.gimli_lists.specs.Sections.{aranges_content};
 
 use gimli_base::{
     DebugArangesOffset, Encoding, EndianSlice, Endianity, Error, Format, Reader, ReaderOffset,
@@ -84,9 +85,9 @@ impl<R: Reader> DebugAranges<R> {
     /// The sets of the section, from its beginning on: each begins where the one before ends.
     pub fn headers(&self) -> ArangeHeaderIter<R>
         ensures begin { result
-            ≡ record { rest = ⟦<DebugAranges<R> as Section<R>>⟧.content self.now; offset = 0 } }
+            ≡ record { rest = aranges_content R.view self.now; offset = 0 } }
         ensures all { sets_ahead R.Offset.limit result
-            ≡ sets_of R.Offset.limit (⟦<DebugAranges<R> as Section<R>>⟧.content self.now) }
+            ≡ sets_of R.Offset.limit (aranges_content R.view self.now) }
     {
         ArangeHeaderIter {
             input: self.section.copy(),
@@ -102,7 +103,7 @@ impl<R: Reader> DebugAranges<R> {
     pub fn header(&self, offset: DebugArangesOffset<R::Offset>) -> Result<ArangeHeader<R>>
         ensures { answer_of ⟦<ArangeHeader<R> as HasArangeSet>⟧.set result
             ≡ set_from R.Offset.limit (R.Offset.number offset.0)
-            (⟦<DebugAranges<R> as Section<R>>⟧.content self.now) }
+            (aranges_content R.view self.now) }
     {
         let mut input = self.section.copy();
         input.skip(offset.0)?;

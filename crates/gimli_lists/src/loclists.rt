@@ -9,6 +9,7 @@ ghost use Rattle.gimli_base.specs.Offset.{answer_of};
 ghost use Rattle.gimli_base.specs.Reading.{is_size};
 ghost use Rattle.gimli_lists.specs.Locations.{location_format, location_of};
 ghost use Rattle.gimli_lists.specs.Places.{lookup_in, list_offset, raw_list_at, list_place_at};
+ghost use Rattle.gimli_base.specs.Sections.{addr_content};
 
 mod debug_loc;
 mod debug_loclists;
@@ -163,7 +164,7 @@ impl<R: Reader> LocationLists<R> {
         requires { IsTrue (is_size unit_encoding.address_size) }
         ensures { result ≡ list_place_at (location_format false unit_encoding.version)
             (R.Offset.number offset.0) unit_encoding base_address
-            (⟦<DebugAddr<R> as Section<R>>⟧.content debug_addr.now)
+            (addr_content R.view debug_addr.now)
             (R.Offset.number debug_addr_base.0) (⟦<LocationLists<R> as HasLists>⟧.lists self.now) }
     {
         let raw = self.raw_locations(offset, unit_encoding)?;
@@ -185,7 +186,7 @@ impl<R: Reader> LocationLists<R> {
         requires { IsTrue (is_size unit_encoding.address_size) }
         ensures { result ≡ list_place_at (location_format true unit_encoding.version)
             (R.Offset.number offset.0) unit_encoding base_address
-            (⟦<DebugAddr<R> as Section<R>>⟧.content debug_addr.now)
+            (addr_content R.view debug_addr.now)
             (R.Offset.number debug_addr_base.0) (⟦<LocationLists<R> as HasLists>⟧.lists self.now) }
     {
         let raw = self.raw_locations_dwo(offset, unit_encoding)?;

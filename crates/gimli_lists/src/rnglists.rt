@@ -13,6 +13,7 @@ ghost use Rattle.gimli_lists.specs.Places.{lookup_in, format_of, list_offset, ra
 ghost use Rattle.gimli_lists.specs.Places.{list_place_at};
 ghost use Rattle.gimli_lists.specs.Ranges.{resolved_of};
 ghost use Rattle.gimli_lists.specs.Resolved.{resolved_if_kept, located_from};
+ghost use Rattle.gimli_base.specs.Sections.{addr_content};
 
 mod debug_ranges;
 mod debug_rnglists;
@@ -153,7 +154,7 @@ impl<R: Reader> RangeLists<R> {
         requires { IsTrue (is_size unit_encoding.address_size) }
         ensures { result ≡ list_place_at (format_of unit_encoding.version)
             (R.Offset.number offset.0) unit_encoding base_address
-            (⟦<DebugAddr<R> as Section<R>>⟧.content debug_addr.now)
+            (addr_content R.view debug_addr.now)
             (R.Offset.number debug_addr_base.0) (⟦<RangeLists<R> as HasLists>⟧.lists self.now) }
     {
         let raw = self.raw_ranges(offset, unit_encoding)?;

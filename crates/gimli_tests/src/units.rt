@@ -4,6 +4,6 @@ mod attribute;
 mod entry;
 mod header;
 mod hostile;
+mod reader_calls;
 mod samples;
 mod section;
-mod told;

@@ -16,7 +16,7 @@ use Rattle.gimli_units.specs.Value.{Value}
 use Rattle.gimli_units.specs.Form.{direct_at, value_at, value_in, form_at}
 use Rattle.gimli_units.specs.Entry.{Attr, with_value, attribute_at, attributes_at}
 use Rattle.gimli_units.specs.Layout.{Layout, layout_in, layout_of, forms}
-use Rattle.gimli_units.specs.Taking.{made_at, is_variable, is_fixed, is_among}
+use Rattle.gimli_units.specs.Taking.{read_into, is_variable, is_fixed, is_among}
 use Rattle.gimli_units.specs.Taking.{has_fixed_size, has_variable_size}
 use Rattle.gimli_units.proofs.Chains.{direct_value, number_stands}
 
@@ -111,7 +111,7 @@ made_twice f s (Err e) = refl
 -- what is made of an attribute whose form is not indirect
 pub made_direct : {A : Type 0} → (f : Attr → A) (limit : ℕ) (e : Encoding) (s : Specification)
     (v : View) → (s.form.0 ≡ 0x16 → ⊥) → is_some s.constant ≡ (s.form.0 == 0x21)
-    → made_at f limit e s s.form.0 v ≡ map_read f (attribute_at limit e s v)
+    → read_into f limit e s s.form.0 v ≡ map_read f (attribute_at limit e s v)
 unfolding attribute_at
 made_direct f limit e s v ne h =
     ap (λ (r : Reads Value). map_read (λ x. f (with_value s x)) r)
@@ -122,7 +122,7 @@ made_direct f limit e s v ne h =
 pub made_chained : {A : Type 0} → (f : Attr → A) (limit : ℕ) (e : Encoding) (s : Specification)
     (v : View) (form : ℕ) (w : View) → is_some s.constant ≡ (s.form.0 == 0x21)
     → Ok (form, w) ≡ form_at s.form.0 v
-    → made_at f limit e s form w ≡ map_read f (attribute_at limit e s v)
+    → read_into f limit e s form w ≡ map_read f (attribute_at limit e s v)
 unfolding attribute_at value_at
 made_chained f limit e s v form w h chain =
     let whole : direct_at limit e s.name.0 s.constant form w

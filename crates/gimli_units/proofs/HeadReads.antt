@@ -9,7 +9,7 @@ use Rattle.gimli_base.specs.Reading.{Reads, map_read}
 use Rattle.gimli_base.specs.Table.{codes_of}
 use Rattle.gimli_base.specs.Abbreviations.{Declaration, Map}
 use Rattle.gimli_units.specs.Entry.{Entry, abbreviation_at}
-use Rattle.gimli_units.specs.Head.{Head, head, head_of, led_head, head_and_sibling, IsDeclaredAt}
+use Rattle.gimli_units.specs.Head.{Head, head, head_of, head_with_sibling, head_and_sibling, IsDeclaredAt}
 use Rattle.gimli_units.specs.Kind.{kind_of}
 use Rattle.gimli_units.specs.Honest.{target}
 use Rattle.gimli_units.specs.RawPlace.{RawPlace, depth_read, depth_after}
@@ -75,24 +75,24 @@ entry_shorter limit p o w depth h =
 pub record HeadOf (limit : ℕ) (p : RawPlace) (o : Option Declaration) (sibling : Option ℕ) (w : View)
     (depth : ℤ) : Type 0 where
   pub of : EntryOf limit p o w depth
-  pub leads : sibling ≡ target (kind_of of.entry)
+  pub to_sibling : sibling ≡ target (kind_of of.entry)
 
 pub entry_of_head : (limit : ℕ) (p : RawPlace) (o : Option Declaration) (sibling : Option ℕ) (w : View)
-    (depth : ℤ) → Ok (led_head o sibling, w) ≡ map_read head_and_sibling (next_of limit p p.rest)
+    (depth : ℤ) → Ok (head_with_sibling o sibling, w) ≡ map_read head_and_sibling (next_of limit p p.rest)
     → IfSome o (λ d. d.tag.0 ≢ 0) → depth ≡ depth_read o p.depth
     → HeadOf limit p o sibling w depth
 entry_of_head limit p o sibling w depth read some deep =
     let h = entry_of limit p o w depth (alone (next_of limit p p.rest) read) some deep in
-    let led : Ok (led_head o sibling, w) ≡ map_read head_and_sibling (Ok (h.entry, w)) =
+    let led : Ok (head_with_sibling o sibling, w) ≡ map_read head_and_sibling (Ok (h.entry, w)) =
     read ∙ ap (map_read head_and_sibling) (sym h.reads) in
-    let both : ◌≡◌ {A = (Head × Option ℕ) × View} (led_head o sibling, w)
+    let both : ◌≡◌ {A = (Head × Option ℕ) × View} (head_with_sibling o sibling, w)
     (head_and_sibling h.entry, w) = cc in
-    record { of = h; leads = ap (λ (q : (Head × Option ℕ) × View). q.0.1) both }
+    record { of = h; to_sibling = ap (λ (q : (Head × Option ℕ) × View). q.0.1) both }
   where
-    alone : (r : Reads Entry) → Ok (led_head o sibling, w) ≡ map_read head_and_sibling r
+    alone : (r : Reads Entry) → Ok (head_with_sibling o sibling, w) ≡ map_read head_and_sibling r
         → Ok (head_of o, w) ≡ map_read head r
     alone (Ok x) h =
-        let both : ◌≡◌ {A = (Head × Option ℕ) × View} (led_head o sibling, w)
+        let both : ◌≡◌ {A = (Head × Option ℕ) × View} (head_with_sibling o sibling, w)
         (head_and_sibling x.0, x.1) = cc in
         ap (λ (q : (Head × Option ℕ) × View). Ok (q.0.0, q.1)) both
     alone (Err e) h = absurd (cc)

@@ -57,7 +57,7 @@ honest_by : (end : ℕ) (k : ℤ) (rows : List Row) → AreHonest end rows
     → AreHonest end (map (deeper_by k) rows)
 honest_by end k [] h = tt
 honest_by end k (r ∷ rest) h =
-    (λ t leads. past_by r.depth k rest ∙ h.0 t leads, honest_by end k rest h.1)
+    (λ t to_sibling. past_by r.depth k rest ∙ h.0 t to_sibling, honest_by end k rest h.1)
 
 -- rows that are honest are so from every depth
 pub honest_from_depth : (next : View → Reads Entry) (end : ℕ) (v : View) (depth other : ℤ)

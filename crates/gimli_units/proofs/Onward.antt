@@ -211,8 +211,8 @@ onward_follow start here sought o = cases (int_le sought here.depth) (followed_t
               here.follows;
           reads = here.reads;
         })
-    goes t leads =
-        let b = followed_bounds here t leads in
+    goes t to_sibling =
+        let b = followed_bounds here t to_sibling in
         let l = jump-later here t o.sound.fits b.3 in
         let shorter = IsLater-length 0 here.raw.rest (view_from here.raw t) l in
         let few = o.few in
@@ -251,9 +251,9 @@ onward_follow start here sought o = cases (int_le sought here.depth) (followed_t
               here.follows;
           reads = here.reads;
         })
-    cases false t leads = stays
-    cases true None leads = stays
-    cases true (Some t) leads = goes t leads
+    cases false t to_sibling = stays
+    cases true None to_sibling = stays
+    cases true (Some t) to_sibling = goes t to_sibling
 
 -- what a cursor finds from an offset on is what its start finds there
 pub same_view : (start here : CursorView) (offset : ℕ) → Onward start here

@@ -7,7 +7,7 @@ use Rattle.gimli_base.specs.declared.error.Error.{Error}
 use Rattle.gimli_base.specs.View.{View}
 use Rattle.gimli_base.specs.Reading.{map_read}
 use Rattle.gimli_base.specs.Abbreviations.{Declaration}
-use Rattle.gimli_units.specs.Head.{led_head, head_and_sibling}
+use Rattle.gimli_units.specs.Head.{head_with_sibling, head_and_sibling}
 use Rattle.gimli_units.specs.Kind.{kind_of}
 use Rattle.gimli_units.specs.Honest.{target, within}
 use Rattle.gimli_units.specs.RawPlace.{RawPlace, next_offset_of, depth_read}
@@ -41,7 +41,7 @@ module _ (limit : ℕ) (sought : ℤ) (old : CursorView) where
   -- the entry is left for what is after it
   pub passed_stays : (raw : RawPlace) (o : Option Declaration) (sibling : Option ℕ)
       → (length old.raw.rest.bytes ≡ 0 → ⊥)
-      → Ok (led_head o sibling, raw.rest)
+      → Ok (head_with_sibling o sibling, raw.rest)
       ≡ map_read head_and_sibling (next_of limit old.raw old.raw.rest)
       → IfSome o (λ d. d.tag.0 ≢ 0) → raw ≡ stands_at old.raw raw.rest raw.depth
       → raw.depth ≡ depth_read o old.raw.depth
@@ -51,7 +51,7 @@ module _ (limit : ℕ) (sought : ℤ) (old : CursorView) where
       let h = entry_of_head limit old.raw o sibling raw.rest raw.depth read tagged after in
       let mid : CursorView = after_entry old h.of.entry raw.rest in
       let stays = no_target (int_le sought old.raw.depth) old.follows (target (kind_of h.of.entry))
-      (next_offset_of mid.raw) mid.raw.end (λ f. sym h.leads ∙ none f) in
+      (next_offset_of mid.raw) mid.raw.end (λ f. sym h.to_sibling ∙ none f) in
       let here : raw ≡ mid.raw = unit ∙ ap (λ d. stands_at old.raw raw.rest d) h.of.after in
       let there : raw ≡ stands_if mid.raw
       (if int_le sought old.raw.depth
@@ -65,19 +65,19 @@ module _ (limit : ℕ) (sought : ℤ) (old : CursorView) where
   -- the entry is left for where it leads
   pub passed_goes : (raw mid_raw : RawPlace) (o : Option Declaration) (sibling : Option ℕ) (t : ℕ)
       → (length old.raw.rest.bytes ≡ 0 → ⊥)
-      → Ok (led_head o sibling, mid_raw.rest)
+      → Ok (head_with_sibling o sibling, mid_raw.rest)
       ≡ map_read head_and_sibling (next_of limit old.raw old.raw.rest)
       → IfSome o (λ d. d.tag.0 ≢ 0) → mid_raw ≡ stands_at old.raw mid_raw.rest mid_raw.depth
       → mid_raw.depth ≡ depth_read o old.raw.depth
       → (old.follows && int_le sought old.raw.depth) ≡ true → sibling ≡ Some t
       → raw ≡ stands_if mid_raw (within (next_offset_of mid_raw) mid_raw.end (Some t)) old.raw.depth
       → HasPassed limit sought old (Ok tt) (passed_over old raw)
-  passed_goes raw mid_raw o sibling t some read tagged unit after followed leads goes =
+  passed_goes raw mid_raw o sibling t some read tagged unit after followed to_sibling goes =
       let h = entry_of_head limit old.raw o sibling mid_raw.rest mid_raw.depth read tagged after in
       let mid : CursorView = after_entry old h.of.entry mid_raw.rest in
       let here : mid_raw ≡ mid.raw = unit ∙ ap (λ d. stands_at old.raw mid_raw.rest d) h.of.after in
       let one = one_target (int_le sought old.raw.depth) old.follows (target (kind_of h.of.entry))
-      (next_offset_of mid.raw) mid.raw.end t followed (sym h.leads ∙ leads) in
+      (next_offset_of mid.raw) mid.raw.end t followed (sym h.to_sibling ∙ to_sibling) in
       let there : raw ≡ stands_if mid.raw
       (if int_le sought old.raw.depth
       then (if old.follows
@@ -91,7 +91,7 @@ module _ (limit : ℕ) (sought : ℤ) (old : CursorView) where
 
   -- what is left has fewer bytes
   pub head_shorter : (o : Option Declaration) (sibling : Option ℕ) (w : View) (depth : ℤ)
-      → Ok (led_head o sibling, w) ≡ map_read head_and_sibling (next_of limit old.raw old.raw.rest)
+      → Ok (head_with_sibling o sibling, w) ≡ map_read head_and_sibling (next_of limit old.raw old.raw.rest)
       → IfSome o (λ d. d.tag.0 ≢ 0) → depth ≡ depth_read o old.raw.depth
       → length w.bytes < length old.raw.rest.bytes
   head_shorter o sibling w depth read tagged after =

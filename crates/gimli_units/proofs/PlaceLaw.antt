@@ -98,9 +98,9 @@ module _ (limit : ℕ) where
   -- a null leads nowhere
   pub null_honest : (c : CursorView) (rows : List Row) → is_null c.entry ≡ true
       → IsHonest c.raw.end (last_row c) rows
-  null_honest c rows is_none t leads =
+  null_honest c rows is_none t to_sibling =
       let nowhere : usable_target c.raw.end (last_row c) ≡ None = rw is_none refl in
-      let e : ◌≡◌ {A = Option ℕ} None (Some t) = sym nowhere ∙ leads in absurd (cc)
+      let e : ◌≡◌ {A = Option ℕ} None (Some t) = sym nowhere ∙ to_sibling in absurd (cc)
 
   pub honest_start : (c : CursorView) → is_null c.entry ≡ true
       → AreHonest c.raw.end (rows_of limit c.raw).rows → IsHonestCursor limit c

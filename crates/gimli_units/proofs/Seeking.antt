@@ -36,7 +36,7 @@ use Rattle.gimli_units.proofs.Walking.{place_on, refused_place}
 -- where a reference is followed, the entry has children: the depth after it is one more
 parent_depth : (c : CursorView) (t : ℕ) → usable_target c.raw.end (last_row c) ≡ Some t
     → (is_null c.entry ≡ false) × (depth_after c.entry c.depth ≡ c.depth +ℤ pos 1)
-parent_depth c t leads = cases (is_null c.entry) refl c.entry.has_children refl leads
+parent_depth c t to_sibling = cases (is_null c.entry) refl c.entry.has_children refl to_sibling
   where
     cases : (b : Bool) → is_null c.entry ≡ b → (flag : Bool) → c.entry.has_children ≡ flag
         → within (next_offset_of c.raw) c.raw.end
@@ -97,8 +97,8 @@ module _ (limit : ℕ) (depth : ℤ) (offset : ℕ) where
             follows = c.follows;
             reads = c.reads;
           })
-      goes t deep leads =
-          let b = followed_bounds c t leads in
+      goes t deep to_sibling =
+          let b = followed_bounds c t to_sibling in
           let h = honest b.0 in
           let up = parent_depth c t b.1 in
           let after = s.after up.0 ∙ up.1 in
@@ -120,9 +120,9 @@ module _ (limit : ℕ) (depth : ℤ) (offset : ℕ) where
             reads =
                 c.reads;
           })
-      cases false d to leads = stays
-      cases true d None leads = stays
-      cases true d (Some t) leads = goes t d leads
+      cases false d to to_sibling = stays
+      cases true d None to_sibling = stays
+      cases true d (Some t) to_sibling = goes t d to_sibling
 
   passed : (c : CursorView) (e : Entry) (w : View) → (length c.raw.rest.bytes ≡ 0 → ⊥)
       → Ok (e, w) ≡ next_of limit c.raw c.raw.rest → int_eq c.raw.depth depth ≡ false
@@ -165,7 +165,7 @@ module _ (limit : ℕ) (depth : ℤ) (offset : ℕ) where
   pub seeking_start : (c : CursorView) → IsSound c → Seeking c c
   seeking_start c s = record {
     onward = onward_start c s;
-    first = λ t leads same. refl;
+    first = λ t to_sibling same. refl;
     inside = λ low. low;
     plain = λ f. refl;
     honestly = λ h. record { same = refl; honest = h; places = λ o x p. p };
@@ -214,9 +214,9 @@ module _ (limit : ℕ) (depth : ℤ) (offset : ℕ) where
         follows = c.follows;
         reads = c.reads;
       }
-  first_follow c t leads same =
+  first_follow c t to_sibling same =
       let deep : int_le depth c.depth ≡ true = rw same (at_most depth) in
-      rw (deep, leads, same) refl
+      rw (deep, to_sibling, same) refl
     where
       at_most : (a : ℤ) → int_le a a ≡ true
       at_most a = grind (arith, ints)
@@ -294,16 +294,16 @@ module _ (limit : ℕ) (depth : ℤ) (offset : ℕ) where
         follows = start.follows;
         reads = start.reads;
       }
-  first_mid start here k t leads same =
-      ap (leave_entry depth) (k.first t leads same) ∙ first_follow start t leads same
+  first_mid start here k t to_sibling same =
+      ap (leave_entry depth) (k.first t to_sibling same) ∙ first_follow start t to_sibling same
 
   -- the reader stands at the reference
   first_place : (start here : CursorView) → Seeking start here → (t : ℕ)
       → followed_to start ≡ Some t → start.depth ≡ depth
       → (next_offset_of (leave_entry depth here).raw ≡ t) × ((leave_entry depth here).raw.depth ≡ depth)
-  first_place start here k t leads same =
-      let m = first_mid start here k t leads same in
-      let b = followed_bounds start t leads in
+  first_place start here k t to_sibling same =
+      let m = first_mid start here k t to_sibling same in
+      let b = followed_bounds start t to_sibling in
       let cut_length = length-drop (t - next_offset_of start.raw) start.raw.rest.bytes in
       let there : next_offset_of (stands_at start.raw (view_from start.raw t) depth)
       ≡ t = omega (arith, cut_length, b.2, b.3, k.onward.fits) in (
@@ -316,9 +316,9 @@ module _ (limit : ℕ) (depth : ℤ) (offset : ℕ) where
       → first_of_rows (leave_entry depth here).raw.end depth offset
       (rows_of limit (leave_entry depth here).raw)
       ≡ first_of_rows start.raw.end depth offset (rows_from limit start.raw t depth)
-  first_rows start here k t leads same =
+  first_rows start here k t to_sibling same =
       ap (λ (c : CursorView). first_of_rows c.raw.end depth offset (rows_of limit c.raw))
-      (first_mid start here k t leads same)
+      (first_mid start here k t to_sibling same)
 
   -- what is sought where the rows are honest
   sought_there : (start here : CursorView) → Seeking start here
@@ -348,10 +348,10 @@ module _ (limit : ℕ) (depth : ℤ) (offset : ℕ) where
           let elsewhere : int_eq mid.raw.depth depth ≡ false = rw same at other in
           rw same (record {
             onward = rw same at onward;
-            first = λ t leads deep.
+            first = λ t to_sibling deep.
                 absurd
                 (differs mid.raw.depth depth elsewhere
-                (ap (λ (c : CursorView). c.raw.depth) (first_mid start here k t leads deep)));
+                (ap (λ (c : CursorView). c.raw.depth) (first_mid start here k t to_sibling deep)));
             inside = λ low. low_after e mid.raw.depth (low_follow here (k.inside low)) elsewhere;
             plain = rw (is, same) at once;
             steps = rw same at steps;
@@ -429,9 +429,9 @@ module _ (limit : ℕ) (depth : ℤ) (offset : ℕ) where
             refused = λ x t. absurd (cc);
             asked = λ t. absurd (cc);
             place = λ x t. absurd (cc);
-            there = λ t leads at. first_at mid e w some reads ∙ first_rows start here k t leads at;
-            once = λ t leads at.
-                let m = first_mid start here k t leads at in
+            there = λ t to_sibling at. first_at mid e w some reads ∙ first_rows start here k t to_sibling at;
+            once = λ t to_sibling at.
+                let m = first_mid start here k t to_sibling at in
                 ap (λ (c : CursorView). c.reads + 1) m
                 ∙ ap (λ n. start.reads + n)
                 (sym (left_some mid.raw.rest some)
@@ -518,9 +518,9 @@ module _ (limit : ℕ) (depth : ℤ) (offset : ℕ) where
             refused = λ x t. absurd (cc);
             asked = λ t. absurd (cc);
             place = λ x t. absurd (cc);
-            there = λ t leads at. first_end_at mid none ∙ first_rows start here k t leads at;
-            once = λ t leads at.
-                let m = first_mid start here k t leads at in
+            there = λ t to_sibling at. first_end_at mid none ∙ first_rows start here k t to_sibling at;
+            once = λ t to_sibling at.
+                let m = first_mid start here k t to_sibling at in
                 let none_left : mid.reads
                 ≡ mid.reads + one_if_left mid.raw.rest =
                 let zero = left_none mid.raw.rest none in omega (arith, zero) in
@@ -597,17 +597,17 @@ module _ (limit : ℕ) (depth : ℤ) (offset : ℕ) where
                 let i = k.honestly honest in
                 i.places _ _
                 ((follow_keeps here k.onward.sound i.honest).places _ _ (rw same at place));
-            there = λ t leads at.
+            there = λ t to_sibling at.
                 rw one
                 (λ fine. first_refusal_at mid y some (why fine)
-                ∙ first_rows start here k t leads at);
-            once = λ t leads at.
-                let m = first_mid start here k t leads at in
+                ∙ first_rows start here k t to_sibling at);
+            once = λ t to_sibling at.
+                let m = first_mid start here k t to_sibling at in
                 ap (λ (c : CursorView). c.reads + 1) m
                 ∙ ap (λ n. start.reads + n)
                 (sym (left_some mid.raw.rest some)
                 ∙ ap (λ (c : CursorView). one_if_left c.raw.rest) m);
-            refused_there = λ v h t leads at. first_place start here k t leads at;
+            refused_there = λ v h t to_sibling at. first_place start here k t to_sibling at;
             counted = λ never. let more = (onward_follow start here depth k.onward).more in
                 omega (arith, more);
             plain = λ f. ((rw (fails, same) at once) f, (rw (fails, same) at up) f);

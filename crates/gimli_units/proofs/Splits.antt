@@ -86,8 +86,8 @@ module _ (next : View → Reads Entry) (end : ℕ)
       (stop_depth : ℤ) → AreRows next end v depth rows refusal stop stop_depth
       → (d sought : ℤ) (t : ℕ) → (d +ℤ pos 1) ≤ℤ depth → sought ≤ℤ d → past_closer d rows ≡ Some t
       → Split next end v d sought t rows refusal stop stop_depth
-  splits [] v depth refusal stop stop_depth are d sought t above low leads = absurd (cc)
-  splits (r ∷ rows) v depth refusal stop stop_depth (w, is, more) d sought t above low leads =
+  splits [] v depth refusal stop stop_depth are d sought t above low to_sibling = absurd (cc)
+  splits (r ∷ rows) v depth refusal stop stop_depth (w, is, more) d sought t above low to_sibling =
       cases (closes d r) refl
       (λ up leads_on. splits rows w (depth_after r.entry depth) refusal stop stop_depth more d
       sought t up low leads_on)
@@ -100,7 +100,7 @@ module _ (next : View → Reads Entry) (end : ℕ)
           → Split next end w d sought t rows refusal stop stop_depth)
           → Split next end v d sought t (r ∷ rows) refusal stop stop_depth
       cases true closed on =
-          let leads_here : Some r.next ≡ Some t = rw closed at leads in
+          let leads_here : Some r.next ≡ Some t = rw closed at to_sibling in
           let here : r.next ≡ t = cc in
           let after = closed_depth v w r.entry d depth is.reads (rw is.depth_is at closed) in
           record {
@@ -114,7 +114,7 @@ module _ (next : View → Reads Entry) (end : ℕ)
             places = λ o x p. inr (deeper, p);
           }
       cases false other on =
-          let leads_on : past_closer d rows ≡ Some t = rw other at leads in
+          let leads_on : past_closer d rows ≡ Some t = rw other at to_sibling in
           let up = stays_above r.entry d depth above (rw is.depth_is at other) in
           let s = on up leads_on in
           record {
@@ -160,10 +160,10 @@ module _ (next : View → Reads Entry) (end : ℕ)
       → past_closer d (ahead_at next end depth v).rows ≡ Some t
       → Kept sought offset v depth (cut (t - offset_of_view end v) v) d
   unfolding seek
-  jump v depth d sought offset t fits above low leads =
+  jump v depth d sought offset t fits above low to_sibling =
       let a : Ahead = ahead_at next end depth v in
       let s = splits a.rows v depth a.refusal a.stop a.stop_depth
-      (exist_rows next end shorter v depth) d sought t above low leads in
+      (exist_rows next end shorter v depth) d sought t above low to_sibling in
       let b : Ahead =
       record {
         rows = s.rest;

@@ -173,17 +173,6 @@ module _ (limit : ℕ) (e : Encoding) (all : List Specification) (sought : Optio
     (start : View) (steps : List Step) (left : List Specification)
     (found : Option (Option ℕ)) (v : View)
     (state : StepsPassed limit e all sought start steps left found v) where
-  none_left : (ls : List Specification)
-      → AfterStep (λ x rest. AreSteps (state.seen || is_sibling x) [] rest) [] ls → length ls ≡ 0
-  none_left [] h = refl
-  none_left (x ∷ rest) h = absurd h
-
-  -- no step is left, and no value
-  pub steps_over : length steps ≡ 0
-      → Ok (option_flatten found, v) ≡ sibling_after limit e all sought start
-  steps_over none = all_passed limit e all left sought found start v state.same
-      (none_left left (rw (nil_from_length steps none) at state.after))
-
   -- one value more
   pub value_over : (s : Specification) (rest : List Specification) → left ≡ s ∷ rest
       → (after : Option (Option ℕ)) (u : View) → Ok (after, u) ≡ found_at limit e s found v

@@ -238,9 +238,9 @@ has_walked_over limit c outcome new entry s = record {
   refused = s.refused;
   asked = s.asked;
   place = s.place;
-  taken = λ t leads. s.there t leads refl;
-  one_read = λ t leads. s.once t leads refl;
-  refused_there = λ e fails t leads. s.refused_there e fails t leads refl;
+  taken = λ t to_sibling. s.there t to_sibling refl;
+  one_read = λ t to_sibling. s.once t to_sibling refl;
+  refused_there = λ e fails t to_sibling. s.refused_there e fails t to_sibling refl;
   not_found = λ no some. s.no no;
   counted = λ some never. s.counted never;
   steps = λ some. s.steps;
@@ -255,7 +255,7 @@ has_walked_over limit c outcome new entry s = record {
 
 -- without a current entry no reference is followed
 none_followed : (c : CursorView) (t : ℕ) → is_null c.entry ≡ true → followed_to c ≡ Some t → ⊥
-none_followed c t null leads = none c.follows (rw null at leads)
+none_followed c t null to_sibling = none c.follows (rw null at to_sibling)
   where
     none : (b : Bool) → ◌≡◌ {A = Option ℕ} (if b then None else None) (Some t) → ⊥
     none true h = cc
@@ -271,8 +271,8 @@ has_stayed limit c null = record {
   refused = λ e fails. absurd (cc);
   asked = λ fails. absurd (cc);
   place = λ e fails. absurd (cc);
-  taken = λ t leads. absurd (none_followed c t null leads);
-  one_read = λ t leads. absurd (none_followed c t null leads);
+  taken = λ t to_sibling. absurd (none_followed c t null to_sibling);
+  one_read = λ t to_sibling. absurd (none_followed c t null to_sibling);
   refused_there = λ e fails. absurd (cc);
   not_found = λ no some. absurd (cc);
   counted = λ some. absurd (cc);

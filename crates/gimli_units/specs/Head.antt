@@ -26,8 +26,8 @@ abbrev pub head_and_sibling : Entry → Head × Option ℕ
 head_and_sibling e = (head e, target (kind_of e))
 
 -- that of a declaration, or of a null, with where a sibling is
-abbrev pub led_head : Option Declaration → Option ℕ → Head × Option ℕ
-led_head o sibling = (head_of o, sibling)
+abbrev pub head_with_sibling : Option Declaration → Option ℕ → Head × Option ℕ
+head_with_sibling o sibling = (head_of o, sibling)
 
 -- the declaration whose code stands there, or none, where it is the code of a null
 abbrev pub IsDeclaredAt : Map → View → Option Declaration → Type 0

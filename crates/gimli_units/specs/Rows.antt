@@ -59,7 +59,12 @@ pub record Row : Type 0 where
 unfoldable pub rows_after : ℤ → List Sited → List Sited → List Row
 rows_after start before [] = []
 rows_after start before (s ∷ rest) =
-    record { offset = s.offset; next = s.next; depth = depth_after_all start before; entry = s.entry }
+    record {
+      offset = s.offset;
+      next = s.next;
+      depth = depth_after_all start before;
+      entry = s.entry;
+    }
     ∷ rows_after start (before ++ s ∷ []) rest
 
 -- The rows that are ahead of a place, and how they end. `stop` and `stop_depth` are the offset and

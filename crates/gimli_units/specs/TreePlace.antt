@@ -50,7 +50,10 @@ node_of p = elim p.current [
 abbrev pub at_root : Moved → TreeMoved
 at_root m = elim m.outcome [
   | Err e ↦
-      record { answer = a_fault e; place = record { ahead = m.place.ahead; node = None; lists = [] } }
+      record {
+        answer = a_fault e;
+        place = record { ahead = m.place.ahead; node = None; lists = [] };
+      }
   | Ok b ↦ elim (node_of m.place) [
     | None ↦
         record {

@@ -7,6 +7,7 @@ ghost use Rattle.gimli_base.specs.Offset.{answer_of};
 ghost use Rattle.gimli_base.specs.Reading.{read_of, map_read};
 ghost use Rattle.gimli_units.specs.Entry.{attribute_at, attributes_at};
 ghost use Rattle.gimli_units.specs.Sized.{left_by, reads_all};
+ghost use Rattle.gimli_units.specs.Taking.{HandedOver};
 ghost use Rattle.gimli_base.specs.Abbreviations.{Specification};
 ghost use Rattle.gimli_base.specs.Steps.{IsRun, step_size};
 ghost use Rattle.gimli_base.specs.View.{cut};
@@ -14,6 +15,7 @@ ghost use Rattle.gimli_units.specs.Value.{map_value, map_attribute};
 ghost use Rattle.gimli_units.specs.Kind.{unit_reference};
 ghost use Rattle.gimli_units.specs.NormalValue.{udata_of, sdata_of, sec_offset_of, exprloc_of};
 ghost use Rattle.gimli_units.specs.NormalValue.{string_of, string_sup_of, below};
+ghost use Rattle.gimli_base.specs.Sections.{str_content};
 
 use crate::form::{read_form, read_of_variable_size};
 use crate::pass::pass_step;
@@ -68,10 +70,10 @@ impl<R: Reader> Attribute<R> {
         sink: &mut T,
     ) -> Result<T::Answer>
         requires { T.has_room sink.old }
-        ensures value { read_of (answer_of (T.stand sink.new) result) (R.view input.new)
-            ≡ map_read (T.taken sink.old)
-            (attribute_at R.Offset.limit encoding specification.now (R.view input.old)) }
-        ensures kept { OnErr result ((input.new ≡ input.old) × (sink.new ≡ sink.old)) }
+        ensures taken { HandedOver T.meaning T.after_take sink.old sink.new result
+            (attribute_at R.Offset.limit encoding specification.now (R.view input.old))
+            (R.view input.new) }
+        ensures kept { OnErr result (input.new ≡ input.old) }
     {
         // (2, so that this is another copy of the function than that of a unit's entries)
         let mut rest = input.copy();
@@ -201,7 +203,7 @@ impl<R: Reader> Attribute<R> {
     /// `.debug_str`. None too where `.debug_str` has no text at the offset.
     pub fn string_value(&self, debug_str: &DebugStr<R>) -> Option<R>
         ensures { option_map R.view result
-            ≡ string_of (⟦<DebugStr<R> as Section<R>>⟧.content debug_str.now)
+            ≡ string_of (str_content R.view debug_str.now)
             (map_value R.view R.Offset.number self.now.value) }
     {
         self.value.string_value(debug_str)
@@ -215,8 +217,8 @@ impl<R: Reader> Attribute<R> {
         debug_str_sup: Option<&DebugStr<R>>,
     ) -> Option<R>
         ensures { option_map R.view result
-            ≡ string_sup_of (⟦<DebugStr<R> as Section<R>>⟧.content debug_str.now)
-            (option_map (λ s. ⟦<DebugStr<R> as Section<R>>⟧.content s.now) debug_str_sup.entry)
+            ≡ string_sup_of (str_content R.view debug_str.now)
+            (option_map (λ s. str_content R.view s.now) debug_str_sup.entry)
             (map_value R.view R.Offset.number self.now.value) }
     {
         self.value.string_value_sup(debug_str, debug_str_sup)

@@ -5,6 +5,7 @@ ghost use Rattle.std.specs.Option.{option_map};
 ghost use Rattle.gimli_units.specs.Value.{map_value};
 ghost use Rattle.gimli_units.specs.NormalValue.{udata_of, sdata_of, sec_offset_of, exprloc_of};
 ghost use Rattle.gimli_units.specs.NormalValue.{string_of, string_sup_of, below};
+ghost use Rattle.gimli_base.specs.Sections.{str_content};
 
 use crate::AttributeValue;
 use gimli_base::{DebugStr, Expression, Reader, Section};
@@ -109,7 +110,7 @@ impl<R: Reader> AttributeValue<R> {
     /// `.debug_str`. None too where `.debug_str` has no text at the offset.
     pub fn string_value(&self, debug_str: &DebugStr<R>) -> Option<R>
         ensures { option_map R.view result
-            ≡ string_of (⟦<DebugStr<R> as Section<R>>⟧.content debug_str.now)
+            ≡ string_of (str_content R.view debug_str.now)
             (map_value R.view R.Offset.number self.now) }
     {
         match self {
@@ -127,8 +128,8 @@ impl<R: Reader> AttributeValue<R> {
         debug_str_sup: Option<&DebugStr<R>>,
     ) -> Option<R>
         ensures { option_map R.view result
-            ≡ string_sup_of (⟦<DebugStr<R> as Section<R>>⟧.content debug_str.now)
-            (option_map (λ s. ⟦<DebugStr<R> as Section<R>>⟧.content s.now) debug_str_sup.entry)
+            ≡ string_sup_of (str_content R.view debug_str.now)
+            (option_map (λ s. str_content R.view s.now) debug_str_sup.entry)
             (map_value R.view R.Offset.number self.now) }
     {
         match self {

@@ -272,7 +272,7 @@ impl<'abbrev, R: Reader, A: Allocator> EntriesCursor<'abbrev, R, A> {
 
     // Stands where entries were passed, without a current one.
     #[inline(always)]
-    fn stand(
+    fn set_place(
         &mut self,
         raw: EntriesRaw<'abbrev, R, A>,
         offset: UnitOffset<R::Offset>,
@@ -315,12 +315,12 @@ impl<'abbrev, R: Reader, A: Allocator> EntriesCursor<'abbrev, R, A> {
             match pass_on(&mut raw, follows, sought) {
                 Ok(()) => {}
                 Err(refusal) => {
-                    self.stand(raw, offset, depth, reads);
+                    self.set_place(raw, offset, depth, reads);
                     return Err(refusal);
                 }
             }
         }
-        self.stand(raw, offset, depth, reads);
+        self.set_place(raw, offset, depth, reads);
         Ok(())
     }
 

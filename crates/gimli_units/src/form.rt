@@ -9,7 +9,8 @@ ghost use Rattle.gimli_units.specs.Form.{is_section_name, uleb_offset_at, direct
 ghost use Rattle.gimli_units.specs.Form.{block_after};
 ghost use Rattle.gimli_units.specs.Entry.{attribute_at};
 ghost use Rattle.gimli_units.specs.Layout.{str_index, addr_index};
-ghost use Rattle.gimli_units.specs.Taking.{has_fixed_size, has_variable_size, made_at, OnTaken};
+ghost use Rattle.gimli_units.specs.Taking.{has_fixed_size, has_variable_size, read_into, IfRead};
+ghost use Rattle.gimli_units.specs.Taking.{HandedOver};
 
 use crate::attribute::sink::AttributeSink;
 use crate::{AttributeValue, DebugInfoOffset, UnitOffset};
@@ -218,9 +219,10 @@ fn read_fixed<R: Reader, T: AttributeSink<R>>(
     sink: &mut T,
 ) -> Result<Option<T::Answer>>
     requires { T.has_room sink.old }
-    ensures value { OnTaken result (λ answer.
-        read_of (answer_of (T.stand sink.new) answer) (R.view input.new)
-        ≡ made_at (T.taken sink.old) R.Offset.limit encoding s.now form.0 (R.view input.old)) }
+    ensures value { IfRead result (λ answer.
+        read_of (answer_of (T.meaning sink.new) answer) (R.view input.new)
+        ≡ read_into (T.after_take sink.old) R.Offset.limit encoding s.now form.0
+        (R.view input.old)) }
     ensures refused { OnErr result (sink.new ≡ sink.old) }
     ensures others { result ≡ Ok None → (R.view input.new ≡ R.view input.old)
         × (sink.new ≡ sink.old) × (has_fixed_size form.0 ≡ false) }
@@ -294,9 +296,10 @@ fn read_variable<R: Reader, T: AttributeSink<R>>(
     sink: &mut T,
 ) -> Result<Option<T::Answer>>
     requires { T.has_room sink.old }
-    ensures value { OnTaken result (λ answer.
-        read_of (answer_of (T.stand sink.new) answer) (R.view input.new)
-        ≡ made_at (T.taken sink.old) R.Offset.limit encoding s.now form.0 (R.view input.old)) }
+    ensures value { IfRead result (λ answer.
+        read_of (answer_of (T.meaning sink.new) answer) (R.view input.new)
+        ≡ read_into (T.after_take sink.old) R.Offset.limit encoding s.now form.0
+        (R.view input.old)) }
     ensures refused { OnErr result (sink.new ≡ sink.old) }
     ensures others { result ≡ Ok None → (R.view input.new ≡ R.view input.old)
         × (sink.new ≡ sink.old) × (has_variable_size form.0 ≡ false) }
@@ -350,8 +353,8 @@ fn read_direct<R: Reader, T: AttributeSink<R>>(
     sink: &mut T,
 ) -> Result<T::Answer>
     requires { T.has_room sink.old }
-    ensures value { read_of (answer_of (T.stand sink.new) result) (R.view input.new)
-        ≡ made_at (T.taken sink.old) R.Offset.limit encoding specification.now form.0
+    ensures value { read_of (answer_of (T.meaning sink.new) result) (R.view input.new)
+        ≡ read_into (T.after_take sink.old) R.Offset.limit encoding specification.now form.0
         (R.view input.old) }
     ensures refused { OnErr result (sink.new ≡ sink.old) }
 {
@@ -375,10 +378,9 @@ fn read_any<R: Reader, T: AttributeSink<R>>(
     sink: &mut T,
 ) -> Result<T::Answer>
     requires { T.has_room sink.old }
-    ensures value { read_of (answer_of (T.stand sink.new) result) (R.view input.new)
-        ≡ map_read (T.taken sink.old)
-        (attribute_at R.Offset.limit encoding specification.now (R.view input.old)) }
-    ensures refused { OnErr result (sink.new ≡ sink.old) }
+    ensures { HandedOver T.meaning T.after_take sink.old sink.new result
+        (attribute_at R.Offset.limit encoding specification.now (R.view input.old))
+        (R.view input.new) }
 {
     // (it says that the form implicit_const has a number)
     let _ = specification.implicit_const_value();
@@ -396,10 +398,9 @@ fn read_on_copy<R: Reader, T: AttributeSink<R>, const COPY: usize>(
     sink: &mut T,
 ) -> Result<T::Answer>
     requires { T.has_room sink.old }
-    ensures value { read_of (answer_of (T.stand sink.new) result) (R.view input.new)
-        ≡ map_read (T.taken sink.old)
-        (attribute_at R.Offset.limit encoding specification.now (R.view input.old)) }
-    ensures refused { OnErr result (sink.new ≡ sink.old) }
+    ensures { HandedOver T.meaning T.after_take sink.old sink.new result
+        (attribute_at R.Offset.limit encoding specification.now (R.view input.old))
+        (R.view input.new) }
 {
     if COPY == 0 {
         return read_any(input, encoding, specification, sink);
@@ -424,10 +425,9 @@ pub(crate) fn read_form<R: Reader, T: AttributeSink<R>, const COPY: usize>(
     sink: &mut T,
 ) -> Result<T::Answer>
     requires { T.has_room sink.old }
-    ensures value { read_of (answer_of (T.stand sink.new) result) (R.view input.new)
-        ≡ map_read (T.taken sink.old)
-        (attribute_at R.Offset.limit encoding specification.now (R.view input.old)) }
-    ensures refused { OnErr result (sink.new ≡ sink.old) }
+    ensures { HandedOver T.meaning T.after_take sink.old sink.new result
+        (attribute_at R.Offset.limit encoding specification.now (R.view input.old))
+        (R.view input.new) }
 {
     // (it says that the form implicit_const has a number)
     let _ = specification.implicit_const_value();
@@ -451,10 +451,9 @@ pub(crate) fn read_of_variable_size<R: Reader, T: AttributeSink<R>, const COPY: 
     sink: &mut T,
 ) -> Result<T::Answer>
     requires { T.has_room sink.old }
-    ensures value { read_of (answer_of (T.stand sink.new) result) (R.view input.new)
-        ≡ map_read (T.taken sink.old)
-        (attribute_at R.Offset.limit encoding specification.now (R.view input.old)) }
-    ensures refused { OnErr result (sink.new ≡ sink.old) }
+    ensures { HandedOver T.meaning T.after_take sink.old sink.new result
+        (attribute_at R.Offset.limit encoding specification.now (R.view input.old))
+        (R.view input.new) }
 {
     // (it says that the form implicit_const has a number)
     let _ = specification.implicit_const_value();

@@ -11,6 +11,7 @@ ghost use Rattle.gimli_base.specs.Reading.{initial_length_size_of, is_size, Unle
 ghost use Rattle.gimli_units.specs.Entry.{entry_of};
 ghost use Rattle.gimli_units.specs.UnitKind.{map_type};
 ghost use Rattle.gimli_units.specs.CursorStart.{cursor_of, cursor_from};
+ghost use Rattle.gimli_base.specs.Sections.{abbrev_content};
 
 use crate::{
     DebugInfoOffset, DebugTypesOffset, DebuggingInformationEntry, EntriesCursor, EntriesRaw,
@@ -275,11 +276,11 @@ impl<R: Reader> UnitHeader<R> {
         alloc: A,
         debug_abbrev: &DebugAbbrev<R>,
     ) -> Result<Abbreviations<A>>
-        ensures value { let section = ⟦<DebugAbbrev<R> as Section<R>>⟧.content debug_abbrev.now in
+        ensures value { let section = abbrev_content R.view debug_abbrev.now in
             UnlessMemory result
             (answer_of codes_of result ≡ map_at (unit_view self.now).abbreviations section) }
         ensures without_memory { let u = unit_view self.now in
-            let section = ⟦<DebugAbbrev<R> as Section<R>>⟧.content debug_abbrev.now in
+            let section = abbrev_content R.view debug_abbrev.now in
             table_takes_memory_at u.abbreviations section ≡ false →
             answer_of codes_of result ≡ map_at u.abbreviations section }
     {

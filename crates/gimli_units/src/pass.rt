@@ -215,30 +215,21 @@ fn pass_steps<R: Reader, A: Allocator>(
         ≡ sibling_after R.Offset.limit encoding declared.now.attributes
         (found_numbers R.Offset.number found) (R.view input.old) }
 {
-    let Some((first, others)) = declared.steps().split_first() else {
-        return pass_each_on_copy(input, encoding, declared.attributes(), found);
-    };
-    if !pass_step(input, encoding, first) {
-        return pass_each_on_copy(input, encoding, declared.attributes(), found);
-    }
-    if others.is_empty() {
-        return Ok(found.flatten());
-    }
     let mut found = found;
-    let mut steps = others;
-    let mut left = &declared.attributes()[first.values as usize..];
-    'values: while let Some((value, rest)) = left.split_first() {
-        found = pass_one(input, encoding, value, found)?;
-        let Some((step, more)) = steps.split_first() else {
-            return pass_each_on_copy(input, encoding, rest, found);
-        };
+    let mut steps = declared.steps();
+    let mut left = declared.attributes();
+    'steps: while let Some((step, others)) = steps.split_first() {
         if !pass_step(input, encoding, step) {
-            return pass_each_on_copy(input, encoding, rest, found);
+            break;
         }
-        left = &rest[step.values as usize..];
-        steps = more;
+        let Some((value, rest)) = left[step.values as usize..].split_first() else {
+            return Ok(found.flatten());
+        };
+        found = pass_one(input, encoding, value, found)?;
+        left = rest;
+        steps = others;
     }
-    Ok(found.flatten())
+    pass_each_on_copy(input, encoding, left, found)
 }
 
 /// Passes what reading the attributes of a declaration's entry reads, with the same refusals; where

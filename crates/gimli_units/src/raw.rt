@@ -14,11 +14,12 @@ ghost use Rattle.gimli_base.specs.Table.{codes_of};
 ghost use Rattle.gimli_units.specs.Value.{map_attribute};
 ghost use Rattle.gimli_units.specs.Entry.{attribute_at, attributes_at, abbreviation_at, entry_at};
 ghost use Rattle.gimli_units.specs.Entry.{entry_of, null_entry, is_null, takes_memory};
-ghost use Rattle.gimli_units.specs.Head.{head, head_of, led_head, head_and_sibling};
+ghost use Rattle.gimli_units.specs.Head.{head, head_of, head_with_sibling, head_and_sibling};
 ghost use Rattle.gimli_units.specs.Head.{IsDeclaredAt, sibling_below};
 ghost use Rattle.gimli_units.specs.Passing.{pass_all, without_place, NamesPlaceOf};
 ghost use Rattle.gimli_units.specs.RawPlace.{RawPlace, next_offset_of, below_flag, depth_read};
-ghost use Rattle.gimli_units.specs.RawPlace.{depth_after};
+ghost use Rattle.gimli_units.specs.RawPlace.{depth_after, abbreviation_ahead, entry_ahead, Advances};
+ghost use Rattle.gimli_units.specs.Taking.{HandedOver};
 ghost use Rattle.gimli_units.specs.Honest.{within};
 ghost use Rattle.gimli_units.specs.SearchSteps.{stands_at, stands_if};
 
@@ -175,11 +176,9 @@ impl<'abbrev, R: Reader, A: Allocator> EntriesRaw<'abbrev, R, A> {
     #[inline(always)]
     pub fn read_abbreviation(&mut self) -> Result<Option<&'abbrev Abbreviation<A>>>
         ensures value { read_of (answer_of option_copied result) self.new.rest
-            ≡ abbreviation_at (codes_of self.old.abbreviations) self.old.rest }
-        ensures depth { IfOk result
-            (λ r. self.new.depth ≡ depth_read (option_copied r) self.old.depth) }
-        ensures same { self.new ≡ record self.old { rest = self.new.rest; depth = self.new.depth } }
-        ensures kept { OnErr result (self.new ≡ self.old) }
+            ≡ abbreviation_ahead self.old }
+        ensures advances { Advances (λ r. depth_read (option_copied r) self.old.depth) self.old
+            result self.new }
     {
         let mut rest = self.input.copy();
         let Some(abbreviation) = parse_abbreviation(&mut rest, self.abbreviations)? else {
@@ -223,24 +222,19 @@ impl<'abbrev, R: Reader, A: Allocator> EntriesRaw<'abbrev, R, A> {
     #[tactic(auto, unfolding(crate::specs::Entry::entry_at))]
     pub fn read_entry(&mut self, entry: &mut DebuggingInformationEntry<R, A>) -> Result<bool>
         ensures value { let e = entry_of R.view R.Offset.number entry.new in
-            let declared = codes_of self.old.abbreviations in
             UnlessMemory result (read_of (answer_leaving e result) self.new.rest
-            ≡ entry_at R.Offset.limit self.old.encoding declared self.old.rest) }
+            ≡ entry_ahead R.Offset.limit self.old) }
         ensures without_memory { let e = entry_of R.view R.Offset.number entry.new in
-            let declared = codes_of self.old.abbreviations in
-            takes_memory (abbreviation_at declared self.old.rest) ≡ false
+            takes_memory (abbreviation_ahead self.old) ≡ false
             → read_of (answer_leaving e result) self.new.rest
-            ≡ entry_at R.Offset.limit self.old.encoding declared self.old.rest }
+            ≡ entry_ahead R.Offset.limit self.old }
         ensures some { IfOk result
             (λ some. some ≡ not (is_null (entry_of R.view R.Offset.number entry.new))) }
         ensures offset { R.Offset.number entry.new.offset.0 ≡ next_offset_of self.old }
         ensures entry_depth { entry.new.depth ≡ self.old.depth }
-        ensures depth { OnOk result
-            (self.new.depth ≡ depth_after (entry_of R.view R.Offset.number entry.new)
-            self.old.depth) }
         ensures null { OnErr result (entry_of R.view R.Offset.number entry.new ≡ null_entry) }
-        ensures same { self.new ≡ record self.old { rest = self.new.rest; depth = self.new.depth } }
-        ensures kept { OnErr result (self.new ≡ self.old) }
+        ensures advances { let e = entry_of R.view R.Offset.number entry.new in
+            Advances (λ _. depth_after e self.old.depth) self.old result self.new }
     {
         entry.set_null();
         entry.depth = self.depth;
@@ -284,9 +278,8 @@ impl<'abbrev, R: Reader, A: Allocator> EntriesRaw<'abbrev, R, A> {
             ≡ attributes_at R.Offset.limit self.old.encoding specifications.now
             (R.view start.now)) }
         ensures none { specifications.now ≡ [] → IsOk result }
-        ensures depth { OnOk result (self.new.depth ≡ below_flag has_children self.old.depth) }
-        ensures same { self.new ≡ record self.old { rest = self.new.rest; depth = self.new.depth } }
-        ensures kept { OnErr result (self.new ≡ self.old) }
+        ensures advances { Advances (λ _. below_flag has_children self.old.depth) self.old result
+            self.new }
     {
         let mut rest = start.copy();
         parse_attributes(&mut rest, self.encoding, specifications, attrs)?;
@@ -301,16 +294,13 @@ impl<'abbrev, R: Reader, A: Allocator> EntriesRaw<'abbrev, R, A> {
     #[inline(always)]
     #[tactic(auto, unfolding(crate::specs::Entry::entry_at))]
     pub fn read_head(&mut self) -> Result<Option<&'abbrev Abbreviation<A>>>
-        ensures value { let declared = codes_of self.old.abbreviations in
-            read_of (answer_of (λ r. head_of (option_copied r)) result) self.new.rest
-            ≡ map_read head (entry_at R.Offset.limit self.old.encoding declared self.old.rest) }
+        ensures value { read_of (answer_of (λ r. head_of (option_copied r)) result) self.new.rest
+            ≡ map_read head (entry_ahead R.Offset.limit self.old) }
         ensures declared { let declared = codes_of self.old.abbreviations in
             IfOk result (λ r. IsDeclaredAt declared self.old.rest (option_copied r)) }
         ensures some { IfOk result (λ r. IfSome (option_copied r) (λ d. d.tag.0 ≢ 0)) }
-        ensures depth { IfOk result
-            (λ r. self.new.depth ≡ depth_read (option_copied r) self.old.depth) }
-        ensures same { self.new ≡ record self.old { rest = self.new.rest; depth = self.new.depth } }
-        ensures kept { OnErr result (self.new ≡ self.old) }
+        ensures advances { Advances (λ r. depth_read (option_copied r) self.old.depth) self.old
+            result self.new }
     {
         let mut rest = self.input.copy();
         let Some(declared) = parse_abbreviation(&mut rest, self.abbreviations)? else {
@@ -338,19 +328,15 @@ impl<'abbrev, R: Reader, A: Allocator> EntriesRaw<'abbrev, R, A> {
             Option<UnitOffset<R::Offset>>,
         ),
     >
-        ensures value { let declared = codes_of self.old.abbreviations in
-            read_of (answer_of (λ r.
-            led_head (option_copied r.0) (option_map (λ o. R.Offset.number o.0) r.1)) result)
-            self.new.rest
-            ≡ map_read head_and_sibling
-            (entry_at R.Offset.limit self.old.encoding declared self.old.rest) }
+        ensures value { read_of (answer_of (λ r.
+            head_with_sibling (option_copied r.0) (option_map (λ o. R.Offset.number o.0) r.1))
+            result) self.new.rest
+            ≡ map_read head_and_sibling (entry_ahead R.Offset.limit self.old) }
         ensures declared { let declared = codes_of self.old.abbreviations in
             IfOk result (λ r. IsDeclaredAt declared self.old.rest (option_copied r.0)) }
         ensures some { IfOk result (λ r. IfSome (option_copied r.0) (λ d. d.tag.0 ≢ 0)) }
-        ensures depth { IfOk result
-            (λ r. self.new.depth ≡ depth_read (option_copied r.0) self.old.depth) }
-        ensures same { self.new ≡ record self.old { rest = self.new.rest; depth = self.new.depth } }
-        ensures kept { OnErr result (self.new ≡ self.old) }
+        ensures advances { Advances (λ r. depth_read (option_copied r.0) self.old.depth) self.old
+            result self.new }
     {
         let mut rest = self.input.copy();
         let Some(declared) = parse_abbreviation(&mut rest, self.abbreviations)? else {
@@ -375,11 +361,10 @@ impl<'abbrev, R: Reader, A: Allocator> EntriesRaw<'abbrev, R, A> {
         ensures value { read_of (answer_of (option_map (λ o. R.Offset.number o.0)) result)
             self.new.rest
             ≡ map_read (sibling_below abbreviation.now.has_children)
-            (attributes_at R.Offset.limit self.old.encoding abbreviation.now.attributes (R.view rest)) }
-        ensures depth { OnOk result
-            (self.new.depth ≡ below_flag abbreviation.now.has_children self.old.depth) }
-        ensures same { self.new ≡ record self.old { rest = self.new.rest; depth = self.new.depth } }
-        ensures kept { OnErr result (self.new ≡ self.old) }
+            (attributes_at R.Offset.limit self.old.encoding abbreviation.now.attributes
+            (R.view rest)) }
+        ensures advances { let flag = abbreviation.now.has_children in
+            Advances (λ _. below_flag flag self.old.depth) self.old result self.new }
     {
         if abbreviation.has_children() {
             let sibling = pass_and_find_sibling(&mut rest, self.encoding, abbreviation)?;
@@ -400,8 +385,7 @@ impl<'abbrev, R: Reader, A: Allocator> EntriesRaw<'abbrev, R, A> {
         ensures value { let answer = answer_of (map_attribute R.view R.Offset.number) result in
             read_of answer self.new.rest
             ≡ attribute_at R.Offset.limit self.old.encoding specification self.old.rest }
-        ensures same { self.new ≡ record self.old { rest = self.new.rest } }
-        ensures kept { OnErr result (self.new ≡ self.old) }
+        ensures advances { Advances (λ _. self.old.depth) self.old result self.new }
     {
         self.read_attribute_inline(specification)
     }
@@ -419,8 +403,7 @@ impl<'abbrev, R: Reader, A: Allocator> EntriesRaw<'abbrev, R, A> {
         ensures value { let answer = answer_of (map_attribute R.view R.Offset.number) result in
             read_of answer self.new.rest
             ≡ attribute_at R.Offset.limit self.old.encoding specification self.old.rest }
-        ensures same { self.new ≡ record self.old { rest = self.new.rest } }
-        ensures kept { OnErr result (self.new ≡ self.old) }
+        ensures advances { Advances (λ _. self.old.depth) self.old result self.new }
     {
         let mut rest = self.input.copy();
         let specification = &specification;
@@ -440,11 +423,10 @@ impl<'abbrev, R: Reader, A: Allocator> EntriesRaw<'abbrev, R, A> {
         sink: &mut T,
     ) -> Result<T::Answer>
         requires { T.has_room sink.old }
-        ensures value { read_of (answer_of (T.stand sink.new) result) self.new.rest
-            ≡ map_read (T.taken sink.old)
-            (attribute_at R.Offset.limit self.old.encoding specification.now self.old.rest) }
-        ensures same { self.new ≡ record self.old { rest = self.new.rest } }
-        ensures kept { OnErr result ((self.new ≡ self.old) × (sink.new ≡ sink.old)) }
+        ensures taken { let s = specification.now in
+            HandedOver T.meaning T.after_take sink.old sink.new result
+            (attribute_at R.Offset.limit self.old.encoding s self.old.rest) self.new.rest }
+        ensures advances { Advances (λ _. self.old.depth) self.old result self.new }
     {
         let mut rest = self.input.copy();
         let taken = read_form::<R, T, 1>(&mut rest, self.encoding, specification, sink)?;
@@ -464,8 +446,7 @@ impl<'abbrev, R: Reader, A: Allocator> EntriesRaw<'abbrev, R, A> {
         ensures place { IfErr result (NamesPlaceOf self.old.rest) }
         ensures as_read { PassesAs (read_of result self.new.rest)
             (attributes_at R.Offset.limit self.old.encoding specifications.now self.old.rest) }
-        ensures same { self.new ≡ record self.old { rest = self.new.rest } }
-        ensures kept { OnErr result (self.new ≡ self.old) }
+        ensures advances { Advances (λ _. self.old.depth) self.old result self.new }
     {
         let mut rest = self.input.copy();
         skip_all(&mut rest, self.encoding, specifications)?;
@@ -487,8 +468,7 @@ impl<'abbrev, R: Reader, A: Allocator> EntriesRaw<'abbrev, R, A> {
             ≡ attributes_at R.Offset.limit self.old.encoding specifications.now self.old.rest) }
         ensures none { specifications.now ≡ [] → IsOk result }
         ensures empty { OnErr result (attrs.new.items ≡ []) }
-        ensures same { self.new ≡ record self.old { rest = self.new.rest } }
-        ensures kept { OnErr result (self.new ≡ self.old) }
+        ensures advances { Advances (λ _. self.old.depth) self.old result self.new }
     {
         attrs.clear();
         let mut rest = self.input.copy();

@@ -4,7 +4,7 @@ ghost use Rattle.std.specs.Prelude.{◌≡◌, IfErr, Ok, None, false};
 ghost use Rattle.gimli_base.specs.Reading.{read_of};
 ghost use Rattle.gimli_units.specs.Passing.{pass_direct, pass_at, pass_all, without_place};
 ghost use Rattle.gimli_units.specs.Passing.{NamesPlaceOf};
-ghost use Rattle.gimli_units.specs.Taking.{has_variable_size, OnTaken};
+ghost use Rattle.gimli_units.specs.Taking.{has_variable_size, IfRead};
 
 use crate::form::{direct_form, uleb128_offset};
 use gimli_base::{
@@ -33,7 +33,7 @@ fn skip_direct<R: Reader>(input: &mut R, encoding: Encoding, form: DwForm) -> Re
 // none. Where it is refused, the input is left anywhere.
 #[tactic(auto, unfolding(crate::specs::Passing::pass_direct, crate::specs::Taking::has_variable_size, gimli_base::specs::Reading::sized_offset_at))]
 fn skip_variable<R: Reader>(input: &mut R, encoding: Encoding, form: DwForm) -> Result<Option<()>>
-    ensures value { OnTaken result (λ answer. read_of answer (R.view input.new)
+    ensures value { IfRead result (λ answer. read_of answer (R.view input.new)
         ≡ pass_direct R.Offset.limit encoding form.0 (R.view input.old)) }
     ensures others { result ≡ Ok None → has_variable_size form.0 ≡ false }
 {

@@ -355,8 +355,8 @@ module _ (limit : ℕ) (u : UnitView) (t : Table)
   )
     where
       taken : IsTaken limit u (codes_of t) s (answer_at o c) b
-      taken sibling to leads =
-          let used = usable_is o c stands.end to leads in
+      taken sibling to to_sibling =
+          let used = usable_is o c stands.end to to_sibling in
           let follow : followed_to c ≡ Some to = rw follows used in
           let low = low_bound (next_offset_of c.raw) c.raw.end (target (kind_of c.entry)) to used in
           let at = unless_fine b.outcome (answered.step.taken sibling to follow) answered.fine in

@@ -374,7 +374,7 @@ module _ (limit : ℕ) (u : UnitView) (t : Table)
       → StandsOn s.tree.cursor → node_at s.tree ≡ n
       → HasAsked limit (Some n.depth) outer s.tree answer new
       → IsTakenFrom limit u (codes_of t) (a_node n) answer
-  taken_here n s new answer outer inside on same r e w to reads leads =
+  taken_here n s new answer outer inside on same r e w to reads to_sibling =
       let c = s.tree.cursor in
       let at : c.offset ≡ n.offset = ap (λ (x : Node). x.offset) same in
       let deep : c.depth ≡ n.depth = ap (λ (x : Node). x.depth) same in
@@ -385,7 +385,7 @@ module _ (limit : ℕ) (u : UnitView) (t : Table)
       let entry : c.entry ≡ e = ap (λ (x : Entry × View). x.0) one in
       let rest : c.raw.rest ≡ w = ap (λ (x : Entry × View). x.1) one in
       let used : usable_target c.raw.end (last_row c)
-      ≡ Some to = rw (inside.here.end, entry, rest) leads in
+      ≡ Some to = rw (inside.here.end, entry, rest) to_sibling in
       let follow : followed_to c ≡ Some to = rw inside.follows used in
       let low = low_bound (next_offset_of c.raw) c.raw.end (target (kind_of c.entry)) to used in
       let there = unless_fine r.outcome (r.asked.sought.there to follow deep) r.fine in

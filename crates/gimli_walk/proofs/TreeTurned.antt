@@ -235,7 +235,7 @@ module _ (limit : ℕ) where
         → record { answer = answer; place = (reached limit new).place }
         ≡ found_in d outer
         (first_of_rows (whole_length u) d n.offset (unit_rows_from limit u (codes_of t) to d))
-    there_is s new answer d outer here follows r n last deep to leads =
+    there_is s new answer d outer here follows r n last deep to to_sibling =
         let c = s.tree.cursor in
         let sought = r.asked.sought in
         let one : node_at s.tree ≡ n = last_is s.tree n last in
@@ -254,7 +254,7 @@ module _ (limit : ℕ) where
           next = next_offset (rows_of limit c.raw);
           depth = x.depth;
           entry = x.entry;
-        })) one ∙ leads in
+        })) one ∙ to_sibling in
         let follow : followed_to c ≡ Some to = rw follows used in
         let low = low_bound (next_offset_of c.raw) c.raw.end (target (kind_of c.entry)) to used in
         let there = unless_fine r.outcome (sought.there to follow level) r.fine in

@@ -14,6 +14,8 @@ ghost use Rattle.gimli_walk.specs.Text.{Wrote, WroteAll, little_view, unit_takes
 ghost use Rattle.gimli_walk.specs.Stops.{WroteUntil};
 ghost use Rattle.gimli_walk.specs.Dump.{type_number as number_of_type, unit_dump, units_dump};
 ghost use Rattle.gimli_walk.specs.Dump.{dump_of};
+ghost use Rattle.gimli_base.specs.Sections.{abbrev_content};
+ghost use Rattle.gimli_headers.specs.Sections.{info_content};
 
 use crate::lines::{Stop, WriteFault, write_error, write_unit_line};
 use crate::rows::{end_lines, write_rows};
@@ -64,13 +66,13 @@ fn dump_units<R: Reader, A: Allocator + Copy, W: Write>(
     debug_abbrev: &DebugAbbrev<R>,
     out: &mut W,
 ) -> StdResult<u8, Stop>
-    ensures text { let info = ⟦<DebugInfo<R> as Section<R>>⟧.content debug_info.now in
-        let declarations = ⟦<DebugAbbrev<R> as Section<R>>⟧.content debug_abbrev.now in
+    ensures text { let info = info_content R.view debug_info.now in
+        let declarations = abbrev_content R.view debug_abbrev.now in
         let text = units_dump R.Offset.limit declarations
         (units_of R.Offset.limit InfoSection info) in
         WroteUntil (W.contents out.old) (W.contents out.new) text result }
-    ensures without_memory { let info = ⟦<DebugInfo<R> as Section<R>>⟧.content debug_info.now in
-        let declarations = ⟦<DebugAbbrev<R> as Section<R>>⟧.content debug_abbrev.now in
+    ensures without_memory { let info = info_content R.view debug_info.now in
+        let declarations = abbrev_content R.view debug_abbrev.now in
         let units = (units_of R.Offset.limit InfoSection info).items in
         All (λ u. unit_takes_memory declarations u ≡ false) units → result ≡ Err Memory → ⊥ }
 {
@@ -107,13 +109,13 @@ fn table_of<R: Reader, A: Allocator + Copy>(
     debug_abbrev: &DebugAbbrev<R>,
     before: Option<CachedTable<A>>,
 ) -> Result<CachedTable<A>>
-    requires held { let declarations = ⟦<DebugAbbrev<R> as Section<R>>⟧.content debug_abbrev.now in
+    requires held { let declarations = abbrev_content R.view debug_abbrev.now in
         IfSome before (λ h. Ok (codes_of h.table) ≡ map_at h.offset declarations) }
-    ensures table { let declarations = ⟦<DebugAbbrev<R> as Section<R>>⟧.content debug_abbrev.now in
+    ensures table { let declarations = abbrev_content R.view debug_abbrev.now in
         UnlessMemory result (answer_of (λ h. codes_of h.table) result
         ≡ map_at (unit_view unit.now).abbreviations declarations) }
     ensures without_memory { let u = unit_view unit.now in
-        let declarations = ⟦<DebugAbbrev<R> as Section<R>>⟧.content debug_abbrev.now in
+        let declarations = abbrev_content R.view debug_abbrev.now in
         unit_takes_memory declarations u ≡ false →
         answer_of (λ h. codes_of h.table) result ≡ map_at u.abbreviations declarations }
     ensures offset { IfOk result (λ h. h.offset ≡ (unit_view unit.now).abbreviations) }
@@ -137,14 +139,14 @@ fn dump_unit<R: Reader, A: Allocator + Copy, W: Write>(
     held: &mut Option<CachedTable<A>>,
     out: &mut W,
 ) -> StdResult<u8, Stop>
-    requires held { let declarations = ⟦<DebugAbbrev<R> as Section<R>>⟧.content debug_abbrev.now in
+    requires held { let declarations = abbrev_content R.view debug_abbrev.now in
         IfSome held.old (λ h. Ok (codes_of h.table) ≡ map_at h.offset declarations) }
-    ensures held { let declarations = ⟦<DebugAbbrev<R> as Section<R>>⟧.content debug_abbrev.now in
+    ensures held { let declarations = abbrev_content R.view debug_abbrev.now in
         IfSome held.new (λ h. Ok (codes_of h.table) ≡ map_at h.offset declarations) }
-    ensures text { let declarations = ⟦<DebugAbbrev<R> as Section<R>>⟧.content debug_abbrev.now in
+    ensures text { let declarations = abbrev_content R.view debug_abbrev.now in
         let text = unit_dump R.Offset.limit declarations (unit_view unit.now) in
         WroteUntil (W.contents out.old) (W.contents out.new) text result }
-    ensures without_memory { let declarations = ⟦<DebugAbbrev<R> as Section<R>>⟧.content debug_abbrev.now in
+    ensures without_memory { let declarations = abbrev_content R.view debug_abbrev.now in
         unit_takes_memory declarations (unit_view unit.now) ≡ false → result ≡ Err Memory → ⊥ }
 {
     let offset = unit.offset().0.into_u64();

@@ -7,6 +7,7 @@ ghost use Rattle.gimli_base.specs.Offset.{answer_of};
 ghost use Rattle.gimli_walk.specs.UnitOfAddress.{set_holds, unit_holding, found_line, none_line};
 ghost use Rattle.gimli_walk.specs.UnitOfAddress.{find_of};
 ghost use Rattle.gimli_walk.specs.Text.{WroteAll};
+ghost use Rattle.gimli_lists.specs.Sections.{aranges_content};
 
 use crate::lines::{WriteFault, write_error};
 use gimli_base::{LittleEndian, Reader, ReaderOffset, Result, Section};
@@ -24,7 +25,7 @@ pub fn unit_of_address<R: Reader>(
     aranges: &DebugAranges<R>,
     address: u64,
 ) -> Result<Option<DebugInfoOffset<R::Offset>>>
-    ensures { let section = ⟦<DebugAranges<R> as Section<R>>⟧.content aranges.now in
+    ensures { let section = aranges_content R.view aranges.now in
         answer_of (option_map (λ o. R.Offset.number o.0)) result
         ≡ unit_holding R.Offset.limit address section }
 {

@@ -6,6 +6,7 @@ ghost use Rattle.gimli_base.specs.Reading.{is_size};
 ghost use Rattle.gimli_lists.specs.Locations.{location_format, location_of, location_answers};
 ghost use Rattle.gimli_lists.specs.Places.{list_place_at};
 ghost use Rattle.gimli_walk.specs.Runs.{RunsAs, answers_of_run};
+ghost use Rattle.gimli_base.specs.Sections.{addr_content};
 
 use crate::run::{Run, run_all};
 use gimli_base::{
@@ -35,7 +36,7 @@ pub fn run_locations<R: Reader, A: Allocator + Copy>(
     dwo: bool,
 ) -> Result<Run<Result<LocationListEntry<R>>, A>>
     requires { IsTrue (is_size encoding.address_size) }
-    ensures { let addresses = ⟦<DebugAddr<R> as Section<R>>⟧.content addr.now in
+    ensures { let addresses = addr_content R.view addr.now in
         let sections = ⟦<LocationLists<R> as HasLists>⟧.lists lists.now in
         RunsAs (answer_of (answers_of_run (answer_of (location_of R.view))) result)
         (location_answers R.Offset.limit dwo (R.Offset.number offset.0) encoding base addresses
@@ -57,7 +58,7 @@ fn begin<R: Reader>(
 ) -> Result<LocListIter<R>>
     requires { IsTrue (is_size encoding.address_size) }
     ensures { let format = location_format dwo encoding.version in
-        let addresses = ⟦<DebugAddr<R> as Section<R>>⟧.content addr.now in
+        let addresses = addr_content R.view addr.now in
         let sections = ⟦<LocationLists<R> as HasLists>⟧.lists lists.now in
         result ≡ list_place_at format (R.Offset.number offset.0) encoding base addresses
         (R.Offset.number addr_base.0) sections }

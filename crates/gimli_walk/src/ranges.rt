@@ -5,6 +5,7 @@ ghost use Rattle.gimli_base.specs.Offset.{answer_of};
 ghost use Rattle.gimli_base.specs.Reading.{is_size};
 ghost use Rattle.gimli_lists.specs.Ranges.{resolved_of, range_answers};
 ghost use Rattle.gimli_walk.specs.Runs.{RunsAs, answers_of_run};
+ghost use Rattle.gimli_base.specs.Sections.{addr_content};
 
 use crate::run::{Run, run_all};
 use gimli_base::{DebugAddr, DebugAddrBase, Encoding, RangeListsOffset, Reader, Result, Section};
@@ -30,7 +31,7 @@ pub fn run_ranges<R: Reader, A: Allocator + Copy>(
     addr_base: DebugAddrBase<R::Offset>,
 ) -> Result<Run<Result<Range>, A>>
     requires { IsTrue (is_size encoding.address_size) }
-    ensures { let addresses = ⟦<DebugAddr<R> as Section<R>>⟧.content addr.now in
+    ensures { let addresses = addr_content R.view addr.now in
         let sections = ⟦<RangeLists<R> as HasLists>⟧.lists lists.now in
         RunsAs (answer_of (answers_of_run (answer_of resolved_of)) result)
         (range_answers R.Offset.limit (R.Offset.number offset.0) encoding base addresses

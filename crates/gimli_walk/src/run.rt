@@ -9,6 +9,7 @@ ghost use Rattle.gimli_base.specs.Chain.{each_answer};
 ghost use Rattle.gimli_headers.specs.Units.{units_of};
 ghost use Rattle.gimli_walk.specs.Runs.{IsRunOf, answers_of_run};
 ghost use Rattle.gimli_units.specs.UnitHeld.{unit_view};
+ghost use Rattle.gimli_headers.specs.Sections.{info_content, types_content};
 
 use gimli_base::{Reader, Result, Section};
 use gimli_headers::{DebugInfo, DebugTypes};
@@ -56,7 +57,7 @@ pub fn run_units<R: Reader, A: Allocator + Copy>(
     alloc: A,
     debug_info: &DebugInfo<R>,
 ) -> Run<Result<UnitHeader<R>>, A>
-    ensures { let section = ⟦<DebugInfo<R> as Section<R>>⟧.content debug_info.now in
+    ensures { let section = info_content R.view debug_info.now in
         IsRunOf (answers_of_run (answer_of unit_view) result)
         (each_answer (units_of R.Offset.limit InfoSection section)) }
 {
@@ -71,7 +72,7 @@ pub fn run_type_units<R: Reader, A: Allocator + Copy>(
     alloc: A,
     debug_types: &DebugTypes<R>,
 ) -> Run<Result<UnitHeader<R>>, A>
-    ensures { let section = ⟦<DebugTypes<R> as Section<R>>⟧.content debug_types.now in
+    ensures { let section = types_content R.view debug_types.now in
         IsRunOf (answers_of_run (answer_of unit_view) result)
         (each_answer (units_of R.Offset.limit TypesSection section)) }
 {

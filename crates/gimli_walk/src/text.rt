@@ -10,6 +10,8 @@ ghost use Rattle.gimli_walk.specs.Text.{declared_text, mode_text, sections_text,
 ghost use Rattle.gimli_walk.specs.Text.{IsHonestMode, IsHonestDeclared, IsHonestWalk};
 ghost use Rattle.gimli_walk.specs.Text.{WroteTrueMode, WroteTrueDeclared, WroteTrueWalk};
 ghost use Rattle.gimli_units.specs.UnitHeld.{unit_view};
+ghost use Rattle.gimli_base.specs.Sections.{abbrev_content};
+ghost use Rattle.gimli_headers.specs.Sections.{info_content};
 
 use crate::Mode;
 use crate::answers::write_steps;
@@ -65,20 +67,20 @@ fn walk_sections<R: Reader, A: Allocator + Copy, W: Write>(
     debug_abbrev: &DebugAbbrev<R>,
     out: &mut W,
 ) -> Result<u8, WriteFault>
-    ensures without_memory { let info = ⟦<DebugInfo<R> as Section<R>>⟧.content debug_info.now in
-        let declarations = ⟦<DebugAbbrev<R> as Section<R>>⟧.content debug_abbrev.now in
+    ensures without_memory { let info = info_content R.view debug_info.now in
+        let declarations = abbrev_content R.view debug_abbrev.now in
         let text = sections_text R.Offset.limit (mode_text R.Offset.limit mode.entry) info
         declarations in
         walk_may_take R.Offset.limit mode.entry info declarations ≡ false →
         IfOk result (λ status. WroteAll (W.contents out.old) (W.contents out.new) text status) }
-    ensures true_lines { let info = ⟦<DebugInfo<R> as Section<R>>⟧.content debug_info.now in
-        let declarations = ⟦<DebugAbbrev<R> as Section<R>>⟧.content debug_abbrev.now in
+    ensures true_lines { let info = info_content R.view debug_info.now in
+        let declarations = abbrev_content R.view debug_abbrev.now in
         let old = W.contents out.old in
         let new = W.contents out.new in
         IfOk result
         (λ status. WroteTrueWalk R.Offset.limit mode.entry info declarations old new status) }
-    ensures text { let info = ⟦<DebugInfo<R> as Section<R>>⟧.content debug_info.now in
-        let declarations = ⟦<DebugAbbrev<R> as Section<R>>⟧.content debug_abbrev.now in
+    ensures text { let info = info_content R.view debug_info.now in
+        let declarations = abbrev_content R.view debug_abbrev.now in
         let text = sections_text R.Offset.limit (mode_text R.Offset.limit mode.entry) info
         declarations in
         IsHonestWalk R.Offset.limit mode.entry info declarations →
@@ -107,19 +109,19 @@ fn walk_unit<R: Reader, A: Allocator + Copy, W: Write>(
 ) -> Result<u8, WriteFault>
     ensures true_lines { let u = unit_view unit.now in
         let declared = map_at u.abbreviations
-        (⟦<DebugAbbrev<R> as Section<R>>⟧.content debug_abbrev.now) in
+        (abbrev_content R.view debug_abbrev.now) in
         let old = W.contents out.old in
         let new = W.contents out.new in
         IfOk result
         (λ status. WroteTrueDeclared R.Offset.limit mode.entry u declared old new status) }
     ensures text { let u = unit_view unit.now in
         let declared = map_at u.abbreviations
-        (⟦<DebugAbbrev<R> as Section<R>>⟧.content debug_abbrev.now) in
+        (abbrev_content R.view debug_abbrev.now) in
         let text = declared_text (mode_text R.Offset.limit mode.entry) u declared in
         IsHonestDeclared R.Offset.limit mode.entry u declared →
         IfOk result (λ status. WroteText (W.contents out.old) (W.contents out.new) text status) }
     ensures without_memory { let u = unit_view unit.now in
-        let section = ⟦<DebugAbbrev<R> as Section<R>>⟧.content debug_abbrev.now in
+        let section = abbrev_content R.view debug_abbrev.now in
         let declared = map_at u.abbreviations section in
         let text = declared_text (mode_text R.Offset.limit mode.entry) u declared in
         unit_takes_memory section u ≡ false → declared_may_take mode.entry declared ≡ false →

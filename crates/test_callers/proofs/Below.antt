@@ -57,9 +57,9 @@ honest_heads end depth (r ∷ rest) h = λ other. absurd (clash (sym other ∙ h
 module _ (limit : ℕ) (c : CursorView) (s : IsSound c) where
   leaf_honest : is_null c.entry ≡ false → c.entry.has_children ≡ false
       → IsHonest c.raw.end (last_row c) (rows_of limit c.raw).rows
-  leaf_honest entry flag t leads =
+  leaf_honest entry flag t to_sibling =
       let nowhere : usable_target c.raw.end (last_row c) ≡ None = rw (entry, flag) refl in
-      let e : ◌≡◌ {A = Option ℕ} None (Some t) = sym nowhere ∙ leads in absurd (cc)
+      let e : ◌≡◌ {A = Option ℕ} None (Some t) = sym nowhere ∙ to_sibling in absurd (cc)
 
   too_deep : (flag : Bool) → c.entry.has_children ≡ flag → is_null c.entry ≡ false
       → int_le c.raw.depth c.depth ≡ true

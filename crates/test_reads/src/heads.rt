@@ -8,12 +8,12 @@ use test_tables::{Call, Outcome, Text, write_refusal};
 
 /// Writes the head of each entry up to one that is refused: its code, and after `>` where its sibling is; or
 /// `null`, or the refusal. Of `same_heads` they are not written, and `same` is the answer. Each head is read
-/// beside the whole entry, behind the entries before it, and by a reader of its own also where the bytes end in
-/// it or among as many after it as the last word says. What differs is told.
+/// beside the whole entry, after the entries before it, and by a reader of its own also where the bytes end in
+/// it or among as many after it as the last word says. What differs is written.
 pub(crate) fn write_heads<R: Reader>(call: &Call<'_, R>, out: &mut Text) -> Outcome {
     let input = Input::of_entries(call, call.encoding(1)?)?;
     let is_listed = call.name() == "heads";
-    let behind = call.case.number(4).unwrap_or(0);
+    let bytes_after = call.case.number(4).unwrap_or(0);
     let mut rest = call.section(0)?;
     let mut walk = Walk::new(input.raw());
     for _ in 0..u64::MAX {
@@ -21,11 +21,11 @@ pub(crate) fn write_heads<R: Reader>(call: &Call<'_, R>, out: &mut Text) -> Outc
         if is_listed {
             write_head(walk.whole.copy(), out);
         }
-        let most = rest.len().into_u64().min(length.saturating_add(behind));
-        tell_differing(&input, &rest, most, out)?;
+        let most = rest.len().into_u64().min(length.saturating_add(bytes_after));
+        write_differing(&input, &rest, most, out)?;
         let is_same = Walk::new(walk.whole.copy()).go_on(call.alloc);
         if !walk.go_on(call.alloc) || !is_same {
-            writeln!(out, "another head behind others");
+            writeln!(out, "another head after others");
         }
         if answer.is_err() {
             break;
@@ -53,9 +53,9 @@ fn write_head<R: Reader>(mut raw: Raw<'_, R>, out: &mut Text) {
     write!(out, " ");
 }
 
-// Tells the first number of bytes, all or up to the most, by which the heads of an entry are not those of the
+// Writes the first number of bytes, all or up to the most, by which the heads of an entry are not those of the
 // whole one, if there is one.
-fn tell_differing<R: Reader>(input: &Input<R>, rest: &R, most: u64, out: &mut Text) -> Outcome {
+fn write_differing<R: Reader>(input: &Input<R>, rest: &R, most: u64, out: &mut Text) -> Outcome {
     let (whole, alloc) = (input.raw_of(rest), out.alloc());
     if !has_declaration(&whole) || !Walk::new(whole).go_on(alloc) {
         writeln!(out, "another head by {} bytes", rest.len().into_u64());
@@ -107,10 +107,10 @@ impl<'table, R: Reader> Walk<'table, R> {
 
 // What a read tells: tag, children flag and where the sibling is, or why it is refused; and the offset and
 // the depth of what is read next.
-type Told = (Result<(u16, bool, Option<u64>)>, u64, isize);
+type HeadRead = (Result<(u16, bool, Option<u64>)>, u64, isize);
 
 // What the whole entry tells.
-fn of_entry<R: Reader>(raw: &mut Raw<'_, R>, alloc: Global) -> Told {
+fn of_entry<R: Reader>(raw: &mut Raw<'_, R>, alloc: Global) -> HeadRead {
     let mut entry = DebuggingInformationEntry::null(alloc);
     let answer = match raw.read_entry(&mut entry) {
         Ok(_) => {
@@ -123,7 +123,7 @@ fn of_entry<R: Reader>(raw: &mut Raw<'_, R>, alloc: Global) -> Told {
 }
 
 // What its head tells, with the sibling or without.
-fn of_head<R: Reader>(raw: &mut Raw<'_, R>, has_sibling: bool) -> Told {
+fn of_head<R: Reader>(raw: &mut Raw<'_, R>, has_sibling: bool) -> HeadRead {
     let answer = match read_head(raw, has_sibling) {
         Ok((Some(it), sibling)) => Ok((it.tag().0, it.has_children(), sibling)),
         Ok((None, sibling)) => Ok((0, false, sibling)),

@@ -37,7 +37,7 @@ pub(crate) fn write_text<R: Reader, A: Allocator + Copy, W: Write>(
     }
 }
 
-/// Writes a dump that is put behind a line, and its status; where it is refused, what is left.
+/// Writes a dump that is put after a line, and its status; where it is refused, what is left.
 pub(crate) fn write_dump<R: Reader, A: Allocator + Copy>(
     call: &Call<'_, R>,
     heap: A,

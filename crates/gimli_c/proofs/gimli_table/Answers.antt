@@ -13,9 +13,9 @@ returns-clause-serves c =
     c.if-sections-eq0.outcome.counted c.if-sections-eq0.outcome.status =
     elim c.if-sections-eq0.branch [
       | then-sections-eq0 w ↦ rw (w.outcome-is, w.declarations-is, w.specifications-is)
-          (rw (as_little own w.if-sections-eq0.true) at w.read_table-outcome.ensures)
+          (rw (as_little own w.if-sections-eq0.true) at w.read_table.ensures)
       | else-sections-eq0 w ↦ rw (w.outcome-is, w.declarations-is, w.specifications-is)
-          (rw (as_big own w.if-sections-eq0.false) at w.read_table-outcome-else-sections-eq0.ensures)
+          (rw (as_big own w.if-sections-eq0.false) at w.read_table-else-sections-eq0.ensures)
     ] in
     λ is s same unit has.
     serves s unit c.args.offset c.args.declarations.now c.if-sections-eq0.declarations

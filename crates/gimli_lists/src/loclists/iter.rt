@@ -19,6 +19,7 @@ ghost use Rattle.gimli_lists.specs.RangeEntry.{range_entry_of};
 ghost use Rattle.gimli_lists.specs.Resolved.{answer_then};
 ghost use Rattle.gimli_base.specs.Reading.{transpose};
 ghost use Rattle.gimli_lists.specs.WithPayload.{with_payload};
+ghost use Rattle.gimli_base.specs.Sections.{addr_content};
 
 use crate::loclists::LocationListEntry;
 use crate::loclists::entry::{RawLocListEntry, RawLocListIter};
@@ -65,7 +66,7 @@ impl<R: Reader> LocListIter<R> {
             ≡ record {
               raw = raw;
               base = base_address;
-              addresses = ⟦<DebugAddr<R> as Section<R>>⟧.content debug_addr;
+              addresses = addr_content R.view debug_addr;
               table =
                   R.Offset.number debug_addr_base.0;
             } }

@@ -16,6 +16,7 @@ ghost use Rattle.gimli_lists.specs.RangeReads.{range_grammar-takes};
 ghost use Rattle.gimli_lists.specs.Ranges.{resolved_of, ranges_ahead};
 ghost use Rattle.gimli_lists.specs.Resolved.{base_given, resolve, answer_then};
 ghost use Rattle.gimli_base.specs.Reading.{transpose};
+ghost use Rattle.gimli_base.specs.Sections.{addr_content};
 
 use crate::next_item::{EntryWalk, next_item};
 use crate::rnglists::Range;
@@ -60,7 +61,7 @@ impl<R: Reader> RngListIter<R> {
             ≡ record {
               raw = raw;
               base = base_address;
-              addresses = ⟦<DebugAddr<R> as Section<R>>⟧.content debug_addr;
+              addresses = addr_content R.view debug_addr;
               table =
                   R.Offset.number debug_addr_base.0;
             } }
@@ -218,13 +219,13 @@ pub(crate) fn resolve_entry<R: Reader>(
     ensures value { answer_of (option_map resolved_of) result
         ≡ resolve size
         (λ index. table_address R.Offset.limit size (R.Offset.number debug_addr_base.0) index
-        (⟦<DebugAddr<R> as Section<R>>⟧.content debug_addr.now)) base.old
+        (addr_content R.view debug_addr.now)) base.old
         (range_entry_of R.Offset.number entry) }
     ensures given { base.new
         ≡ unwrap_or
         (base_given
         (λ index. table_address R.Offset.limit size (R.Offset.number debug_addr_base.0) index
-        (⟦<DebugAddr<R> as Section<R>>⟧.content debug_addr.now))
+        (addr_content R.view debug_addr.now))
         (range_entry_of R.Offset.number entry)) base.old }
 {
     match entry {

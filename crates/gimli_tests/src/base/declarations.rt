@@ -1,5 +1,8 @@
 use crate::samples::{Table, encoding, table_with};
-use gimli_base::{Abbreviation, AttributeSpecification, DwAt, DwForm, Encoding, Format};
+use gimli_base::{
+    Abbreviation, AttributeSpecification, DwAt, DwForm, Encoding, EndianSlice, Error, Format,
+    LittleEndian, Reader,
+};
 use std::alloc::Global;
 use std::process::Abort;
 use std::test::Fail;
@@ -13,6 +16,22 @@ fn are_equal_where_all_parts_are(rt: HostRuntime) {
     let same = AttributeSpecification::new(DwAt(0x3b), DwForm(0x21), Some(-1));
     let other = AttributeSpecification::new(DwAt(0x3b), DwForm(0x21), Some(1));
     assert!(rt; made == same && made != other);
+}
+
+// A name with a form; one whose form has its number here; the two zeros; and a name without a form,
+// which is refused and leaves the input.
+#[test]
+fn declared_attributes_are_read_one_by_one(rt: HostRuntime) -> Result<(), Fail> {
+    let bytes = [0x03, 0x08, 0x49, 0x21, 0x7f, 0, 0, 0x02, 0, 0x05];
+    let mut input = EndianSlice::new(&bytes, LittleEndian);
+    let name = AttributeSpecification::new(DwAt(0x03), DwForm(0x08), None);
+    assert_eq!(rt; AttributeSpecification::read(&mut input), Ok(Some(name)));
+    let constant = AttributeSpecification::new(DwAt(0x49), DwForm(0x21), Some(-1));
+    assert_eq!(rt; AttributeSpecification::read(&mut input), Ok(Some(constant)));
+    assert_eq!(rt; AttributeSpecification::read(&mut input), Ok(None));
+    assert_eq!(rt; AttributeSpecification::read(&mut input), Err(Error::AttributeFormZero));
+    assert_eq!(rt; input.read_u8(), Ok(2));
+    Ok(())
 }
 
 // The encodings: version 4 and version 5, with the narrowest and the widest addresses and offsets; and
@@ -109,10 +128,10 @@ fn sibling_of_known_size_is_between_two_steps(rt: HostRuntime) -> Result<(), Fai
 // in every format.
 #[test]
 fn step_tells_a_reference_of_8_bytes(rt: HostRuntime) -> Result<(), Fail> {
-    for (form, told) in [(0x13, 0), (0x14, 1), (0x24, 1)] {
+    for (form, has_ref8) in [(0x13, 0), (0x14, 1), (0x24, 1)] {
         let table = table_with(rt.alloc(), 0, &[0x3a, 0x05, 0x49, form, 0x11, 0x01], 1)?;
         let declared = table.get(1).expect(&rt, "declared");
-        assert_eq!(rt; declared.whole_step().map(|step| step.has_ref8), Some(told));
+        assert_eq!(rt; declared.whole_step().map(|step| step.has_ref8), Some(has_ref8));
     }
     Ok(())
 }

@@ -15,14 +15,14 @@ use std::alloc::Allocator;
 impl<R: Reader, A: Allocator> AttributeSink<R> for Vec<Attribute<R>, A> {
     type Answer = ();
 
-    ghost Stand = { List Attr × (ℕ × ℕ) };
+    ghost Meaning = { List Attr × (ℕ × ℕ) };
 
-    ghost stand = { λ l _. (
+    ghost meaning = { λ l _. (
       map (map_attribute R.view R.Offset.number) l.items,
       (vec_len l, vec_capacity l),
     ) };
 
-    ghost taken = { λ l a. (
+    ghost after_take = { λ l a. (
       map (map_attribute R.view R.Offset.number) l.items ++ a ∷ [],
       (vec_len l + 1, vec_capacity l),
     ) };

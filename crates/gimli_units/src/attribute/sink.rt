@@ -10,19 +10,19 @@ use gimli_base::{AttributeSpecification, Reader};
 
 /// What an attribute is handed to, once, when its value is read; where it is refused, it is not.
 ///
-/// An impl says what a sink and its answer stand for (`stand`), what that is when an attribute is
-/// taken (`taken`), and when one more can be (`has_room`).
+/// An impl says what a sink and its answer stand for (`meaning`), what that is when an attribute is
+/// taken (`after_take`), and when one more can be (`has_room`).
 pub trait AttributeSink<R: Reader> {
     /// What taking an attribute answers.
     type Answer;
 
     // what a sink and its answer stand for
-    ghost Stand: { Type 0 };
+    ghost Meaning: { Type 0 };
 
-    ghost stand: { Self → Self.Answer → Stand };
+    ghost meaning: { Self → Self.Answer → Meaning };
 
     // the same, by what the attribute stands for
-    ghost taken: { Self → Attr → Stand };
+    ghost after_take: { Self → Attr → Meaning };
 
     // whether one more can be taken
     ghost has_room: { Self → Type 0 };
@@ -34,7 +34,7 @@ pub trait AttributeSink<R: Reader> {
         value: AttributeValue<R>,
     ) -> Self::Answer
         requires { has_room self.old }
-        ensures { stand self.new result ≡ taken self.old
+        ensures { meaning self.new result ≡ after_take self.old
             (with_value specification.now (map_value R.view R.Offset.number value)) };
 }
 
@@ -45,11 +45,11 @@ pub(crate) struct Return;
 impl<R: Reader> AttributeSink<R> for Return {
     type Answer = Attribute<R>;
 
-    ghost Stand = { Attr };
+    ghost Meaning = { Attr };
 
-    ghost stand = { λ _ a. map_attribute R.view R.Offset.number a };
+    ghost meaning = { λ _ a. map_attribute R.view R.Offset.number a };
 
-    ghost taken = { λ _ a. a };
+    ghost after_take = { λ _ a. a };
 
     ghost has_room = { λ _. Unit {0} };
 
@@ -77,11 +77,11 @@ pub(crate) struct Ignore;
 impl<R: Reader> AttributeSink<R> for Ignore {
     type Answer = ();
 
-    ghost Stand = { Unit {0} };
+    ghost Meaning = { Unit {0} };
 
-    ghost stand = { λ _ _. tt };
+    ghost meaning = { λ _ _. tt };
 
-    ghost taken = { λ _ _. tt };
+    ghost after_take = { λ _ _. tt };
 
     ghost has_room = { λ _. Unit {0} };
 

@@ -19,7 +19,7 @@ returns-then-left-count-clause-shorter g c =
 pub returns-in_default-split_first-clause-passed : goal.returns-in_default-split_first-clause-passed
 returns-in_default-split_first-clause-passed g c = λ given.
     let inv = c.steps.invariant in
-    let count = c.count_of-count.ensures in
+    let count = c.from-count.ensures in
     let did = c.pass_step.ensures.passed c.if-not-pass_step.false in
     let fits : c.in-Some.first.now.step.values ≤ length c.steps.left.now =
     omega (arith, c.if-left-count.false, count) in
@@ -36,7 +36,7 @@ returns-in_default-split_first-clause-shorter g c =
 pub returns-in_err-pass_value_by-clause-passed : goal.returns-in_err-pass_value_by-clause-passed
 returns-in_err-pass_value_by-clause-passed g c = λ given.
     let inv = c.steps.invariant in
-    let count = c.count_of-count.ensures in
+    let count = c.from-count.ensures in
     let did = c.pass_step.ensures.passed c.if-not-pass_step.false in
     let fits : c.in-Some.first.now.step.values ≤ length c.steps.left.now =
     omega (arith, c.if-left-count.false, count) in
@@ -48,7 +48,7 @@ returns-in_err-pass_value_by-clause-passed g c = λ given.
 pub steps-preserved : goal.steps-preserved
 steps-preserved g c =
     let inv = c.steps.invariant in
-    let count = c.count_of-count.ensures in
+    let count = c.from-count.ensures in
     let did = c.pass_step.ensures.passed c.if-not-pass_step.false in
     let fits : c.in-Some.first.now.step.values ≤ length c.steps.left.now =
     omega (arith, c.if-left-count.false, count) in

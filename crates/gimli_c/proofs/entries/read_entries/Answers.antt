@@ -5,7 +5,8 @@ use Rattle.gimli_units.specs.Unit.{range_from}
 use Rattle.gimli_units.specs.UnitHeld.{unit_view}
 use Rattle.gimli_c.specs.Fronts.{at, unit_ahead}
 use Rattle.gimli_base.specs.Table.{codes_of}
-use Rattle.gimli_c.proofs.EntryBounds.{outcome_undeclared}
+use Rattle.gimli_c.proofs.Bounds.{idle_undeclared}
+use Rattle.gimli_c.proofs.EntryFront.{idle_entries}
 use Rattle.gimli_c.proofs.Heads.{same_answer}
 use Rattle.gimli_c.proofs.Memory.{table_takes, refusal_no_row}
 use Rattle.gimli_c.proofs.Resume.{unit_resumes, moved_entries}
@@ -22,11 +23,12 @@ returns-clause-outcome g c =
       back,
       ← c.in-Ok.ensures,
     )
-    (outcome_undeclared g.R.Offset.ReaderOffset.limit (unit_view c.in-Ok.header)
-    (at number c.args.depth) c.args.rows.now c.args.attrs.now c.in-Ok.header.entries_fit
-    c.in-Err-abbreviations.error
+    (idle_entries _ _ _ _ _
+    (idle_undeclared g.R.Offset.ReaderOffset.limit u (at number c.args.depth)
+    c.in-Ok.header.entries_fit c.in-Err-abbreviations.error
     (map_at u.abbreviations (g.R.Reader.view c.args.sections.now.abbreviations.section))
     c.in-Err-abbreviations.ensures.value)
+    (refusal_no_row c.in-Err-abbreviations.error))
 
 pub returns-in-Ok-abbreviations-clause-resumes : goal.returns-in-Ok-abbreviations-clause-resumes
 returns-in-Ok-abbreviations-clause-resumes g c =

@@ -3,6 +3,7 @@ use Rattle.gimli_lists.specs.Locations.{location_of, locations_ahead}
 use Rattle.gimli_c.specs.Lists.{location_row}
 use Rattle.gimli_c.proofs.ListFront.{front_written, front_counted, list_ended, list_refused}
 use Rattle.gimli_c.proofs.lists.fill_locations.Goals.{then-count-locations, else-count-locations}
+use Rattle.gimli_c.proofs.lists.fill_locations.Goals.{in-Ok-None, in-Err}
 use Rattle.gimli_c.proofs.lists.fill_locations.Goals as goal
 
 pub found-preserved : goal.found-preserved
@@ -38,20 +39,19 @@ found-preserved g c =
       fits = omega (arith, p.fits, takes);
     }
 
-pub returns-in-Ok-None : goal.returns-in-Ok-None
-returns-in-Ok-None g c =
-    let limit = g.R.Offset.ReaderOffset.limit in
-    let ahead = rw c.in-Ok-None.field-0-is at c.in-Ok-None.ensures.ahead in
-    rw c.status_after.ensures
-    (list_ended location_row (locations_ahead limit c.args.list.now)
-    (locations_ahead limit c.found.list) c.args.locations.now c.found.locations c.found.count
-    c.found.invariant.front ahead)
-
-pub returns-in-Err : goal.returns-in-Err
-returns-in-Err g c =
-    let limit = g.R.Offset.ReaderOffset.limit in
-    rw (c.status_after-in-Err.ensures, c.row_refused.ensures)
-    (list_refused location_row (locations_ahead limit c.args.list.now)
-    (locations_ahead limit c.found.list) c.args.locations.now c.found.locations c.found.count
-    c.found.invariant.front c.in-Err.error (locations_ahead limit c.next.new.self)
-    c.in-Err.ensures.ahead)
+pub returns : goal.returns
+returns g c =
+    let start = locations_ahead g.R.Offset.ReaderOffset.limit c.args.list.now in
+    let now = locations_ahead g.R.Offset.ReaderOffset.limit c.found.list in
+    let rest = locations_ahead g.R.Offset.ReaderOffset.limit c.next.new.self in
+    let front = c.found.invariant.front in
+    rw (c.list_outcome.ensures, c.found.auto.locations) (elim c.match-next.branch [
+      | in-Ok-None w ↦
+          rw w.last-is
+          (list_ended location_row start now c.args.locations.now c.found.locations c.found.count front
+          (rw w.in-Ok-None.field-0-is at w.in-Ok-None.ensures.ahead))
+      | in-Err w ↦
+          rw (w.last-is, w.row_refused-last.ensures)
+          (list_refused location_row start now c.args.locations.now c.found.locations c.found.count front
+          w.in-Err.error rest w.in-Err.ensures.ahead)
+    ])

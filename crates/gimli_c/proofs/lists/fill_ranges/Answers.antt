@@ -3,6 +3,7 @@ use Rattle.gimli_lists.specs.Ranges.{resolved_of, ranges_ahead}
 use Rattle.gimli_c.specs.Lists.{range_row}
 use Rattle.gimli_c.proofs.ListFront.{front_written, front_counted, list_ended, list_refused}
 use Rattle.gimli_c.proofs.lists.fill_ranges.Goals.{then-count-ranges, else-count-ranges}
+use Rattle.gimli_c.proofs.lists.fill_ranges.Goals.{in-Ok-None, in-Err}
 use Rattle.gimli_c.proofs.lists.fill_ranges.Goals as goal
 
 pub found-preserved : goal.found-preserved
@@ -33,18 +34,19 @@ found-preserved g c =
       fits = omega (arith, p.fits, takes);
     }
 
-pub returns-in-Ok-None : goal.returns-in-Ok-None
-returns-in-Ok-None g c =
-    let limit = g.R.Offset.ReaderOffset.limit in
-    let ahead = rw c.in-Ok-None.field-0-is at c.in-Ok-None.ensures.ahead in
-    rw c.status_after.ensures
-    (list_ended range_row (ranges_ahead limit c.args.list.now) (ranges_ahead limit c.found.list)
-    c.args.ranges.now c.found.ranges c.found.count c.found.invariant.front ahead)
-
-pub returns-in-Err : goal.returns-in-Err
-returns-in-Err g c =
-    let limit = g.R.Offset.ReaderOffset.limit in
-    rw (c.status_after-in-Err.ensures, c.row_refused.ensures)
-    (list_refused range_row (ranges_ahead limit c.args.list.now) (ranges_ahead limit c.found.list)
-    c.args.ranges.now c.found.ranges c.found.count c.found.invariant.front c.in-Err.error
-    (ranges_ahead limit c.next.new.self) c.in-Err.ensures.ahead)
+pub returns : goal.returns
+returns g c =
+    let start = ranges_ahead g.R.Offset.ReaderOffset.limit c.args.list.now in
+    let now = ranges_ahead g.R.Offset.ReaderOffset.limit c.found.list in
+    let rest = ranges_ahead g.R.Offset.ReaderOffset.limit c.next.new.self in
+    let front = c.found.invariant.front in
+    rw (c.list_outcome.ensures, c.found.auto.ranges) (elim c.match-next.branch [
+      | in-Ok-None w ↦
+          rw w.last-is
+          (list_ended range_row start now c.args.ranges.now c.found.ranges c.found.count front
+          (rw w.in-Ok-None.field-0-is at w.in-Ok-None.ensures.ahead))
+      | in-Err w ↦
+          rw (w.last-is, w.row_refused-last.ensures)
+          (list_refused range_row start now c.args.ranges.now c.found.ranges c.found.count front
+          w.in-Err.error rest w.in-Err.ensures.ahead)
+    ])

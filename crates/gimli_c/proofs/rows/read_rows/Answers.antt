@@ -4,7 +4,7 @@ use Rattle.gimli_base.specs.Abbreviations.{map_at}
 use Rattle.gimli_units.specs.UnitHeld.{unit_view}
 use Rattle.gimli_c.specs.Fronts.{at, unit_ahead}
 use Rattle.gimli_base.specs.Table.{codes_of}
-use Rattle.gimli_c.proofs.Bounds.{outcome_undeclared, outcome_given}
+use Rattle.gimli_c.proofs.Bounds.{idle_rows, idle_undeclared, outcome_given}
 use Rattle.gimli_c.proofs.Heads.{same_answer}
 use Rattle.gimli_c.proofs.Shorter.{no_steps}
 use Rattle.gimli_c.proofs.Memory.{table_takes}
@@ -22,11 +22,11 @@ returns-clause-outcome g c =
       back,
       ← c.in-Ok.ensures,
     )
-    (outcome_undeclared g.R.Offset.ReaderOffset.limit (unit_view c.in-Ok.header)
-    (at number c.args.depth) c.args.rows.now c.in-Ok.header.entries_fit
-    c.in-Err-abbreviations.error
+    (idle_rows _ _ _ _
+    (idle_undeclared g.R.Offset.ReaderOffset.limit u (at number c.args.depth)
+    c.in-Ok.header.entries_fit c.in-Err-abbreviations.error
     (map_at u.abbreviations (g.R.Reader.view c.args.sections.now.abbreviations.section))
-    c.in-Err-abbreviations.ensures.value)
+    c.in-Err-abbreviations.ensures.value))
 
 pub returns-in-Ok-abbreviations-clause-resumes : goal.returns-in-Ok-abbreviations-clause-resumes
 returns-in-Ok-abbreviations-clause-resumes g c =

@@ -4,7 +4,6 @@ use Rattle.gimli_base.specs.Abbreviations.{specifications_at}
 use Rattle.gimli_base.specs.Items.{all_items}
 use Rattle.gimli_base.proofs.ItemTurns.{items_begin, items_more, items_refused, items_end}
 use Rattle.gimli_base.proofs.AbbreviationReads.{specification_at-shorter}
-use Rattle.gimli_c.specs.Tables.{specification_in}
 use Rattle.gimli_c.specs.TableReads.{AreWrittenAfter, HaveSteps}
 use Rattle.gimli_c.proofs.TableFront.{after_none, after_more, after_counted, after_put}
 use Rattle.gimli_c.proofs.TableFront.{steps_put, steps_left}
@@ -26,17 +25,17 @@ pub returns-in_err-specification-clause-refused : goal.returns-in_err-specificat
 unfolding specifications_at
 returns-in_err-specification-clause-refused g c =
     let ended =
-    ap all_items (items_refused _ _ _ _ _ c.each.invariant.read c.in_err-specification.ensures) in
+    ap all_items (items_refused _ _ _ _ _ c.each.invariant.read c.in_err-specification.ensures.value) in
     search rules
 
 pub each-smaller : goal.each-smaller
-each-smaller g c = specification_at-shorter _ _ _ c.in_ok-specification.ensures
+each-smaller g c = specification_at-shorter _ _ _ c.in_ok-specification.ensures.value
 
 pub each-preserved : goal.each-preserved
 each-preserved g c =
     let inv = c.each.invariant in
-    let s = specification_in c.in-Some.specification in
-    let next = rw c.in-Some.is at c.in_ok-specification.ensures in
+    let s = c.in-Some.specification in
+    let next = rw c.in-Some.is at c.in_ok-specification.ensures.value in
     let shorter = specification_at-shorter _ _ _ next in
     let longer : length (inv.taken ++ s ∷ []) ≡ length inv.taken + 1 = rw (length-append) refl in
     record {
@@ -50,7 +49,7 @@ each-preserved g c =
             omega (arith, w.if-at-specifications.true, inv.at_is, c.each.auto.specifications) in
             rw (w.specifications-is, inv.at_is)
             (after_more c.args.from inv.taken c.args.specifications.now c.each.specifications
-            c.in-Some.specification s inv.after room refl)
+            w.of.result s inv.after room w.of.ensures)
         | else-at-specifications w ↦
             let full : length c.each.specifications ≤ c.args.from + length inv.taken =
             omega (arith, w.if-at-specifications.false, inv.at_is, c.each.auto.specifications) in
@@ -64,7 +63,7 @@ pub returns-clause-read : goal.returns-clause-read
 unfolding specifications_at
 returns-clause-read g c =
     let inv = c.each.invariant in
-    let last = rw c.in_default.is at c.in_ok-specification.ensures in
+    let last = rw c.in_default.is at c.in_ok-specification.ensures.value in
     let ended = ap all_items (items_end _ _ _ _ _ inv.read last) in
     let shorter = specification_at-shorter _ _ _ last in
     let n = length inv.taken in

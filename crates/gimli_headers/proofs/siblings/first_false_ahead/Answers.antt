@@ -33,9 +33,9 @@ rows-smaller g c =
     let p = c.rows.entries in
     let q = c.read_head_and_sibling.new.self in
     let o = option_copied c.in-Ok.declared in
-    let leads = option_map (λ x. number x.0) c.in-Ok.sibling in
-    let h = entry_of_head limit p o leads q.rest q.depth c.in-Ok.ensures.value c.in-Ok.ensures.some
-    c.in-Ok.ensures.depth in
+    let to_sibling = option_map (λ x. number x.0) c.in-Ok.sibling in
+    let h = entry_of_head limit p o to_sibling q.rest q.depth c.in-Ok.ensures.value c.in-Ok.ensures.some
+    c.in-Ok.ensures.advances.depth in
     entry_at-shorter _ _ _ _ _ _ h.of.reads
 
 pub rows-preserved : goal.rows-preserved
@@ -45,9 +45,9 @@ rows-preserved g c =
     let p = c.rows.entries in
     let q = c.read_head_and_sibling.new.self in
     let o = option_copied c.in-Ok.declared in
-    let leads = option_map (λ x. number x.0) c.in-Ok.sibling in
-    let h = entry_of_head limit p o leads q.rest q.depth c.in-Ok.ensures.value c.in-Ok.ensures.some
-    c.in-Ok.ensures.depth in
+    let to_sibling = option_map (λ x. number x.0) c.in-Ok.sibling in
+    let h = entry_of_head limit p o to_sibling q.rest q.depth c.in-Ok.ensures.value c.in-Ok.ensures.some
+    c.in-Ok.ensures.advances.depth in
     let r : Row = record {
       offset = number c.next_offset-offset.result.0;
       next = number c.next_offset.result.0;
@@ -57,11 +57,11 @@ rows-preserved g c =
     let some : length p.rest.bytes ≡ 0 → ⊥ = search rules in
     let deep : to_z w64 (of_z w64 c.next_depth-depth.result) ≡ p.depth =
     to_z-of_z w64 _ (record { sfits = c.next_depth-depth.type_inv }) ∙ c.next_depth-depth.ensures in
-    let next = c.in-Ok.ensures.same
+    let next = c.in-Ok.ensures.advances.same
     ∙ ap (λ (d : ℤ). record p { rest = q.rest; depth = d }) h.of.after in
     let more : (rows_of limit p).rows ≡ r ∷ (rows_of limit q).rows =
     more_rows limit p q r some h.of.reads next c.next_offset-offset.ensures c.next_offset.ensures refl in
-    let same_end : q.end ≡ p.end = ap (λ (x : RawPlace). x.end) c.in-Ok.ensures.same in
+    let same_end : q.end ≡ p.end = ap (λ (x : RawPlace). x.end) c.in-Ok.ensures.advances.same in
     let end : number c.args.end.0 ≡ p.end = c.requires ∙ sym c.rows.invariant.end in
     let is : IsPassedRow number
     (record {
@@ -77,7 +77,7 @@ rows-preserved g c =
       offset = refl;
       next = refl;
       depth = sym deep;
-      leads = sym h.leads;
+      to_sibling = sym h.to_sibling;
     } in
     record {
       same = turn_judged (number c.args.end.0) p.end q.end (check_held number c.rows.check)
@@ -95,9 +95,9 @@ returns-in_err-go_past-in-Ok-clause-without_memory g c = λ none.
     let p = c.rows.entries in
     let q = c.read_head_and_sibling.new.self in
     let o = option_copied c.in-Ok.declared in
-    let leads = option_map (λ x. number x.0) c.in-Ok.sibling in
-    let h = entry_of_head limit p o leads q.rest q.depth c.in-Ok.ensures.value c.in-Ok.ensures.some
-    c.in-Ok.ensures.depth in
+    let to_sibling = option_map (λ x. number x.0) c.in-Ok.sibling in
+    let h = entry_of_head limit p o to_sibling q.rest q.depth c.in-Ok.ensures.value c.in-Ok.ensures.some
+    c.in-Ok.ensures.advances.depth in
     let r : Row = record {
       offset = number c.next_offset-offset.result.0;
       next = number c.next_offset.result.0;
@@ -107,11 +107,11 @@ returns-in_err-go_past-in-Ok-clause-without_memory g c = λ none.
     let some : length p.rest.bytes ≡ 0 → ⊥ = search rules in
     let deep : to_z w64 (of_z w64 c.next_depth-depth.result) ≡ p.depth =
     to_z-of_z w64 _ (record { sfits = c.next_depth-depth.type_inv }) ∙ c.next_depth-depth.ensures in
-    let next = c.in-Ok.ensures.same
+    let next = c.in-Ok.ensures.advances.same
     ∙ ap (λ (d : ℤ). record p { rest = q.rest; depth = d }) h.of.after in
     let more : (rows_of limit p).rows ≡ r ∷ (rows_of limit q).rows =
     more_rows limit p q r some h.of.reads next c.next_offset-offset.ensures c.next_offset.ensures refl in
-    let same_end : q.end ≡ p.end = ap (λ (x : RawPlace). x.end) c.in-Ok.ensures.same in
+    let same_end : q.end ≡ p.end = ap (λ (x : RawPlace). x.end) c.in-Ok.ensures.advances.same in
     let end : number c.args.end.0 ≡ p.end = c.requires ∙ sym c.rows.invariant.end in
     let is : IsPassedRow number
     (record {
@@ -127,7 +127,7 @@ returns-in_err-go_past-in-Ok-clause-without_memory g c = λ none.
       offset = refl;
       next = refl;
       depth = sym deep;
-      leads = sym h.leads;
+      to_sibling = sym h.to_sibling;
     } in
     let no : usable_target (number c.args.end.0) r ≡ None =
     rw c.requires (none_first c.args.entries.now.end _ r _ more (c.rows.invariant.idle none)) in

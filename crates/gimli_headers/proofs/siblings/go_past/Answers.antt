@@ -44,8 +44,8 @@ returns-in-Some-clause-judged g c =
     let added = rw back at c.enter.ensures.value in
     on_ok c.enter.result
     (λ new r rest is.
-    let leads : usable_target (number c.args.end.0) r ≡ Some (number c.in-Some.target.0) =
-    rw (is.next, is.leads) (sym c.in-Some.ensures) in
+    let to_sibling : usable_target (number c.args.end.0) r ≡ Some (number c.in-Some.target.0) =
+    rw (is.next, is.to_sibling) (sym c.in-Some.ensures) in
     let rise : Rise r.depth (check_held number c.args.check.now).opens =
     subst (λ d. Rise d (check_held number c.args.check.now).opens) (sym is.depth) c.requires in
     let opened : check_held number c.enter.new.self
@@ -60,7 +60,7 @@ returns-in-Some-clause-judged g c =
       first = (check_held number c.args.check.now).first;
     } = rw (is.offset, is.depth) new in
     opened_on (number c.args.end.0) _ r rest (is.null ∙ c.if-passed.false) rise _
-    (number c.in-Some.target.0) _ (search rules) leads opened) added
+    (number c.in-Some.target.0) _ (search rules) to_sibling opened) added
 
 pub returns-in-Some-clause-rise : goal.returns-in-Some-clause-rise
 returns-in-Some-clause-rise g c =
@@ -71,8 +71,8 @@ returns-in-Some-clause-rise g c =
     let added = rw back at c.enter.ensures.value in
     on_ok c.enter.result
     (λ new r is.
-    let leads : usable_target (number c.args.end.0) r ≡ Some (number c.in-Some.target.0) =
-    rw (is.next, is.leads) (sym c.in-Some.ensures) in
+    let to_sibling : usable_target (number c.args.end.0) r ≡ Some (number c.in-Some.target.0) =
+    rw (is.next, is.to_sibling) (sym c.in-Some.ensures) in
     let rise : Rise r.depth (check_held number c.args.check.now).opens =
     subst (λ d. Rise d (check_held number c.args.check.now).opens) (sym is.depth) c.requires in
     let opened : check_held number c.enter.new.self
@@ -87,14 +87,14 @@ returns-in-Some-clause-rise g c =
       first = (check_held number c.args.check.now).first;
     } = rw (is.offset, is.depth) new in
     opened_rise (number c.args.end.0) r _ _ (number c.in-Some.target.0) _
-    (is.null ∙ c.if-passed.false) leads rise opened) added
+    (is.null ∙ c.if-passed.false) to_sibling rise opened) added
 
 pub returns-in-None-clause-judged : goal.returns-in-None-clause-judged
 returns-in-None-clause-judged g c = λ r rest is.
-    let leads : usable_target (g.Offset.ReaderOffset.number c.args.end.0) r ≡ None =
-    rw (is.next, is.leads) (sym c.in-None.ensures) in
+    let to_sibling : usable_target (g.Offset.ReaderOffset.number c.args.end.0) r ≡ None =
+    rw (is.next, is.to_sibling) (sym c.in-None.ensures) in
     passed_on (g.Offset.ReaderOffset.number c.args.end.0) _ r rest (is.null ∙ c.if-passed.false)
-    (rw is.depth c.requires) _ (search rules) leads
+    (rw is.depth c.requires) _ (search rules) to_sibling
 
 pub returns-in-None-clause-rise : goal.returns-in-None-clause-rise
 returns-in-None-clause-rise g c = λ r is.
@@ -103,6 +103,6 @@ returns-in-None-clause-rise g c = λ r is.
 pub returns-in-Some-clause-without_memory : goal.returns-in-Some-clause-without_memory
 returns-in-Some-clause-without_memory g c = λ r is none.
     let number = g.Offset.ReaderOffset.number in
-    let leads : usable_target (number c.args.end.0) r ≡ Some (number c.in-Some.target.0) =
-    rw (is.next, is.leads) (sym c.in-Some.ensures) in
+    let to_sibling : usable_target (number c.args.end.0) r ≡ Some (number c.in-Some.target.0) =
+    rw (is.next, is.to_sibling) (sym c.in-Some.ensures) in
     absurd (cc)

@@ -21,7 +21,7 @@ go_to-requires g c =
     (without_entry c.args.raw.now 0 (pos 0) c.args.follows 0)
     (option_copied c.in-Ok-default-Some.field-0-0)
     (option_map (λ x. n x.0) c.in-Ok-default-Some.field-0-1) c.read_head_and_sibling.new.self.rest
-    c.read_head_and_sibling.new.self.depth o.value o.some o.depth in
+    c.read_head_and_sibling.new.self.depth o.value o.some o.advances.depth in
     rw deep (omega (arith, shorter, c.requires.shallow))
 
 pub returns-then-is_followed : goal.returns-then-is_followed
@@ -35,7 +35,7 @@ returns-then-is_followed g c k =
     passed_goes g.R.Offset.ReaderOffset.limit c.args.sought s c.go_to.new.self
     c.read_head_and_sibling.new.self (option_copied c.in-Ok-default-Some.field-0-0)
     (option_map (λ x. n x.0) c.in-Ok-default-Some.field-0-1) (n c.in-Ok-default-Some.target.0)
-    c.requires.some o.value o.some o.same o.depth (sym looks ∙ c.if-is_followed.true)
+    c.requires.some o.value o.some o.advances.same o.advances.depth (sym looks ∙ c.if-is_followed.true)
     (ap (option_map (λ x. n x.0)) c.in-Ok-default-Some.field-0-1-is) (rw deep at c.go_to.ensures)
 
 pub returns-else-is_followed : goal.returns-else-is_followed
@@ -48,8 +48,8 @@ returns-else-is_followed g c k =
     let looks = rw (to_z-of_z w64 c.args.sought c.ranges.sought, deep) at c.is_followed.ensures in
     passed_stays g.R.Offset.ReaderOffset.limit c.args.sought s c.read_head_and_sibling.new.self
     (option_copied c.in-Ok-default-Some.field-0-0)
-    (option_map (λ x. n x.0) c.in-Ok-default-Some.field-0-1) c.requires.some o.value o.some o.same
-    o.depth
+    (option_map (λ x. n x.0) c.in-Ok-default-Some.field-0-1) c.requires.some o.value o.some o.advances.same
+    o.advances.depth
     (λ f. let x : true ≡ false = sym f ∙ sym looks ∙ c.if-is_followed.false in absurd (cc))
 
 pub returns-in-Ok-default-None : goal.returns-in-Ok-default-None
@@ -59,8 +59,8 @@ returns-in-Ok-default-None g c k =
     let o = c.in-Ok-default-None.ensures in
     passed_stays g.R.Offset.ReaderOffset.limit c.args.sought s c.read_head_and_sibling.new.self
     (option_copied c.in-Ok-default-None.field-0-0)
-    (option_map (λ x. n x.0) c.in-Ok-default-None.field-0-1) c.requires.some o.value o.some o.same
-    o.depth (λ f. ap (option_map (λ x. n x.0)) c.in-Ok-default-None.field-0-1-is)
+    (option_map (λ x. n x.0) c.in-Ok-default-None.field-0-1) c.requires.some o.value o.some o.advances.same
+    o.advances.depth (λ f. ap (option_map (λ x. n x.0)) c.in-Ok-default-None.field-0-1-is)
 
 pub returns-in-Err : goal.returns-in-Err
 returns-in-Err g c k =
@@ -72,7 +72,7 @@ returns-in-Err g c k =
     c.requires.some
     (λ _. refusal_of_head limit c.args.raw.now c.in-Err.error o.value)
     (λ _. refusal_of_head limit c.args.raw.now c.in-Err.error o.value)
-    c.empty.ensures o.kept refl refl refl) refl
+    c.empty.ensures o.advances.kept refl refl refl) refl
     (λ is. entry_at-never limit c.args.raw.now.encoding (codes_of c.args.raw.now.abbreviations)
     c.args.raw.now.rest
     (sym (refusal_of_head limit c.args.raw.now c.in-Err.error o.value) ∙ ap Err is))

@@ -29,7 +29,7 @@ rows-smaller g c =
     let o = option_copied c.in-Ok.declared in
     entry_shorter limit p o q.rest q.depth
     (entry_of limit p o q.rest q.depth c.in-Ok.ensures.value c.in-Ok.ensures.some
-    c.in-Ok.ensures.depth)
+    c.in-Ok.ensures.advances.depth)
 
 pub rows-preserved : goal.rows-preserved
 rows-preserved g c = λ final written rest.
@@ -38,11 +38,11 @@ rows-preserved g c = λ final written rest.
     let q = c.read_head.new.self in
     let o = option_copied c.in-Ok.declared in
     let h = entry_of limit p o q.rest q.depth c.in-Ok.ensures.value c.in-Ok.ensures.some
-    c.in-Ok.ensures.depth in
+    c.in-Ok.ensures.advances.depth in
     let some : length p.rest.bytes ≡ 0 → ⊥ = search rules in
     let offset : c.into_u64-offset.result ≡ next_offset_of p = search rules in
     let depth : c.next_depth-depth.result ≡ p.depth = search rules in
-    let next = c.in-Ok.ensures.same ∙ ap (λ (d : ℤ). record p { rest = q.rest; depth = d }) h.after in
+    let next = c.in-Ok.ensures.advances.same ∙ ap (λ (d : ℤ). record p { rest = q.rest; depth = d }) h.after in
     let back : to_z w64 (of_z w64 c.next_depth-depth.result)
     ≡ c.next_depth-depth.result = to_z-of_z w64 _ (record { sfits = c.next_depth-depth.type_inv }) in
     let tag = c.head_parts-tag.ensures.tag ∙ ap (λ (x : Head). x.tag.0) h.same in

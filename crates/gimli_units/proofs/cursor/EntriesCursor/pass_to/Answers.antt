@@ -6,8 +6,8 @@ use Rattle.gimli_units.proofs.SeekTurns.{passing_on, passing_shorter, passing_ou
 use Rattle.gimli_units.proofs.SeekTurns.{passed_here}
 use Rattle.gimli_units.proofs.cursor.EntriesCursor.pass_to.Goals as goal
 
-pub stand-requires : goal.stand-requires
-stand-requires g c =
+pub set_place-requires : goal.set_place-requires
+set_place-requires g c =
     let limit = g.R.Offset.ReaderOffset.limit in
     let deep : to_z w64 (of_z w64 c.next_depth-depth.result) ≡ c.passing.raw.depth =
     to_z-of_z w64 _ (record { sfits = c.next_depth-depth.type_inv }) ∙ c.next_depth-depth.ensures in
@@ -30,7 +30,7 @@ returns-in-Err-clause-refused g c =
     c.passing.reads in
     let same = to_z-of_z w64 c.args.sought c.ranges.sought in
     let kept = ap (λ (x : CursorView). x.follows) c.passing.invariant.kept in
-    rw (c.stand.ensures, kept, deep, c.next_offset-offset.ensures)
+    rw (c.set_place.ensures, kept, deep, c.next_offset-offset.ensures)
     (passing_out limit c.args.sought c.args.self.now _ c.pass_on.result _
     (rw same at c.passing.invariant.passing) (rw same at passed) c.in-Err.refusal
     c.in-Err.is)
@@ -61,7 +61,7 @@ passing-preserved g c =
 pub returns-clause-passed : goal.returns-clause-passed
 returns-clause-passed g c =
     let same = to_z-of_z w64 c.args.sought c.ranges.sought in
-    rw (c.stand-2.ensures, ap (λ (x : CursorView). x.follows) c.passing.invariant.kept)
+    rw (c.set_place-2.ensures, ap (λ (x : CursorView). x.follows) c.passing.invariant.kept)
     (passing_to g.R.Offset.ReaderOffset.limit c.args.sought c.args.self.now _
     (rw same at c.passing.invariant.passing)
     (rw same at c.is_before.ensures.same c.passing-test.false))

@@ -9,7 +9,7 @@ returns-in-Ok-clause-read g c =
     let t = c.is_empty.ensures.1 none in cc in
     rw (← c.self.view_is)
     (did_read g.R.Offset.ReaderOffset.limit _ c.read_entry.new.self _ _
-    c.read_entry.new.entry.depth some o.value o.same o.depth o.offset o.entry_depth)
+    c.read_entry.new.entry.depth some o.value o.advances.same o.advances.depth o.offset o.entry_depth)
 
 pub returns-in-Err-clause-read : goal.returns-in-Err-clause-read
 returns-in-Err-clause-read g c =
@@ -19,7 +19,7 @@ returns-in-Err-clause-read g c =
     rw (← c.self.view_is)
     (did_refuse g.R.Offset.ReaderOffset.limit _ c.empty.new.self c.read_entry.new.self
     c.in-Err.error _ _ c.read_entry.new.entry.depth some o.value o.without_memory
-    c.empty.ensures o.kept o.null o.offset o.entry_depth)
+    c.empty.ensures o.advances.kept o.null o.offset o.entry_depth)
 
 pub invariant_of-self-in-Ok : goal.invariant_of-self-in-Ok
 invariant_of-self-in-Ok g c =
@@ -28,7 +28,7 @@ invariant_of-self-in-Ok g c =
     let t = c.is_empty.ensures.1 none in cc in
     sound_read g.R.Offset.ReaderOffset.limit _ _ _ c.self.invariant
     (did_read g.R.Offset.ReaderOffset.limit _ c.read_entry.new.self _ _ c.read_entry.new.entry.depth
-    some o.value o.same o.depth o.offset o.entry_depth)
+    some o.value o.advances.same o.advances.depth o.offset o.entry_depth)
 
 pub invariant_of-self-in-Err : goal.invariant_of-self-in-Err
 invariant_of-self-in-Err g c =
@@ -38,4 +38,4 @@ invariant_of-self-in-Err g c =
     sound_read g.R.Offset.ReaderOffset.limit _ _ _ c.self.invariant
     (did_refuse g.R.Offset.ReaderOffset.limit _ c.empty.new.self c.read_entry.new.self
     c.in-Err.error _ _ c.read_entry.new.entry.depth some o.value o.without_memory
-    c.empty.ensures o.kept o.null o.offset o.entry_depth)
+    c.empty.ensures o.advances.kept o.null o.offset o.entry_depth)

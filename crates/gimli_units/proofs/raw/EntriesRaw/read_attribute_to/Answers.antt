@@ -12,7 +12,7 @@ invariant_of-self g c =
     let s = c.args.specification.now in
     let v = g.R.Reader.view c.copy-rest.result in
     let later = IsLater-length 0 _ _
-    (made_leaves_later 0 v (g.T.AttributeSink.taken c.args.sink.now) (attribute_at limit e s v)
+    (made_leaves_later 0 v (g.T.AttributeSink.after_take c.args.sink.now) (attribute_at limit e s v)
     (attribute_at-later limit e s v) _ _ c.in_ok-taken.ensures.value) in
     let same = ap (λ (v : View). length v.bytes) c.copy-rest.ensures in
     (omega (arith, later, same), omega (arith, later, same))

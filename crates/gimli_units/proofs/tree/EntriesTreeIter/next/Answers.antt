@@ -13,7 +13,7 @@ returns-in_err-advance-clause-refused g c =
       sought.refused e was,
       (
         (λ honest. sought.place e was (λ f. honest)),
-        (λ t leads deep. sought.refused_there e was t leads deep),
+        (λ t to_sibling deep. sought.refused_there e was t to_sibling deep),
       ),
     )
 
@@ -56,6 +56,6 @@ returns-clause-child g c =
       place = λ honest. rw asked.0 (ap (λ moved. moved.place) (gone.goes honest []));
       gone_on = gone;
       few = gone.sought.few;
-      one_read = λ deep t leads. gone.sought.once t leads deep;
+      one_read = λ deep t to_sibling. gone.sought.once t to_sibling deep;
     }
     )

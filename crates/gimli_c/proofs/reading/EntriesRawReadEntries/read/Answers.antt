@@ -3,7 +3,7 @@ use Rattle.gimli_units.specs.RawPlace.{RawPlace}
 use Rattle.gimli_c.proofs.Heads.{null_with, entry_with, past_code, past_attribute, numbers_of}
 use Rattle.gimli_c.proofs.Heads.{refused_of, asks_refused, asks_declared}
 use Rattle.gimli_c.proofs.Memory.{code_takes, declared_takes}
-use Rattle.gimli_c.proofs.reading.read_numbers.Goals as goal
+use Rattle.gimli_c.proofs.reading.EntriesRawReadEntries.read.Goals as goal
 
 pub returns-in_err-declared-clause-refused : goal.returns-in_err-declared-clause-refused
 returns-in_err-declared-clause-refused g c =
@@ -18,18 +18,18 @@ returns-in_err-declared-clause-memory g c =
 
 pub returns-in_default-clause-past : goal.returns-in_default-clause-past
 returns-in_default-clause-past g c =
-    let p = c.args.entries.now in
+    let p = c.args.self.now in
     let left = c.read_abbreviation.new.self.rest in
     let e = rw (c.copy-rest.ensures, c.in_default.is) at c.in_ok-declared.ensures in
     rw c.null.ensures (null_with _ p c.read_abbreviation.new.self e.value
-    (e.same ∙ ap (λ (d : ℤ). record p { rest = left; depth = d }) e.depth) _ (search rules))
+    (e.advances.same ∙ ap (λ (d : ℤ). record p { rest = left; depth = d }) e.advances.depth) _ (search rules))
 
 pub returns-in_err-push_numbers-clause-refused : goal.returns-in_err-push_numbers-clause-refused
 returns-in_err-push_numbers-clause-refused g c =
     let r : c.from_residual-in_err-push_numbers.result
     ≡ Err c.in_err-push_numbers.field-0.0 = search rules in
     let e = rw (c.copy-rest.ensures, c.in-Some.is) at c.in_ok-declared.ensures in
-    let encoding = ap (λ (p : RawPlace). p.encoding) e.same in
+    let encoding = ap (λ (p : RawPlace). p.encoding) e.advances.same in
     rw r (λ other. past_attribute _ _ _ _ _ _ _ e.value
     (refused_of _ _ _ _ _
     (rw (encoding, c.attributes.ensures) at c.in_err-push_numbers.ensures.value other)))
@@ -44,12 +44,12 @@ returns-in_err-push_numbers-clause-memory g c =
 
 pub returns-clause-past : goal.returns-clause-past
 returns-clause-past g c =
-    let p = c.args.entries.now in
+    let p = c.args.self.now in
     let q = c.push_numbers.new.entries in
     let middle = c.read_abbreviation.new.self.rest in
     let e = rw (c.copy-rest.ensures, c.in-Some.is) at c.in_ok-declared.ensures in
-    let encoding = ap (λ (p : RawPlace). p.encoding) e.same in
-    let moved = e.same ∙ ap (λ (d : ℤ). record p { rest = middle; depth = d }) e.depth in
+    let encoding = ap (λ (p : RawPlace). p.encoding) e.advances.same in
+    let moved = e.advances.same ∙ ap (λ (d : ℤ). record p { rest = middle; depth = d }) e.advances.depth in
     let n = numbers_of _ _ _ _ q.rest c.push_numbers.new.numbers.0.items
     (rw (encoding, c.attributes.ensures) at c.in_ok-push_numbers.ensures.value) in
     rw c.declared_head-head.ensures.value

@@ -1,5 +1,5 @@
-//! What a reader is told for the heads of entries as compilers write them, and for attributes that are passed:
-//! a user's own reader may do much work for each call.
+//! Which calls a reader gets for the heads of entries as compilers write them, and for attributes that are
+//! passed: a user's own reader may do much work for each call.
 
 ghost use Rattle.std.proofs.Common.{rules};
 
@@ -25,14 +25,14 @@ fn count(cell: &Cell<u64>) {
     cell.set(cell.get().saturating_add(1));
 }
 
-// A reader over a slice that counts what it is told.
+// A reader over a slice that counts its calls.
 #[derive(Debug, Drop)]
-struct Told<'a> {
+struct CountingReader<'a> {
     inner: EndianSlice<'a, LittleEndian>,
     counts: &'a Counts,
 }
 
-impl<'a> Reader for Told<'a> {
+impl<'a> Reader for CountingReader<'a> {
     type Endian = LittleEndian;
 
     type Offset = usize;
@@ -54,7 +54,7 @@ impl<'a> Reader for Told<'a> {
     fn copy(&self) -> Self {
         count(&self.counts.copies);
         let (inner, counts) = (self.inner.copy(), self.counts);
-        Told { inner, counts }
+        CountingReader { inner, counts }
     }
 
     fn skip(&mut self, n: usize) -> gimli_base::Result<()> {
@@ -66,7 +66,7 @@ impl<'a> Reader for Told<'a> {
     fn split(&mut self, n: usize) -> gimli_base::Result<Self> {
         count(&self.counts.others);
         let (inner, counts) = (self.inner.split(n)?, self.counts);
-        Ok(Told { inner, counts })
+        Ok(CountingReader { inner, counts })
     }
 
     fn read_u8(&mut self) -> gimli_base::Result<u8> {
@@ -94,9 +94,9 @@ impl<'a> Reader for Told<'a> {
 }
 
 // A reader of these bytes, and where it counts.
-fn reader_of<'a>(bytes: &'a [u8], counts: &'a Counts) -> Told<'a> {
+fn reader_of<'a>(bytes: &'a [u8], counts: &'a Counts) -> CountingReader<'a> {
     let inner = EndianSlice::new(bytes, LittleEndian);
-    Told { inner, counts }
+    CountingReader { inner, counts }
 }
 
 // The attributes of a function, a structure and a variable, by gcc: the name and the form of each in turn.
@@ -113,7 +113,7 @@ const BY_CLANG: &[u8] = b"\x11\x1b\x12\x06\x40\x18\x6e\x25\x03\x25\x3a\x0b\x3b\x
 // Those of a structure of Rust.
 const RUST_STRUCTURE: &[u8] = b"\x03\x0e\x0b\x0b\x32\x0b\x22\x0f";
 
-// The attributes of entries as compilers write them, and how often a reader may be told something for the
+// The attributes of entries as compilers write them, and how often a reader may be called for the
 // head of one, with children and without: once for the code, once for each run of values of known widths, twice
 // for an expression, once for a LEB128 number, and once for a reference to a sibling where one is sought.
 const USUAL: [(&[u8], u64, u64); 6] = [
