@@ -15,6 +15,7 @@ use Rattle.gimli_c.specs.declared.attrs.GimliAttr.{GimliAttr}
 use Rattle.gimli_c.specs.declared.lists.GimliBases.{GimliBases}
 use Rattle.gimli_c.specs.declared.lists.GimliLocation.{GimliLocation}
 use Rattle.gimli_c.specs.declared.lists.GimliRange.{GimliRange}
+use Rattle.gimli_c.specs.declared.lists.Listed.{Listed}
 use Rattle.gimli_c.specs.declared.sections.GimliSections.{GimliSections}
 use Rattle.gimli_c.specs.declared.unit.GimliUnit.{GimliUnit}
 use Rattle.gimli_c.specs.Status.{more, end, no_list, refusal_status, row_refused}
@@ -80,6 +81,12 @@ abbrev pub IsListOutcome : {X Y : Type 0} → (X → Y) → Result (List (Result
     → ℕ → ℕ → Type 0
 IsListOutcome f (Ok answers) old new count status = IsListed f answers old new count status
 IsListOutcome f (Err stop) old new count status = IsUnlisted stop old new count status
+
+-- the same of a count and a status, or of the status alone where nothing is read
+abbrev pub IsListResult : {X Y : Type 0} → (X → Y) → Result (List (Result X Error)) ℕ → List Y
+    → List Y → Result Listed ℕ → Type 0
+IsListResult f outcome old new (Ok l) = IsListOutcome f outcome old new l.count l.status
+IsListResult f outcome old new (Err stop) = IsListOutcome f outcome old new 0 stop
 
 -- the view of a section's bytes in a byte order
 abbrev pub section_view : Bool → List ℕ → View

@@ -1,24 +1,18 @@
 //! Entries that are read one after the other by a table in a caller's buffers.
 
-ghost use Rattle.std.specs.Prelude.{◌≡◌, ◌+◌, ◌-◌, ◌<◌, ◌≤◌, ◌^◌, map, length, pos};
-ghost use Rattle.std.specs.Prelude.{◌-ℤ◌, unsigned_abs};
-ghost use Rattle.std.specs.Prelude.{true, Some, List, [], IsOk, IfOk, IfErr, OnOk, OnErr};
+ghost use Rattle.std.specs.Prelude.{◌≡◌, ◌+◌, ◌-◌, ◌<◌, ◌≤◌, ◌^◌, map, length, unsigned_abs};
+ghost use Rattle.std.specs.Prelude.{Some, List, [], IsOk, IfOk, IfErr, OnOk};
 ghost use Rattle.std.specs.Option.{option_map};
 ghost use Rattle.gimli_base.specs.Offset.{answer_of};
 ghost use Rattle.gimli_base.specs.Reading.{read_of, answer_leaving, map_read, UnlessMemory};
 ghost use Rattle.gimli_base.specs.Table.{codes_of};
 ghost use Rattle.gimli_base.specs.declared.error.Error.TheVariants.{OutOfMemory};
-ghost use Rattle.gimli_units.specs.Entry.{Attr, attribute_at, attributes_at};
-ghost use Rattle.gimli_units.specs.Entry.{abbreviation_at, entry_at, takes_memory};
-ghost use Rattle.gimli_units.specs.RawPlace.{RawPlace, next_offset_of};
+ghost use Rattle.gimli_units.specs.Entry.{attribute_at, attributes_at, abbreviation_at};
 ghost use Rattle.gimli_units.specs.Sized.{left_by};
-ghost use Rattle.gimli_units.specs.Unit.{whole_length};
 ghost use Rattle.gimli_units.specs.UnitHeld.{unit_view};
 ghost use Rattle.gimli_c.specs.Attrs.{attr_of};
-ghost use Rattle.gimli_c.specs.Heads.{PlaceBy, IsOpened, AsksMemory, GoesOn};
-ghost use Rattle.gimli_c.specs.Heads.{place_after, table_head};
-ghost use Rattle.gimli_c.specs.Tables.{specification_in, declaration_in, declared_in, table_in};
-ghost use Rattle.gimli_c.specs.Tables.{HasSteps};
+ghost use Rattle.gimli_c.specs.Heads.{PlaceBy, IsOpened, place_after, table_head};
+ghost use Rattle.gimli_c.specs.Tables.{specification_in, declaration_in, table_in, HasSteps};
 
 use crate::attrs::Numbers;
 use crate::reading::{Head, ReadEntries};

@@ -373,9 +373,10 @@ pub extern "C" fn gimli_ranges(
         let outcome = ranges_at (section_is_big s) s unit.now attribute.now bases.now in
         IsListOutcome range_row outcome into.old into.new count.new result }
 {
-    let outcome = in_order!(sections, endian => {
+    let found = in_order!(sections, endian => {
         lists::find_ranges(sections, endian, unit, attribute, bases, into)
     });
+    let outcome = found.unwrap_or_else(lists::no_items);
     *count = outcome.count;
     outcome.status
 }
@@ -395,9 +396,10 @@ pub extern "C" fn gimli_locations(
         let outcome = locations_at (section_is_big s) s unit.now attribute.now bases.now in
         IsListOutcome location_row outcome into.old into.new count.new result }
 {
-    let outcome = in_order!(sections, endian => {
+    let found = in_order!(sections, endian => {
         lists::find_locations(sections, endian, unit, attribute, bases, into)
     });
+    let outcome = found.unwrap_or_else(lists::no_items);
     *count = outcome.count;
     outcome.status
 }

@@ -1,12 +1,10 @@
 //! Lists of ranges and of locations, at the value of an attribute.
 
-ghost use Rattle.std.specs.Prelude.{◌≡◌, ◌<◌, ◌^◌, length, Err};
-ghost use Rattle.gimli_base.specs.Offset.{answer_of};
-ghost use Rattle.gimli_base.specs.Reading.{is_size};
+ghost use Rattle.std.specs.Prelude.{◌≡◌, ◌<◌, ◌^◌, length, Ok, Err};
 ghost use Rattle.gimli_lists.specs.Locations.{locations_ahead};
 ghost use Rattle.gimli_lists.specs.Ranges.{ranges_ahead};
 ghost use Rattle.gimli_c.specs.Lists.{encoding_in, range_row, location_row, list_status, IsListed};
-ghost use Rattle.gimli_c.specs.Lists.{IsListOutcome, ranges_at, locations_at};
+ghost use Rattle.gimli_c.specs.Lists.{IsListResult, if_sized, ranges_at, locations_at};
 
 use crate::attrs::GimliAttr;
 use crate::sections::GimliSections;
@@ -70,11 +68,14 @@ pub(crate) struct Listed {
     pub(crate) status: u32,
 }
 
-// How a unit's bytes are read.
-fn encoding_of(unit: &GimliUnit) -> Encoding
-    ensures { result ≡ encoding_in unit.now }
+// How a unit's bytes are read, or the status where an address cannot have the size that is named.
+fn encoding_of(unit: &GimliUnit) -> Result<Encoding, u32>
+    ensures { result ≡ if_sized unit.now (Ok (encoding_in unit.now)) }
 {
-    Encoding {
+    if !matches!(unit.address_size, 1 | 2 | 4 | 8) {
+        return Err(refusal_status(Error::UnsupportedAddressSize(unit.address_size)));
+    }
+    Ok(Encoding {
         format: if unit.offset_size == 8 {
             Format::Dwarf64
         } else {
@@ -82,18 +83,11 @@ fn encoding_of(unit: &GimliUnit) -> Encoding
         },
         version: unit.version,
         address_size: unit.address_size,
-    }
+    })
 }
 
-// Whether an address may have this size.
-fn is_address_size(size: u8) -> bool
-    ensures { result ≡ is_size size }
-{
-    size == 1 || size == 2 || size == 4 || size == 8
-}
-
-// Nothing.
-fn no_items(status: u32) -> Listed
+/// What a call answers where nothing is read: its status.
+pub(crate) fn no_items(status: u32) -> Listed
     ensures { result ≡ record { count = 0; status = status } }
 {
     Listed { count: 0, status }
@@ -118,35 +112,32 @@ pub(crate) fn find_ranges<E: Endianity>(
     attribute: &GimliAttr,
     bases: &GimliBases,
     ranges: &mut [GimliRange],
-) -> Listed
+) -> Result<Listed, u32>
     ensures { let s = sections.now in
         let outcome = ranges_at (E.big endian) s unit.now attribute.now bases.now in
-        IsListOutcome range_row outcome ranges.old ranges.new result.count result.status }
+        IsListResult range_row outcome ranges.old ranges.new result }
 {
-    let encoding = encoding_of(unit);
-    if !is_address_size(unit.address_size) {
-        return no_items(refusal_status(Error::UnsupportedAddressSize(unit.address_size)));
-    }
+    let encoding = encoding_of(unit)?;
     let old = DebugRanges::new(sections.ranges, endian);
     let new = DebugRngLists::new(sections.rnglists, endian);
     let lists = RangeLists::new(old, new);
     let number = attribute.number as usize;
-    let offset = if attribute.kind == 12 {
-        RangeListsOffset(number)
-    } else if attribute.kind == 26 {
-        let base = DebugRngListsBase(bases.rnglists as usize);
-        match lists.get_offset(encoding, base, DebugRngListsIndex(number)) {
-            Ok(offset) => offset,
-            Err(error) => return no_items(refusal_status(error)),
+    let offset = match attribute.kind {
+        12 => RangeListsOffset(number),
+        26 => {
+            let base = DebugRngListsBase(bases.rnglists as usize);
+            let index = DebugRngListsIndex(number);
+            lists
+                .get_offset(encoding, base, index)
+                .map_err(refusal_status)?
         }
-    } else {
-        return no_items(NO_LIST);
+        _ => return Err(NO_LIST),
     };
     let addresses = DebugAddr::from(EndianSlice::new(sections.addresses, endian));
     let table = DebugAddrBase(bases.addresses as usize);
     match lists.ranges(offset, encoding, bases.address, &addresses, table) {
-        Ok(mut list) => fill_ranges(&mut list, ranges),
-        Err(error) => no_items(refusal_status(error)),
+        Ok(mut list) => Ok(fill_ranges(&mut list, ranges)),
+        Err(error) => Err(refusal_status(error)),
     }
 }
 
@@ -184,29 +175,26 @@ pub(crate) fn find_locations<E: Endianity>(
     attribute: &GimliAttr,
     bases: &GimliBases,
     locations: &mut [GimliLocation],
-) -> Listed
+) -> Result<Listed, u32>
     ensures { let s = sections.now in
         let outcome = locations_at (E.big endian) s unit.now attribute.now bases.now in
-        IsListOutcome location_row outcome locations.old locations.new result.count result.status }
+        IsListResult location_row outcome locations.old locations.new result }
 {
-    let encoding = encoding_of(unit);
-    if !is_address_size(unit.address_size) {
-        return no_items(refusal_status(Error::UnsupportedAddressSize(unit.address_size)));
-    }
+    let encoding = encoding_of(unit)?;
     let old = DebugLoc::new(sections.loc, endian);
     let new = DebugLocLists::new(sections.loclists, endian);
     let lists = LocationLists::new(old, new);
     let number = attribute.number as usize;
-    let offset = if attribute.kind == 12 {
-        LocationListsOffset(number)
-    } else if attribute.kind == 21 {
-        let base = DebugLocListsBase(bases.loclists as usize);
-        match lists.get_offset(encoding, base, DebugLocListsIndex(number)) {
-            Ok(offset) => offset,
-            Err(error) => return no_items(refusal_status(error)),
+    let offset = match attribute.kind {
+        12 => LocationListsOffset(number),
+        21 => {
+            let base = DebugLocListsBase(bases.loclists as usize);
+            let index = DebugLocListsIndex(number);
+            lists
+                .get_offset(encoding, base, index)
+                .map_err(refusal_status)?
         }
-    } else {
-        return no_items(NO_LIST);
+        _ => return Err(NO_LIST),
     };
     let addresses = DebugAddr::from(EndianSlice::new(sections.addresses, endian));
     let table = DebugAddrBase(bases.addresses as usize);
@@ -216,8 +204,8 @@ pub(crate) fn find_locations<E: Endianity>(
         lists.locations_dwo(offset, encoding, bases.address, &addresses, table)
     };
     match found {
-        Ok(mut list) => fill_locations(&mut list, locations),
-        Err(error) => no_items(refusal_status(error)),
+        Ok(mut list) => Ok(fill_locations(&mut list, locations)),
+        Err(error) => Err(refusal_status(error)),
     }
 }
 
