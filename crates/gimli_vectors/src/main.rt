@@ -1,9 +1,10 @@
-//! Tries the tables of tests: reads, numbers, abbreviations, units, entries, attributes and lists; walks; and
-//! calls that memory is refused for.
+//! Tries the tables of tests: reads, numbers, abbreviations, units, entries, attributes and lists; bases, and
+//! values by them; walks; and calls that memory is refused for.
 #![tactic(auto)]
 
 use gimli_base::Reader;
 use std::{env, io};
+use test_dwarf::write_dwarf;
 use test_reads::write_read;
 use test_tables::{Call, Calls, Outcome, Program, Text, try_tables};
 use test_walks::{write_refused, write_walk};
@@ -33,6 +34,7 @@ impl<'a> Program for Vectors<'a> {
     fn answer<R: Reader + PartialEq>(&self, call: &Call<'_, R>, out: &mut Text) -> Outcome {
         match call.case.calls {
             Calls::Reads => write_read(call, out),
+            Calls::Dwarf => write_dwarf(call, out),
             Calls::Walks => write_walk(self.rt, self.folder, call, out),
             Calls::Memory => write_refused(call, out),
         }

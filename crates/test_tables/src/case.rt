@@ -10,6 +10,8 @@ use std::io;
 pub enum Calls {
     /// Those of one read, value, entry or list.
     Reads,
+    /// Those of bases, and of addresses, texts and lists by values.
+    Dwarf,
     /// Those of walks, runs, and the words of the program.
     Walks,
     /// Those whose requests for memory are refused, or whose writer is too short.
@@ -22,6 +24,7 @@ impl Calls {
         match line.strip_prefix("calls of ")? {
             "reads" => Some(Calls::Reads),
             "walks" => Some(Calls::Walks),
+            "dwarf" => Some(Calls::Dwarf),
             "memory" => Some(Calls::Memory),
             _ => None,
         }
@@ -94,7 +97,7 @@ impl Case {
     }
 
     // The case of the words from an index on, with other bytes, whose answers are not known.
-    pub(crate) fn behind(&self, alloc: Global, index: usize, bytes: &[u8]) -> io::Result<Case> {
+    pub(crate) fn with_bytes(&self, alloc: Global, index: usize, bytes: &[u8]) -> io::Result<Case> {
         let mut case = Case::new(alloc, self.calls);
         case.orders = self.orders;
         for word in self.words.iter().skip(index) {

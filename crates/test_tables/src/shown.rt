@@ -5,11 +5,11 @@ use crate::text::Text;
 use gimli_base::{Reader, ReaderOffset};
 
 /// Writes the bytes of a reader in hexadecimal digits, each with what stands after it.
-pub fn write_hex<R: Reader>(out: &mut Text, reader: &R, behind: &str) {
+pub fn write_hex<R: Reader>(out: &mut Text, reader: &R, separator: &str) {
     let mut rest = reader.copy();
     for _ in 0..reader.len().into_u64() {
         match rest.read_u8() {
-            Ok(byte) => write!(out, "{byte:02x}{behind}"),
+            Ok(byte) => write!(out, "{byte:02x}{separator}"),
             Err(error) => write_refusal(out, error),
         }
     }

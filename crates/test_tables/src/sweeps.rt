@@ -25,7 +25,7 @@ impl<'a, P: Program> Trial<'a, P> {
             let Some(front) = bytes.get(..length) else {
                 break;
             };
-            let next = self.answer(&case.behind(self.alloc, 1, front)?)?;
+            let next = self.answer(&case.with_bytes(self.alloc, 1, front)?)?;
             if length == 0 || next != last {
                 write_part(&mut found, length, &next);
             }
@@ -45,7 +45,7 @@ impl<'a, P: Program> Trial<'a, P> {
                 Some(place) => *place = byte,
                 None => break,
             }
-            let next = self.answer(&case.behind(self.alloc, 2, &changed)?)?;
+            let next = self.answer(&case.with_bytes(self.alloc, 2, &changed)?)?;
             let refusal = format!(in self.alloc; "refused 7 {byte}\n")?;
             if !next.starts_with(refusal.as_bytes()) {
                 write_part(&mut found, usize::from(byte), &next);

@@ -16,8 +16,8 @@ pub fn try_tables<P: Program>(rt: &HostRuntime, program: &P) -> io::Result<()> {
     for name in env::args(rt)?.skip(1) {
         if name.as_str().ends_with(".txt") {
             let text = fs::read_to_string(rt, &name)?;
-            let told = try_table(rt.alloc(), program, &name, &text)?;
-            stdout.write_all(&told)?;
+            let answers = try_table(rt.alloc(), program, &name, &text)?;
+            stdout.write_all(&answers)?;
         }
     }
     stdout.flush()

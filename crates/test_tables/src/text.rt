@@ -27,21 +27,21 @@ impl Text {
         *self.bytes.allocator()
     }
 
-    /// Puts a part behind the text, as `write!` and `writeln!` do.
+    /// Puts a part after the text, as `write!` and `writeln!` do.
     pub fn write_fmt<D: Display + Drop>(&mut self, part: D) {
         if self.bytes.write_fmt(part).is_err() {
             self.is_whole = false;
         }
     }
 
-    /// Puts bytes behind the text.
+    /// Puts bytes after the text.
     pub fn push_bytes(&mut self, bytes: &[u8]) {
         if self.bytes.extend_from_slice(bytes).is_err() {
             self.is_whole = false;
         }
     }
 
-    /// Puts another text behind the text.
+    /// Puts another text after the text.
     pub fn push_text(&mut self, other: &Text) {
         self.push_bytes(&other.bytes);
         self.is_whole = self.is_whole && other.is_whole;

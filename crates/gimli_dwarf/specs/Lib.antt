@@ -1,0 +1,5 @@
+pub mod Texts
+pub mod Bases
+pub mod Values
+pub mod Lists
+pub mod Holding

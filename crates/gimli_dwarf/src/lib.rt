@@ -1,0 +1,17 @@
+//! What a unit's values count from, resolved: the bases that its root gives, addresses and texts by
+//! value, where lists begin, and the unit that holds an offset.
+#![tactic(auto)]
+
+mod bases;
+mod error;
+mod holding;
+mod lists;
+mod sections;
+mod strings;
+mod values;
+
+pub use bases::UnitBases;
+pub use error::{DwarfError, DwarfResult};
+pub use holding::unit_holding;
+pub use sections::DwarfSections;
+pub use strings::{DebugLineStr, DebugStrOffsets};
