@@ -159,6 +159,7 @@ pub(crate) struct Attributes<A: Allocator> {
     steps: Steps<A>,
 }
 
+// As the list of the attributes alone.
 impl<A: Allocator> Debug for Attributes<A> {
     fn fmt<W: fmt::Write>(&self, f: &mut fmt::Formatter<W>) -> fmt::Result {
         self.specifications().fmt(f)

@@ -99,8 +99,8 @@ impl<R: Reader> DebugInfo<R> {
         )
     }
 
-    /// The units of the section, from its beginning on: they lie one after the other, and each is
-    /// the one at its offset.
+    /// The units of the section, from its beginning on: they lie one after the other, and each has
+    /// the header that stands at its offset.
     pub fn units(&self) -> DebugInfoUnitHeadersIter<R>
         ensures begin { result
             ≡ record { rest = info_content R.view self.now; offset = 0 } }

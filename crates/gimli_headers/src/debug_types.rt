@@ -77,8 +77,8 @@ impl<R: Reader> Section<R> for DebugTypes<R> {
 }
 
 impl<R: Reader> DebugTypes<R> {
-    /// The units of the section, from its beginning on: they lie one after the other, and each is
-    /// the one at its offset.
+    /// The units of the section, from its beginning on: they lie one after the other, and each has
+    /// the header that stands at its offset.
     pub fn units(&self) -> DebugTypesUnitHeadersIter<R>
         ensures begin { result
             ≡ record { rest = types_content R.view self.now; offset = 0 } }

@@ -183,7 +183,7 @@ impl<R: Reader> Attribute<R> {
         self.value.sdata_value()
     }
 
-    /// The value as an offset into a section that the name gives, where it is one.
+    /// The offset into a section, where the form or the name of the attribute made it one.
     pub fn offset_value(&self) -> Option<R::Offset>
         ensures { option_map R.Offset.number result
             ≡ sec_offset_of (map_value R.view R.Offset.number self.now.value) }

@@ -10,8 +10,8 @@ ghost use Rattle.gimli_base.specs.Sections.{str_content};
 use crate::AttributeValue;
 use gimli_base::{DebugStr, Expression, Reader, Section};
 
-// A number below twice `half` that stands for one less than `half`, by twice `half` where it is not
-// less.
+// A number of bits whose sign is that of weight `half`, in two's complement: from `half` on it stands
+// for one that is less by twice `half`.
 fn signed_of(number: u64, half: u64) -> i64
     requires low { 0 < half }
     requires high { half ≤ 2 ^ 63 }
@@ -83,7 +83,7 @@ impl<R: Reader> AttributeValue<R> {
         }
     }
 
-    /// The value as an offset into a section that the name gives, where it is one.
+    /// The offset into a section, where the form or the name of the attribute made it one.
     pub fn offset_value(&self) -> Option<R::Offset>
         ensures { option_map R.Offset.number result
             ≡ sec_offset_of (map_value R.view R.Offset.number self.now) }

@@ -175,7 +175,8 @@ impl<'abbrev, R: Reader, A: Allocator> EntriesCursor<'abbrev, R, A> {
         !self.entry.is_null()
     }
 
-    // Reads the next entry. Answers false at the end of the bytes.
+    // Reads the next entry, a null too, in place of the one that was read last. Answers false at the
+    // end of the bytes; the last one is a null then. After a refusal nothing is left to read.
     #[inline(always)]
     pub(crate) fn read_next(&mut self) -> Result<bool>
         ensures read { HasRead R.Offset.limit self.old result self.new }
@@ -308,7 +309,7 @@ impl<'abbrev, R: Reader, A: Allocator> EntriesCursor<'abbrev, R, A> {
         let mut offset = self.entry.offset;
         let mut depth = self.entry.depth;
         let mut reads = self.reads;
-        'passing: while raw.is_before(sought) {
+        'passing: while raw.is_at_other_depth(sought) {
             offset = raw.next_offset();
             depth = raw.next_depth();
             reads += 1;
@@ -336,7 +337,7 @@ impl<'abbrev, R: Reader, A: Allocator> EntriesCursor<'abbrev, R, A> {
             self.new }
     {
         self.follow(depth);
-        if self.raw.is_before(depth) {
+        if self.raw.is_at_other_depth(depth) {
             self.pass_to(depth)?;
         }
         if self.read_next()? {

@@ -32,7 +32,7 @@ use gimli_base::{
     DebugTypeSignature, DwAt, DwForm, Encoding, Error, Expression, Reader, ReaderOffset, Result,
 };
 
-// Whether data4 or data8 under a name is an offset into a section.
+// Whether data4 or data8 under a name is an offset into a section, if it has the width of one.
 #[tactic(auto, unfolding(crate::specs::Form::is_section_name))]
 fn allow_section_offset(name: DwAt, version: u16) -> bool
     ensures { result ≡ is_section_name name.0 version }

@@ -251,7 +251,8 @@ impl<R: Reader> UnitHeader<R> {
             .unwrap()
     }
 
-    /// The number of bytes before the entries.
+    /// The number of bytes before the entries, the length field among them; `size_of_header` tells
+    /// the same by format, version and type.
     pub fn header_size(&self) -> R::Offset
         ensures { R.Offset.number result ≡ header_size (unit_view self.now) }
     {

@@ -135,7 +135,7 @@ impl<'abbrev, R: Reader, A: Allocator> EntriesRaw<'abbrev, R, A> {
 
     // Whether there is something to read, and it has another depth.
     #[inline(always)]
-    pub(crate) fn is_before(&self, depth: isize) -> bool
+    pub(crate) fn is_at_other_depth(&self, depth: isize) -> bool
         ensures left { result ≡ true → length self.now.rest.bytes ≡ 0 → ⊥ }
         ensures other { result ≡ true → int_eq self.now.depth depth ≡ false }
         ensures same { result ≡ false → (length self.now.rest.bytes ≡ 0 → ⊥)

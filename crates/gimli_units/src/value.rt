@@ -36,7 +36,7 @@ pub enum AttributeValue<R, Offset = <R as Reader>::Offset> {
     Exprloc(Expression<R>),
     /// Whether something holds.
     Flag(bool),
-    /// An offset into a section that the name gives.
+    /// An offset into a section; which one, the name of the attribute says.
     SecOffset(Offset),
     /// Where the unit's addresses begin in `.debug_addr`.
     DebugAddrBase(DebugAddrBase<Offset>),

@@ -3,9 +3,9 @@
 ghost use Rattle.std.specs.Prelude.{◌≡◌, ◌∷◌, ◌++◌, ◌+◌, ◌/◌, ◌%◌, ◌<◌, ◌≤◌, drop, false};
 ghost use Rattle.std.specs.Fmt.{digits, digit_glyph, signed_decimal};
 
-// The digit of a number below 16.
+// The hexadecimal digit of a number below 16, a letter in lower case.
 #[inline(always)]
-fn glyph(digit: u64) -> u8
+fn hex_digit(digit: u64) -> u8
     requires small { digit < 16 }
     ensures { result ≡ digit_glyph false digit }
 {
@@ -33,8 +33,8 @@ fn put_two(number: u64, end: usize, line: &mut [u8; 48]) -> usize
     ensures value { drop result line.new ≡ digit_glyph false (number / 16 % 16)
         ∷ digit_glyph false (number % 16) ∷ drop end line.old }
 {
-    let low = put_byte(glyph(number % 16), end, line);
-    put_byte(glyph(number / 16 % 16), low, line)
+    let low = put_byte(hex_digit(number % 16), end, line);
+    put_byte(hex_digit(number / 16 % 16), low, line)
 }
 
 // Writes a number below 256 in hexadecimal. Both digits are written, and the number begins after
@@ -123,7 +123,8 @@ fn put_long_signed(number: isize, end: usize, line: &mut [u8; 48]) -> usize
     }
 }
 
-/// Writes a number with its sign in the same way, in decimal. One of a single digit takes no loop.
+/// Writes a number in decimal with its sign just before `end`, and answers where it begins. One of a
+/// single digit takes no loop.
 #[inline(always)]
 pub(crate) fn put_signed(number: isize, end: usize, line: &mut [u8; 48]) -> usize
     requires room { 21 ≤ end }

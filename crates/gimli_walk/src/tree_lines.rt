@@ -100,7 +100,8 @@ impl<R: Reader, A: Allocator, W: Write> TreeSink<R, A> for NodeLines<'_, W> {
     ghost more = { λ s t u xs ys h k. (k.0 ∙ h.0, lined_more _ _ _ _ _ _ _ _ xs ys h.1 k.1) };
 }
 
-// Writes the lines of a walker's answers to these steps, and answers the status of their text.
+// Writes the lines of a walker's answers to these steps. Answers 1 if one of them was a refusal,
+// else 0.
 fn write_answers<R: Reader, A: Allocator, W: Write>(
     walker: &mut EntriesTreeWalker<'_, R, A>,
     steps: &[TreeStep],

@@ -21,7 +21,10 @@ pub(crate) fn write_heads<R: Reader>(call: &Call<'_, R>, out: &mut Text) -> Outc
         if is_listed {
             write_head(walk.whole.copy(), out);
         }
-        let most = rest.len().into_u64().min(length.saturating_add(bytes_after));
+        let most = rest
+            .len()
+            .into_u64()
+            .min(length.saturating_add(bytes_after));
         write_differing(&input, &rest, most, out)?;
         let is_same = Walk::new(walk.whole.copy()).go_on(call.alloc);
         if !walk.go_on(call.alloc) || !is_same {

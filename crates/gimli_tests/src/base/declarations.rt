@@ -27,9 +27,15 @@ fn declared_attributes_are_read_one_by_one(rt: HostRuntime) -> Result<(), Fail> 
     let name = AttributeSpecification::new(DwAt(0x03), DwForm(0x08), None);
     assert_eq!(rt; AttributeSpecification::read(&mut input), Ok(Some(name)));
     let constant = AttributeSpecification::new(DwAt(0x49), DwForm(0x21), Some(-1));
-    assert_eq!(rt; AttributeSpecification::read(&mut input), Ok(Some(constant)));
+    assert_eq!(rt;
+        AttributeSpecification::read(&mut input),
+        Ok(Some(constant))
+    );
     assert_eq!(rt; AttributeSpecification::read(&mut input), Ok(None));
-    assert_eq!(rt; AttributeSpecification::read(&mut input), Err(Error::AttributeFormZero));
+    assert_eq!(rt;
+        AttributeSpecification::read(&mut input),
+        Err(Error::AttributeFormZero)
+    );
     assert_eq!(rt; input.read_u8(), Ok(2));
     Ok(())
 }
@@ -131,7 +137,10 @@ fn step_tells_a_reference_of_8_bytes(rt: HostRuntime) -> Result<(), Fail> {
     for (form, has_ref8) in [(0x13, 0), (0x14, 1), (0x24, 1)] {
         let table = table_with(rt.alloc(), 0, &[0x3a, 0x05, 0x49, form, 0x11, 0x01], 1)?;
         let declared = table.get(1).expect(&rt, "declared");
-        assert_eq!(rt; declared.whole_step().map(|step| step.has_ref8), Some(has_ref8));
+        assert_eq!(rt;
+            declared.whole_step().map(|step| step.has_ref8),
+            Some(has_ref8)
+        );
     }
     Ok(())
 }

@@ -55,7 +55,7 @@ passing-preserved g c =
       passing =
           rw (deep, c.next_offset-offset.ensures)
           (passing_on limit _ c.args.self.now _ _ _ c.passing.invariant.passing passed c.in-Ok.is
-          (c.is_before.ensures.other c.passing-test.true));
+          (c.is_at_other_depth.ensures.other c.passing-test.true));
     }
 
 pub returns-clause-passed : goal.returns-clause-passed
@@ -64,4 +64,4 @@ returns-clause-passed g c =
     rw (c.set_place-2.ensures, ap (λ (x : CursorView). x.follows) c.passing.invariant.kept)
     (passing_to g.R.Offset.ReaderOffset.limit c.args.sought c.args.self.now _
     (rw same at c.passing.invariant.passing)
-    (rw same at c.is_before.ensures.same c.passing-test.false))
+    (rw same at c.is_at_other_depth.ensures.same c.passing-test.false))
