@@ -90,6 +90,48 @@ impl fmt::Display for Error {
 
 impl core::error::Error for Error {}
 
+/// A refusal and where it stands, which `refused` of a unit and of an iterator makes of an
+/// [`Error`]. Of an error alone nothing is known of where it stands.
+#[derive(Clone, Copy, Debug, PartialEq, Eq, Hash)]
+pub struct Refused {
+    /// Why.
+    pub error: Error,
+    /// Where the unit begins in its section, if that is known.
+    pub unit: Option<u64>,
+    /// Where the row that was refused stands in the unit, if it was one.
+    pub offset: Option<u64>,
+}
+
+impl fmt::Display for Refused {
+    fn fmt(&self, f: &mut fmt::Formatter<'_>) -> fmt::Result {
+        if let Some(offset) = self.offset {
+            write!(f, "the entry at {offset:#x} of ")?;
+        }
+        if let Some(unit) = self.unit {
+            write!(f, "the unit at {unit:#x}: ")?;
+        }
+        self.error.fmt(f)
+    }
+}
+
+impl core::error::Error for Refused {}
+
+impl From<Error> for Refused {
+    fn from(error: Error) -> Self {
+        Refused {
+            error,
+            unit: None,
+            offset: None,
+        }
+    }
+}
+
+impl From<Refused> for Error {
+    fn from(refused: Refused) -> Self {
+        refused.error
+    }
+}
+
 #[cfg(test)]
 mod tests {
     use super::{Error, LAST};
