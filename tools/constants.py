@@ -13,7 +13,7 @@ import glob, re, sys
 TABLE = ["crates/gimli_base/src/constants.rt", *sorted(glob.glob("crates/gimli_base/src/constants/*.rt"))]
 KIND = re.compile(r"^/// (.*)\n#\[derive\(.*\)\]\npub struct (Dw\w+)\(pub u(\d+)\);$", re.M)
 CODE = re.compile(r"^pub const (DW_\w+): (Dw\w+) = Dw\w+\((0x[0-9a-f]+)\);$", re.M)
-ORIGIN = "Written by tools/constants.py from crates/gimli_base/src/constants.rt and constants/*.rt: change those"
+ORIGIN = "Written by tools/constants.py from the table of crates/gimli_base (src/constants.rt and what is below it): change that"
 
 
 class Kind:

@@ -1,6 +1,6 @@
 /* The codes of DWARF by their names, and functions that name a code.
 
-   Written by tools/constants.py from crates/gimli_base/src/constants.rt and constants/*.rt: change those.
+   Written by tools/constants.py from the table of crates/gimli_base (src/constants.rt and what is below it): change that.
 
    A function answers "Unknown DwTag" and the like for a code that has no name, and never null; other
    texts begin with DW_. Where another header has names DW_.. too, as dwarf.h of libdw, define

@@ -4,7 +4,7 @@
     tag_name(0x2e)                                 is "DW_TAG_subprogram"
     tag_name(0x1234)                               is "Unknown DwTag: 0x1234"
 
-Written by tools/constants.py from crates/gimli_base/src/constants.rt and constants/*.rt: change those.
+Written by tools/constants.py from the table of crates/gimli_base (src/constants.rt and what is below it): change that.
 """
 
 

@@ -1,6 +1,6 @@
 //! The codes of DWARF by their names, each a number of its own kind, as gimli has them.
 //!
-//! Written by tools/constants.py from crates/gimli_base/src/constants.rt and constants/*.rt: change those.
+//! Written by tools/constants.py from the table of crates/gimli_base (src/constants.rt and what is below it): change that.
 //!
 //! ```
 //! use gimli_proved::{DW_TAG_subprogram, DwTag};
