@@ -334,6 +334,7 @@ int main(int argc, char **argv) {
     attrs = grown(NULL, space * sizeof *attrs);
     single = grown(NULL, single_space * sizeof *single);
     ranges = grown(NULL, ranges_room * sizeof *ranges);
+    /* without .debug_aranges, and where it has no unit or is refused, all units are looked through */
     if (gimli_unit_of_address(&sections, address, &offset) == GIMLI_MORE) {
         if (begin_unit(offset) && function_in_unit(address)) return 0;
     } else {
