@@ -132,6 +132,7 @@ def _name(kind, names, code):
         out.append(f"\n\n# {kind.text}\n")
         out += [f"{name} = {code}\n" for name, code in kind.codes]
         out.append(f"{upper} = _codes(\"DW_{upper}_\")\n_{upper}_NAMES = _names({upper})\n\n\ndef {kind.word}_name(code):\n")
+        out.append(f"    \"\"\"The name of a code of {kind.name}, or where it has none \"Unknown {kind.name}: 0x12\".\"\"\"\n")
         out.append(f"    return _name(\"{kind.name}\", _{upper}_NAMES, code)\n")
     return "".join(out)
 

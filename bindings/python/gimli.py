@@ -199,10 +199,10 @@ class Refused(Exception):
         known = 0 < self.number <= len(REFUSALS)
         self.name, self.text = REFUSALS[self.number - 1] if known else OTHER_REFUSALS.get(status, UNKNOWN_STATUS)
         self.unit, self.offset, self.found = unit, offset if status >= ROW_REFUSED else None, list(found)
-        entry = "" if self.offset is None else f"the entry at {self.offset:#x} of "
-        where = "" if unit is None else f"{entry}the unit at {unit:#x}: "
+        places = ("the entry at", self.offset), ("the unit at", unit)
+        where = " of ".join(f"{word} {offset:#x}" for word, offset in places if offset is not None)
         number = f", error {self.number}" if self.number else ""
-        super().__init__(f"{where}{self.text} ({self.name}{number})")
+        super().__init__(f"{where}{': ' if where else ''}{self.text} ({self.name}{number})")
 
 
 def places():

@@ -122,6 +122,7 @@ _TAG_NAMES = _names(TAG)
 
 
 def tag_name(code):
+    """The name of a code of DwTag, or where it has none "Unknown DwTag: 0x12"."""
     return _name("DwTag", _TAG_NAMES, code)
 
 
@@ -336,6 +337,7 @@ _AT_NAMES = _names(AT)
 
 
 def at_name(code):
+    """The name of a code of DwAt, or where it has none "Unknown DwAt: 0x12"."""
     return _name("DwAt", _AT_NAMES, code)
 
 
@@ -394,6 +396,7 @@ _FORM_NAMES = _names(FORM)
 
 
 def form_name(code):
+    """The name of a code of DwForm, or where it has none "Unknown DwForm: 0x12"."""
     return _name("DwForm", _FORM_NAMES, code)
 
 
@@ -458,6 +461,7 @@ _LANG_NAMES = _names(LANG)
 
 
 def lang_name(code):
+    """The name of a code of DwLang, or where it has none "Unknown DwLang: 0x12"."""
     return _name("DwLang", _LANG_NAMES, code)
 
 
@@ -475,6 +479,7 @@ _UT_NAMES = _names(UT)
 
 
 def ut_name(code):
+    """The name of a code of DwUt, or where it has none "Unknown DwUt: 0x12"."""
     return _name("DwUt", _UT_NAMES, code)
 
 
@@ -492,6 +497,7 @@ _RLE_NAMES = _names(RLE)
 
 
 def rle_name(code):
+    """The name of a code of DwRle, or where it has none "Unknown DwRle: 0x12"."""
     return _name("DwRle", _RLE_NAMES, code)
 
 
@@ -511,6 +517,7 @@ _LLE_NAMES = _names(LLE)
 
 
 def lle_name(code):
+    """The name of a code of DwLle, or where it has none "Unknown DwLle: 0x12"."""
     return _name("DwLle", _LLE_NAMES, code)
 
 
@@ -540,6 +547,7 @@ _ATE_NAMES = _names(ATE)
 
 
 def ate_name(code):
+    """The name of a code of DwAte, or where it has none "Unknown DwAte: 0x12"."""
     return _name("DwAte", _ATE_NAMES, code)
 
 
@@ -554,6 +562,7 @@ _DS_NAMES = _names(DS)
 
 
 def ds_name(code):
+    """The name of a code of DwDs, or where it has none "Unknown DwDs: 0x12"."""
     return _name("DwDs", _DS_NAMES, code)
 
 
@@ -568,6 +577,7 @@ _END_NAMES = _names(END)
 
 
 def end_name(code):
+    """The name of a code of DwEnd, or where it has none "Unknown DwEnd: 0x12"."""
     return _name("DwEnd", _END_NAMES, code)
 
 
@@ -580,6 +590,7 @@ _ACCESS_NAMES = _names(ACCESS)
 
 
 def access_name(code):
+    """The name of a code of DwAccess, or where it has none "Unknown DwAccess: 0x12"."""
     return _name("DwAccess", _ACCESS_NAMES, code)
 
 
@@ -592,6 +603,7 @@ _VIS_NAMES = _names(VIS)
 
 
 def vis_name(code):
+    """The name of a code of DwVis, or where it has none "Unknown DwVis: 0x12"."""
     return _name("DwVis", _VIS_NAMES, code)
 
 
@@ -604,6 +616,7 @@ _VIRTUALITY_NAMES = _names(VIRTUALITY)
 
 
 def virtuality_name(code):
+    """The name of a code of DwVirtuality, or where it has none "Unknown DwVirtuality: 0x12"."""
     return _name("DwVirtuality", _VIRTUALITY_NAMES, code)
 
 
@@ -614,6 +627,7 @@ _ADDR_NAMES = _names(ADDR)
 
 
 def addr_name(code):
+    """The name of a code of DwAddr, or where it has none "Unknown DwAddr: 0x12"."""
     return _name("DwAddr", _ADDR_NAMES, code)
 
 
@@ -627,6 +641,7 @@ _ID_NAMES = _names(ID)
 
 
 def id_name(code):
+    """The name of a code of DwId, or where it has none "Unknown DwId: 0x12"."""
     return _name("DwId", _ID_NAMES, code)
 
 
@@ -664,6 +679,7 @@ _CC_NAMES = _names(CC)
 
 
 def cc_name(code):
+    """The name of a code of DwCc, or where it has none "Unknown DwCc: 0x12"."""
     return _name("DwCc", _CC_NAMES, code)
 
 
@@ -677,6 +693,7 @@ _INL_NAMES = _names(INL)
 
 
 def inl_name(code):
+    """The name of a code of DwInl, or where it has none "Unknown DwInl: 0x12"."""
     return _name("DwInl", _INL_NAMES, code)
 
 
@@ -688,4 +705,5 @@ _ORD_NAMES = _names(ORD)
 
 
 def ord_name(code):
+    """The name of a code of DwOrd, or where it has none "Unknown DwOrd: 0x12"."""
     return _name("DwOrd", _ORD_NAMES, code)

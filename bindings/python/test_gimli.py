@@ -403,6 +403,7 @@ def refusals(library):
     # the wrong byte order is no end
     same("its words", str(refusal(list, Dwarf(library, info, SIBLING, big=True).units())), f"the unit at 0x0: {cut}")
     same("its words", str(Refused(255)), "The status is unknown. (UnknownStatus)")
+    same("its words", str(Refused(gimli.ROW_REFUSED + 1, 4)), f"the entry at 0x4: {cut}")
     same("its words", str(Refused(gimli.TOO_DEEP, unit=0)), "the unit at 0x0: The depth of the place is too great. (TooDeep)")
 
 

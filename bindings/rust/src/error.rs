@@ -104,11 +104,13 @@ pub struct Refused {
 
 impl fmt::Display for Refused {
     fn fmt(&self, f: &mut fmt::Formatter<'_>) -> fmt::Result {
-        if let Some(offset) = self.offset {
-            write!(f, "the entry at {offset:#x} of ")?;
-        }
-        if let Some(unit) = self.unit {
-            write!(f, "the unit at {unit:#x}: ")?;
+        match (self.offset, self.unit) {
+            (Some(offset), Some(unit)) => {
+                write!(f, "the entry at {offset:#x} of the unit at {unit:#x}: ")?
+            }
+            (Some(offset), None) => write!(f, "the entry at {offset:#x}: ")?,
+            (None, Some(unit)) => write!(f, "the unit at {unit:#x}: ")?,
+            (None, None) => {}
         }
         self.error.fmt(f)
     }

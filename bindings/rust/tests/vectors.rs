@@ -753,6 +753,14 @@ fn refusals_name_the_unit() {
     let text = String::from("The value names no list.");
     assert_eq!(told(Error::NoList.into()), (None, None, text));
     assert_eq!(Error::from(unit.refused(Error::NoList)), Error::NoList);
+    let entry = Refused {
+        offset: Some(0xc),
+        ..Error::AbbreviationTagZero.into()
+    };
+    assert_eq!(
+        entry.to_string(),
+        "the entry at 0xc: A declared tag is zero."
+    );
     let without = Sections {
         debug_abbrev: &[],
         ..sections
