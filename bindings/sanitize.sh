@@ -25,7 +25,8 @@ for info in "$data"/*.info; do
         head -c "$((cut / 2))" "$file.abbrev" > "$target/cut.abbrev"
         for abbrev in "$file.abbrev" "$target/cut.abbrev"; do
             for program in rows attrs; do
-                "$target/checked/$program" "$target/cut.info" "$abbrev" > /dev/null || test $? -le 1
+                "$target/checked/$program" "$target/cut.info" "$abbrev" > /dev/null 2> "$target/told" || test $? -le 1 \
+                    || { cat "$target/told"; exit 1; }
                 runs=$((runs + 1))
             done
         done

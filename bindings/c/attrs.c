@@ -2,7 +2,8 @@
    a line for each row, as rows.c does, then one for each attribute: its name, form and class, its
    number, and its text where it has one; with `by` the table of abbreviations of each unit is read
    once. With a REPEAT that is not 0 nothing is printed but the time. A ROOM of 0 is one of 1, since
-   with none no call gives a row; so is a SPACE of 0. */
+   with none no call gives a row; so is a SPACE of 0. What is refused is told in words on stderr, and
+   then the exit status is 1. */
 #define _POSIX_C_SOURCE 200809L
 #include "gimli.h"
 #include "read_file.h"
@@ -11,6 +12,13 @@
 #include <stdio.h>
 #include <stdlib.h>
 #include <time.h>
+
+/* Tells with which status the units end, or the rows of one, and whether that is a refusal. */
+static int is_refused(uint64_t unit, uint32_t status) {
+    if (status == GIMLI_END) return 0;
+    fprintf(stderr, "the unit at 0x%" PRIx64 ": %s\n", unit, gimli_text(status));
+    return 1;
+}
 
 int main(int argc, char **argv) {
     if (argc < 3) return 2;
@@ -30,15 +38,17 @@ int main(int argc, char **argv) {
     if (!rows || !attrs) return 4;
     double best = 1e9;
     uint64_t all_rows = 0, all_attrs = 0, folded = 0;
+    int refused = 0;
     for (int turn = 0; turn < (repeat ? repeat : 1); turn++) {
         struct timespec a, b;
         clock_gettime(CLOCK_MONOTONIC, &a);
         all_rows = all_attrs = folded = 0;
         gimli_unit_t unit;
-        for (uint64_t offset = 0; gimli_unit(&sections, offset, &unit) == GIMLI_MORE; offset += unit.length) {
+        uint64_t offset = 0;
+        uint32_t status;
+        for (; (status = gimli_unit(&sections, offset, &unit)) == GIMLI_MORE; offset += unit.length) {
             gimli_place_t place = {unit.header_size, 0};
             const gimli_table_t *table = argc > 6 ? read_table(&sections, &unit) : NULL;
-            uint32_t status = GIMLI_MORE;
             while (status == GIMLI_MORE) {
                 gimli_filled_t filled;
                 status = table ? gimli_entries_by(&sections, offset, table, &place, rows, room, attrs, space, &filled)
@@ -69,7 +79,9 @@ int main(int argc, char **argv) {
                 }
             }
             if (!repeat) printf("status %u\n", status);
+            refused |= is_refused(offset, status);
         }
+        refused |= is_refused(offset, status);
         clock_gettime(CLOCK_MONOTONIC, &b);
         double t = (double)(b.tv_sec - a.tv_sec) + (double)(b.tv_nsec - a.tv_nsec) * 1e-9;
         if (t < best) best = t;
@@ -77,5 +89,5 @@ int main(int argc, char **argv) {
     if (repeat)
         printf("%" PRIu64 " rows, %" PRIu64 " attributes, room %zu, space %zu: %.3f ms, %.2f million rows a second (sum %"
                PRIx64 ")\n", all_rows, all_attrs, room, space, best * 1e3, (double)all_rows / best * 1e-6, folded);
-    return 0;
+    return refused;
 }

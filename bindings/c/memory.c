@@ -179,7 +179,8 @@ int main(int argc, char **argv) {
     sections = gimli_no_sections();
     sections.units = gimli_bytes(info, info_length);
     sections.abbrev = gimli_bytes(abbrev, abbrev_length);
-    if (gimli_unit(&sections, 0, &unit) != GIMLI_MORE) return 3;
+    uint32_t status = gimli_unit(&sections, 0, &unit);
+    if (status != GIMLI_MORE) return fprintf(stderr, "the unit at 0x0: %s\n", gimli_text(status)), 3;
     if (!(table = read_table(&sections, &unit))) fails("no table", 0);
     for (int way = ENTRIES_BY; way >= ROWS; way--) same_rows(way);
     gimli_place_t root = {unit.header_size, 0}, child = {first[1].offset, first[1].depth};

@@ -1,7 +1,7 @@
 /* rows INFO ABBREV [all|first|all_by|first_by] [ROOM] [REPEAT]: prints the rows of the units of a
    section, or of its first, in the format of gimli_walk_program rows; all_by and first_by read the
    table of abbreviations of each unit once. With REPEAT nothing is printed but the time. A ROOM of
-   0 is one of 1, since with none no call gives a row. */
+   0 is one of 1, since with none no call gives a row. What is refused is told in words on stderr. */
 #define _POSIX_C_SOURCE 200809L
 #include "gimli.h"
 #include "read_file.h"
@@ -17,6 +17,12 @@ static size_t room = 4096;
 static gimli_row_t *rows;
 static uint64_t all_rows, folded;
 static int by_table;
+
+/* Tells what is refused of the unit at an offset; the exit status. */
+static int is_refused(uint64_t unit, uint32_t status) {
+    fprintf(stderr, "the unit at 0x%" PRIx64 ": %s\n", unit, gimli_text(status));
+    return 1;
+}
 
 /* The rows of a unit; the exit status of the program that prints them. */
 static int unit_rows(const gimli_unit_t *unit, int print) {
@@ -45,7 +51,7 @@ static int unit_rows(const gimli_unit_t *unit, int print) {
             else
                 printf("error %u\n", status - GIMLI_REFUSED);
         }
-        return 1;
+        return is_refused(unit->offset, status);
     }
 }
 
@@ -61,7 +67,7 @@ static int section_rows(int first, int print) {
         }
         if (status != GIMLI_MORE) {
             if (print) printf("error %u\n", status - GIMLI_REFUSED);
-            return 1;
+            return is_refused(offset, status);
         }
         worst |= unit_rows(&unit, print);
         if (first) return worst;

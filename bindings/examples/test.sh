@@ -118,7 +118,7 @@ ends 1 1 0 "^no function at 0x10\$" "$made/two-discarded" 10
 # a list of more ranges than there is room for at first, behind one that is refused
 gcc -nostdlib -static -o "$made/lists" "$here/programs/lists.s"
 ends 0 70003 0 "^function many\$" "$made/lists" "$(address "$made/lists" many 69999)"
-ends 2 0 1 "^error 1: the ranges of the unit at 0x0\$" "$made/lists" 10
+ends 2 0 1 "^error 1: the ranges of the unit at 0x0: The input ends before what should stand there\.\$" "$made/lists" 10
 
 # skeleton units
 skeleton() {

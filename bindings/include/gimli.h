@@ -3,7 +3,11 @@
    Every call fills what its caller hands over and keeps nothing: there is nothing to free, and
    any thread may call at any time. What a call gives is proved over definitions of DWARF, for all
    bytes of the sections (crates/gimli_c). This header is written by hand beside it: the sizes at
-   its end and the tests are all that compares the two.
+   its end and the tests are all that compares the two. gimli_constants.h has the codes of tags,
+   attributes and forms by their names, and names them.
+
+   A loop over units or rows goes on while the status is GIMLI_MORE. It ends with GIMLI_END, or with
+   a refusal, which gimli_text has in words: so the status is looked at after the loop.
 
    What a caller owes:
    - Pointers are valid for the lengths beside them, and lengths are at most 2^63 - 1. A section, a
@@ -390,7 +394,8 @@ uint32_t gimli_unit_of_address(const gimli_sections_t *sections, uint64_t addres
    are all before the first that is refused, of which as many are written as there is room for.
    `ranges` or `rnglists` is read, and `addresses`. Left out are ranges that do not begin below their
    end, and those whose beginning or base is one of the two highest addresses of the unit's size,
-   which stand for none. What stands behind a refused one can't be had.
+   which stand for none: a list whose ranges are all empty answers as an empty list does. What
+   stands behind a refused one can't be had.
    MORE: there are more than there is room for. END: all were written. ROW_REFUSED: all were
    written, and what stands behind them was refused. NO_LIST, or REFUSED of the size of addresses,
    of the index or of the offset: none. */

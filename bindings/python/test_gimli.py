@@ -1,14 +1,19 @@
 #!/usr/bin/env python3
 """test_gimli.py LIBRARY ATTRS DATA: tries each call of the module over libgimli.so, on the real files of a folder and on
-some bytes in both byte orders. ATTRS is the program of c/attrs.c, whose attributes are compared.
+some bytes in both byte orders. ATTRS is the program of c/attrs.c, whose attributes are compared. With `python3 -W error` no
+call warns.
 """
+import ctypes
+import os
 import subprocess
 import sys
+import tempfile
 from collections import Counter
 from pathlib import Path
-from unittest.mock import Mock
+from unittest.mock import Mock, patch
 
 import gimli
+import gimli_constants
 from gimli import Attr, Bases, Declaration, Dwarf, Place, Refused, Specification, Table, Unit
 
 ROOMS = [(0, 0), (1, 1), (3, 5), (64, 8192)]
@@ -75,14 +80,43 @@ def same_rows(name, dwarf, unit):
 
 
 def same_arrays(name, dwarf, unit, rows):
-    try:
-        import numpy  # noqa: F401
-    except ImportError:
-        return False
     for room, _ in ROOMS:
-        found = [tuple(row) for block in dwarf.array(unit, room) for row in block.tolist()]
-        same(f"{name}: array, room {room}", [row[:4] for row in found], rows)
-    return True
+        found = [row for block in dwarf.array(unit, room) for row in block.tolist()]
+        same(f"{name}: array, room {room}", found, rows)
+
+
+def fields(structs):
+    """The numbers of structs, in an array of numpy or of ctypes, or in a list."""
+    if hasattr(structs, "tolist"):
+        return structs.tolist()
+    return [tuple(getattr(it, name) for name, _ in it._fields_) for it in structs]
+
+
+def pairs_of(rows, attrs):
+    """The same of each row, with its unit where it has one, and of its attributes, as `raw_entries` has them."""
+    attrs = fields(attrs)
+    return [((offset, depth, tag, flag, *unit), attrs[first:first + count])
+            for offset, depth, first, count, tag, flag, *unit in fields(rows)]
+
+
+def with_and_without_numpy():
+    """Each way in which arrays are given here."""
+    yield ""
+    if gimli.numpy_if_there():
+        with patch("gimli.numpy_if_there", return_value=None):
+            yield ", of ctypes"
+
+
+def same_attributes(name, dwarf):
+    """The arrays of each unit and of all units."""
+    wanted = []
+    for how in with_and_without_numpy():
+        for unit in dwarf.units():
+            pairs = [(row, fields(attrs)) for row, attrs in dwarf.raw_entries(unit)]
+            same(f"{name}: attributes{how}", pairs_of(*dwarf.attributes(unit)), pairs)
+            wanted += [((*row, unit.offset), attrs) for row, attrs in pairs]
+        same(f"{name}: all attributes{how}", pairs_of(*dwarf.attributes()), wanted)
+        wanted.clear()
 
 
 def few_calls(name, dwarf, unit, table):
@@ -121,22 +155,24 @@ def same_entries(name, dwarf, unit, rows):
 
 
 def real_files(library, attrs, data):
-    files, arrays = 0, False
+    files = 0
     for info in sorted(data.glob("*.info")):
         abbrev, lines = info.with_suffix(".abbrev"), []
         dwarf = Counting(library, info.read_bytes(), abbrev.read_bytes())
         for unit in dwarf.units():
             rows = same_rows(info.name, dwarf, unit)
-            arrays = same_arrays(info.name, dwarf, unit, rows)
+            if gimli.numpy_if_there():
+                same_arrays(info.name, dwarf, unit, rows)
             lines += same_entries(info.name, dwarf, unit, rows)
             same_siblings(info.name, dwarf, unit, rows)
             if len(rows) > 3:
                 few_calls(info.name, dwarf, unit, dwarf.table(unit))
+        same_attributes(info.name, dwarf)
         for rooms in ([], ["0", "0"]):
             printed = subprocess.run([attrs, info, abbrev, *rooms], capture_output=True, check=True, timeout=60).stdout
             same(f"{info.name}: the lines of attrs", lines, printed.split(b"\n")[:-1])
         files += 1
-    return files, arrays
+    return files
 
 
 # Bytes in both byte orders
@@ -212,6 +248,17 @@ def lists_of_five(library):
     dwarf.sections.addresses.length = 8
     same("a range before an address that is not there", refusal(dwarf.ranges, unit, attrs[0], Bases(0x1000)).found,
          [(0x1010, 0x1020)])
+
+
+def lists_of_empty_ranges(library):
+    """A list whose ranges are all empty answers as an empty list does."""
+    info = bytes.fromhex("11000000 0500 01 08 00000000  01 00000000 00000000")
+    empty = bytes.fromhex("04 10 10 04 30 20 00"), bytes.fromhex("04 01 01 01 9c 04 03 02 01 9c 00")
+    for rnglists, loclists in (empty, (b"\0", b"\0")):
+        dwarf = Dwarf(library, info, LISTS, debug_rnglists=rnglists, debug_loclists=loclists)
+        ((_, attrs),) = dwarf.raw_entries(dwarf.unit(0))
+        same("no range", dwarf.ranges(dwarf.unit(0), attrs[0]), [])
+        same("no location", dwarf.locations(dwarf.unit(0), attrs[1]), [])
 
 
 def places(library):
@@ -295,32 +342,166 @@ def refused_rows(dwarf, unit, table):
     return rows, None
 
 
+def many_attributes(library):
+    """Units with more rows and attributes for their bytes than `attributes` has room for at first, and one without an entry."""
+    # an entry of a byte, with no attribute or with a hundred flags that take no byte
+    flags = bytes.fromhex("02 34 00") + bytes.fromhex("3f 19") * 100 + bytes.fromhex("00 00")
+    abbrev = bytes.fromhex("01 05 00 00 00") + flags + b"\0"
+    for codes in (b"\1" * 500, b"\2" * 500, b"\1" * 400 + b"\2" * 50, b""):
+        same_attributes(f"{len(codes)} entries", Dwarf(library, unit_of(False, codes), abbrev))
+    same_attributes("no unit", Dwarf(library))
+    two = Dwarf(library, unit_of(False, b"\2\1") + unit_of(False, b"\2\2\1"), abbrev)
+    same_attributes("two units", two)
+    table = two.table(two.unit(0))
+    same("by a table", pairs_of(*Dwarf(library, unit_of(False, b"\1")).attributes(two.unit(0), table)), [((0x0b, 0, 5, 0), [])])
+
+
+def refused_attributes(library):
+    """What stands before a refusal, of a unit and of all units."""
+    abbrev = bytes.fromhex("01 34 00 03 08 00 00  00")
+    units = unit_of(False, b"\1a\0\1b\0"), unit_of(False, b"\1c\0\2"), b"\1"
+    row = (0x0b, 0, 0x34, 0), [(0x0c, 1, 3, 8, 33)]
+    for _ in with_and_without_numpy():
+        dwarf = Dwarf(library, units[1], abbrev)
+        refused = refusal(dwarf.attributes, dwarf.unit(0))
+        same("where it stands", (refused.name, refused.unit, refused.offset), ("InvalidAbbreviationCode", 0, 0x0e))
+        same("what is before it", pairs_of(*refused.found), [row])
+        refused = refusal(Dwarf(library, b"".join(units), abbrev).attributes)
+        same("where it stands", (refused.name, refused.unit, refused.offset), ("InvalidAbbreviationCode", 0x11, 0x0e))
+        found = pairs_of(*refused.found)
+        same("units before it", [row[4] for row, _ in found], [0, 0, 0x11])
+        same("attributes before it", [attrs[0][0] for _, attrs in found], [0x0c, 0x0f, 0x1d])
+        refused = refusal(Dwarf(library, units[0] + units[2], abbrev).attributes)
+        same("where it stands", (refused.name, refused.unit, refused.offset), ("UnexpectedEof", 0x11, None))
+        same("units before it", [row[4] for row, _ in pairs_of(*refused.found)], [0, 0])
+
+
 def refusals(library):
-    dwarf = Dwarf(library, unit_of(False, bytes([1, 0x0f, 9])), SIBLING)
-    refused = refusal(list, dwarf.rows(dwarf.unit(0)))
-    same("its words", str(refused), "InvalidAbbreviationCode (error 13) at 0xd")
+    """The words of refusals, and where they stand."""
+    info = unit_of(False, bytes([1, 0x0f, 2, 0])) + unit_of(False, bytes([1, 0x0f, 9]))
+    dwarf = Dwarf(library, info, SIBLING)
+    first, unit = dwarf.units()
+    entry = "the entry at 0xd of "
+    words = f"{entry}the unit at 0xf: The code of an abbreviation is not declared. (InvalidAbbreviationCode, error 13)"
+    for refused in (refusal(list, dwarf.rows(unit)), refusal(list, dwarf.entries(unit)), refusal(list, dwarf.rows(unit, 1))):
+        same("its words", str(refused), words)
+        same("where it stands", (refused.unit, refused.offset), (0xf, 0xd))
     for call, wrong in ((dwarf.unit, 2 ** 64), (dwarf.unit, -1), (dwarf.unit_of_address, 2 ** 64)):
         try:
             sys.exit(f"{wrong} is taken: {call(wrong)}")
         except OverflowError:
             pass
-    same("its words", str(refusal(dwarf.unit, 1)), "UnexpectedEof (error 1)")
-    same("its words", str(refusal(dwarf.ranges, dwarf.unit(0), Attr(kind=3))), "NoList")
+    cut = "The input ends before what should stand there. (UnexpectedEof, error 1)"
+    same("its words", str(refusal(dwarf.unit, 1)), f"the unit at 0x1: {cut}")
+    same("its words", str(refusal(dwarf.ranges, unit, Attr(kind=3))), "the unit at 0xf: The value names no list. (NoList)")
+    same("its words", str(refusal(dwarf.sibling, unit, 0x0d)), words.replace(entry, ""))
+    aranges = Dwarf(library, debug_aranges=b"\1")
+    same("its words", str(refusal(aranges.unit_of_address, 0)), cut)
+    without = Dwarf(library, info)
+    for call in without.table, without.first_false, without.attributes, lambda unit: list(without.rows(unit)):
+        same("its words", str(refusal(call, unit)), f"the unit at 0xf: {cut}")
+    # the wrong byte order is no end
+    same("its words", str(refusal(list, Dwarf(library, info, SIBLING, big=True).units())), f"the unit at 0x0: {cut}")
+    same("its words", str(Refused(255)), "The status is unknown. (UnknownStatus)")
+    same("its words", str(Refused(gimli.ROW_REFUSED + 1, 4)), f"the entry at 0x4: {cut}")
+    same("its words", str(Refused(gimli.TOO_DEEP, unit=0)), "the unit at 0x0: The depth of the place is too great. (TooDeep)")
+
+
+def texts(library, data):
+    """What is printed of each class is one short line."""
+    info = sorted(data.glob("*.info"))[0]
+    dwarf = Dwarf(library, info.read_bytes(), info.with_suffix(".abbrev").read_bytes())
+    unit = dwarf.unit(0)
+    table = dwarf.table(unit)
+    _, attrs = next(dwarf.raw_entries(unit))
+    read = dwarf, unit, table, table.declarations[0], table.specifications[0], *attrs, dwarf.sections
+    made = [kind() for kind in gimli.Record.__subclasses__()]
+    for text in {repr(it) for it in (*read, *made, Refused(gimli.REFUSED + 1))}:
+        same(text, (len(text) <= 240, "\n" in text, " object at 0x" in text), (True, False, False))
+    attr = Attr(0x12, 0, 3, 0x0e, 28)
+    same("an attribute", repr(attr), "Attr(number=18, more=0, name=DW_AT_name, form=DW_FORM_strp, kind=DebugStrRef)")
+    same("an entry", repr(gimli.Entry(0x2d, 1, 4, 2, 0x2e, 1)),
+         "Entry(offset=0x2d, depth=1, first=4, attributes=2, tag=DW_TAG_subprogram, has_children=1)")
+    dwarf = Dwarf(library, b"12", debug_loc=b"1", big=True)
+    same("sections", repr(dwarf), "Dwarf(debug_info: 2 bytes, debug_loc: 1 bytes, big endian)")
+    same("a table", repr(Table()), "Table(0 declarations, 0 specifications)")
+
+
+def fails(kind, text, call, *arguments, **named):
+    """A call that ends with an exception of this kind and with a text in it."""
+    try:
+        call(*arguments, **named)
+    except kind as why:
+        return same(f"'{why}' says '{text}'", text in str(why), True)
+    sys.exit(f"{call} is taken")
+
+
+def libraries(path):
+    """The library as a path, as it was loaded, and where it is found; and what is none."""
+    for library in (path, Path(path), gimli.load(path), ctypes.CDLL(path)):
+        same("no unit", list(Dwarf(library).units()), [])
+    with patch.dict(os.environ, GIMLI_LIBRARY=path):
+        same("the file that is named", str(gimli.find()), path)
+        same("no unit", list(Dwarf().units()), [])
+    folder = str(Path(path).parent)
+    with patch.dict(os.environ, GIMLI_LIBRARY=folder):
+        same("the folder that is named", gimli.find(), Path(folder) / "libgimli.so")
+    with patch.dict(os.environ, GIMLI_LIBRARY="/none"):
+        fails(OSError, "was looked for at /none.", Dwarf)
+    with patch.dict(os.environ), tempfile.TemporaryDirectory() as room:
+        os.environ.pop("GIMLI_LIBRARY", None)
+        here = Path(room, "python")
+        with patch("gimli.__file__", str(here / "gimli.py")):
+            looked = here / "libgimli.so", here.parent / "target/libgimli.so"
+            fails(OSError, f"was looked for at {looked[0]} and {looked[1]}.", Dwarf)
+            for place in reversed(looked):
+                place.parent.mkdir()
+                place.symlink_to(path)
+                same("where it is found", gimli.find(), place)
+        before = os.getcwd()
+        os.chdir(here)
+        same("no unit", list(Dwarf("libgimli.so").units()), [])
+        os.chdir(before)
+    for wrong in (b"\0" * 16, bytearray(1), 1, [path], object()):
+        fails(TypeError, "the library is a path, or what gimli.load gives", Dwarf, wrong)
+    fails(OSError, "/none", Dwarf, "/none")
+    fails(OSError, "is no libgimli.so", Dwarf, ctypes.CDLL(None))
+    fails(OSError, __file__, Dwarf, __file__)
+
+
+def constants():
+    """Codes by their names, and names of codes."""
+    same("a tag", (gimli.TAG["DW_TAG_subprogram"], gimli.tag_name(0x2e)), (0x2e, "DW_TAG_subprogram"))
+    same("the same by itself", gimli.DW_TAG_subprogram, 0x2e)
+    same("an attribute", (gimli.AT["DW_AT_name"], gimli.at_name(3)), (3, "DW_AT_name"))
+    same("a form", (gimli.FORM["DW_FORM_strp"], gimli.form_name(0x0e)), (0x0e, "DW_FORM_strp"))
+    same("a code without a name", gimli.tag_name(0x1234), "Unknown DwTag: 0x1234")
+    same("two names of a code", (gimli.CC["DW_CC_GNU_renesas_sh"], gimli.cc_name(0x40)), (0x40, "DW_CC_lo_user"))
+    same("a byte order", (gimli_constants.END["DW_END_little"], gimli.end_name(2)), (2, "DW_END_little"))
+    same("the status", gimli.END, 1)
 
 
 def main(path, attrs, data):
+    path, data = os.path.abspath(path), Path(data)
     library = gimli.load(path)
-    files, arrays = real_files(library, attrs, Path(data))
+    files = real_files(library, attrs, data)
     for big in (False, True):
         siblings(library, big)
         types(library, big)
         lists(library, big)
     lists_of_five(library)
+    lists_of_empty_ranges(library)
     places(library)
     tables(library)
     tables_read_once(library)
+    many_attributes(library)
+    refused_attributes(library)
     refusals(library)
-    print(f"Python: {files} files, each call as wanted" + ("" if arrays else "; array was not tried, as numpy is not there"))
+    texts(library, data)
+    libraries(path)
+    constants()
+    arrays = "with numpy" if gimli.numpy_if_there() else "without numpy"
+    print(f"Python {sys.version.split()[0]} {arrays}: {files} files, each call as wanted")
 
 
 if __name__ == "__main__":

@@ -3,6 +3,7 @@
    status is 1 where there is none, and 2 where something is refused. The sections are read by
    libelf: cc function_at.c $(pkg-config --cflags --libs ../../target/gimli.pc libelf). */
 #include "gimli.h"
+#include "gimli_constants.h"
 #include <errno.h>
 #include <fcntl.h>
 #include <gelf.h>
@@ -13,10 +14,7 @@
 #include <string.h>
 #include <unistd.h>
 
-enum { TAG_SUBPROGRAM = 0x2e, NAME = 0x03, LOW_PC = 0x11, HIGH_PC = 0x12, ORIGIN = 0x31, SPECIFICATION = 0x47, RANGES = 0x55,
-       LINKAGE_NAME = 0x6e, STR_OFFSETS_BASE = 0x72, ADDR_BASE = 0x73, RNGLISTS_BASE = 0x74, DWO_NAME = 0x76,
-       MIPS_LINKAGE_NAME = 0x2007, GNU_DWO_NAME = 0x2130 };
-enum { SKELETON = 4, ROOM = 4096, MOST_STEPS = 16 };
+enum { ROOM = 4096, MOST_STEPS = 16 };
 
 static int descriptor = -1;
 static Elf *elf; /* over the descriptor; the sections are bytes of it */
@@ -57,7 +55,7 @@ static struct {
 
 /* Ends the program where the library refuses what it reads. */
 static void refused(const char *what, uint64_t offset, uint32_t status) {
-    fprintf(stderr, "error %u: %s 0x%" PRIx64 "\n", status % 256, what, offset);
+    fprintf(stderr, "error %u: %s 0x%" PRIx64 ": %s\n", GIMLI_ERROR(status), what, offset, gimli_text(status));
     exit(2);
 }
 
@@ -184,7 +182,8 @@ static size_t listed(const gimli_attr_t *list) {
 /* The ranges of an entry, without those from 0 on, which the linker leaves of a function that it
    discards: how many there are in `ranges`. */
 static size_t ranges_of(struct entry entry) {
-    const gimli_attr_t *low = find(entry, LOW_PC), *high = find(entry, HIGH_PC), *list = find(entry, RANGES);
+    const gimli_attr_t *low = find(entry, DW_AT_low_pc), *high = find(entry, DW_AT_high_pc);
+    const gimli_attr_t *list = find(entry, DW_AT_ranges);
     size_t count = 0, kept = 0;
     if (low && high && address_of(low, &ranges[0].begin)) {
         ranges[0].end = end_of(high, ranges[0].begin);
@@ -224,10 +223,10 @@ static bool begin_unit(uint64_t offset) {
     if (status != GIMLI_MORE) refused("the unit at", offset, status);
     memset(&unit.bases, 0, sizeof unit.bases);
     struct entry root = entry_at(unit.header.header_size);
-    unit.text_offsets = number_of(root, STR_OFFSETS_BASE);
-    unit.bases.addresses = number_of(root, ADDR_BASE);
-    unit.bases.rnglists = number_of(root, RNGLISTS_BASE);
-    const gimli_attr_t *low = find(root, LOW_PC);
+    unit.text_offsets = number_of(root, DW_AT_str_offsets_base);
+    unit.bases.addresses = number_of(root, DW_AT_addr_base);
+    unit.bases.rnglists = number_of(root, DW_AT_rnglists_base);
+    const gimli_attr_t *low = find(root, DW_AT_low_pc);
     if (!low || !address_of(low, &unit.bases.address)) unit.bases.address = 0;
     return true;
 }
@@ -250,7 +249,7 @@ static struct entry followed(gimli_attr_t attr) {
 static void print_text(const char *word, struct entry entry, unsigned name, unsigned other) {
     struct unit of = unit;
     for (int step = 0; step < MOST_STEPS; step++) {
-        const gimli_attr_t *attr = find(entry, name), *next = find(entry, ORIGIN);
+        const gimli_attr_t *attr = find(entry, name), *next = find(entry, DW_AT_abstract_origin);
         if (attr || (attr = find(entry, other))) {
             gimli_bytes_t text = text_of(attr);
             printf("%s ", word);
@@ -258,7 +257,7 @@ static void print_text(const char *word, struct entry entry, unsigned name, unsi
             putchar('\n');
             break;
         }
-        if (!next && !(next = find(entry, SPECIFICATION))) break;
+        if (!next && !(next = find(entry, DW_AT_specification))) break;
         entry = followed(*next);
     }
     unit = of;
@@ -269,9 +268,9 @@ static bool is_function(struct entry entry, uint64_t address) {
     size_t count = ranges_of(entry);
     if (!is_in_ranges(count, address)) return false;
     printf("unit 0x%" PRIx64 "\n", unit.header.offset);
-    print_text("unit name", entry_at(unit.header.header_size), NAME, NAME);
-    print_text("function", entry, NAME, NAME);
-    print_text("linkage name", entry, LINKAGE_NAME, MIPS_LINKAGE_NAME);
+    print_text("unit name", entry_at(unit.header.header_size), DW_AT_name, DW_AT_name);
+    print_text("function", entry, DW_AT_name, DW_AT_name);
+    print_text("linkage name", entry, DW_AT_linkage_name, DW_AT_MIPS_linkage_name);
     for (size_t i = 0; i < count; i++) printf("range 0x%" PRIx64 " 0x%" PRIx64 "\n", ranges[i].begin, ranges[i].end);
     return true;
 }
@@ -279,9 +278,9 @@ static bool is_function(struct entry entry, uint64_t address) {
 /* Keeps in mind that the unit of a root has the address but is a skeleton, whose functions are in
    another file. */
 static void meet_root(struct entry root, uint64_t address) {
-    const gimli_attr_t *name = find(root, DWO_NAME);
-    if (!name) name = find(root, GNU_DWO_NAME);
-    if (met.is_skeleton || (!name && unit.header.kind != SKELETON)) return;
+    const gimli_attr_t *name = find(root, DW_AT_dwo_name);
+    if (!name) name = find(root, DW_AT_GNU_dwo_name);
+    if (met.is_skeleton || (!name && unit.header.kind != DW_UT_skeleton)) return;
     if (!is_in_ranges(ranges_of(root), address)) return;
     met.is_skeleton = true;
     met.skeleton = unit.header.offset;
@@ -298,7 +297,7 @@ static bool function_in_unit(uint64_t address) {
         for (size_t i = 0; i < filled.rows; i++) {
             struct entry entry = {attrs + rows[i].first, rows[i].attributes};
             if (rows[i].offset == unit.header.header_size) meet_root(entry, address);
-            if (rows[i].tag == TAG_SUBPROGRAM && is_function(entry, address)) return true;
+            if (rows[i].tag == DW_TAG_subprogram && is_function(entry, address)) return true;
         }
         if (filled.wanted > space) attrs = grown(attrs, (space = filled.wanted) * sizeof *attrs);
     }
@@ -335,6 +334,7 @@ int main(int argc, char **argv) {
     attrs = grown(NULL, space * sizeof *attrs);
     single = grown(NULL, single_space * sizeof *single);
     ranges = grown(NULL, ranges_room * sizeof *ranges);
+    /* without .debug_aranges, and where it has no unit or is refused, all units are looked through */
     if (gimli_unit_of_address(&sections, address, &offset) == GIMLI_MORE) {
         if (begin_unit(offset) && function_in_unit(address)) return 0;
     } else {

@@ -5,30 +5,24 @@ exit status is 1 where there is none, and 2 where something is refused.
 
 The sections are read by pyelftools, and what is in them by the proved library: GIMLI_LIBRARY
 names libgimli.so, where it is not where bindings/build.sh leaves it.
-
 """
-import os
 import sys
 from pathlib import Path
 
 from elftools.common.exceptions import ELFError
 from elftools.elf.elffile import ELFFile
 
-BINDINGS = Path(__file__).resolve().parents[2]
-sys.path.insert(0, str(BINDINGS / "python"))
+sys.path.insert(0, str(Path(__file__).resolve().parents[2] / "python"))
 import gimli  # noqa: E402
 
-SUBPROGRAM, NAME, LOW_PC, HIGH_PC, ORIGIN, SPECIFICATION, RANGES = 0x2e, 0x03, 0x11, 0x12, 0x31, 0x47, 0x55
-LINKAGE_NAME, STR_OFFSETS_BASE, ADDR_BASE, RNGLISTS_BASE, DWO_NAME = 0x6e, 0x72, 0x73, 0x74, 0x76
-MIPS_LINKAGE_NAME, GNU_DWO_NAME = 0x2007, 0x2130
-SKELETON, MOST_STEPS = 4, 16
+MOST_STEPS = 16
 
 
 class Stopped(Exception):
     """What the library refuses, with what stands there and where."""
 
     def __init__(self, refused, what, offset):
-        super().__init__(f"error {refused.number}: {what} {offset:#x}")
+        super().__init__(f"error {refused.number}: {what} {offset:#x}: {refused.text}")
 
 
 NAMES = ["info", "abbrev", "addr", "aranges", "ranges", "rnglists", "str", "line_str", "str_offsets"]
@@ -56,8 +50,7 @@ class File:
         bytes_of = dict(zip(NAMES, sections))
         self.little, self.addr = little, bytes_of["addr"]
         self.texts, self.line_texts, self.text_offsets = (bytes_of.pop(name) for name in ("str", "line_str", "str_offsets"))
-        library = gimli.load(os.environ.get("GIMLI_LIBRARY", BINDINGS / "target/libgimli.so"))
-        self.dwarf = gimli.Dwarf(library, big=not little, **{f"debug_{name}": data for name, data in bytes_of.items()})
+        self.dwarf = gimli.Dwarf(big=not little, **{f"debug_{name}": data for name, data in bytes_of.items()})
 
     def number_at(self, section, table, index, size):
         """The number of so many bytes at an index of a table in a section, or None."""
@@ -104,10 +97,10 @@ class Unit:
         self.file, self.header = file, header
         self.bases, self.text_offsets = gimli.Bases(), 0
         root = self.entry_at(header.header_size)
-        self.text_offsets = self.number_of(root, STR_OFFSETS_BASE)
-        self.bases.addresses = self.number_of(root, ADDR_BASE)
-        self.bases.rnglists = self.number_of(root, RNGLISTS_BASE)
-        self.bases.address = self.address_of(root.get(LOW_PC)) or 0
+        self.text_offsets = self.number_of(root, gimli.DW_AT_str_offsets_base)
+        self.bases.addresses = self.number_of(root, gimli.DW_AT_addr_base)
+        self.bases.rnglists = self.number_of(root, gimli.DW_AT_rnglists_base)
+        self.bases.address = self.address_of(root.get(gimli.DW_AT_low_pc)) or 0
 
     @staticmethod
     def number_of(attrs, name):
@@ -167,12 +160,12 @@ class Unit:
     def ranges_of(self, attrs):
         """The ranges of an entry, without those from 0 on, which the linker leaves of a function that it
         discards."""
-        begin, pairs = self.address_of(attrs.get(LOW_PC)), []
-        if begin is not None and HIGH_PC in attrs:
-            end = self.end_of(attrs[HIGH_PC], begin)
+        begin, pairs = self.address_of(attrs.get(gimli.DW_AT_low_pc)), []
+        if begin is not None and gimli.DW_AT_high_pc in attrs:
+            end = self.end_of(attrs[gimli.DW_AT_high_pc], begin)
             pairs = [(begin, end)] if begin < end else []
-        elif RANGES in attrs:
-            pairs = self.listed(attrs[RANGES])
+        elif gimli.DW_AT_ranges in attrs:
+            pairs = self.listed(attrs[gimli.DW_AT_ranges])
         return [pair for pair in pairs if pair[0] != 0]
 
     def has_address(self, attrs, address):
@@ -189,7 +182,7 @@ class Unit:
                     return unit, unit.entry_at(value - unit.header.offset)
         return None
 
-    def print_text(self, out, word, attrs, name, other):
+    def print_text(self, out, word, attrs, name, other=None):
         """Writes the first attribute of a name, or else of another, of an entry or of the entries that
         it stands for."""
         unit = self
@@ -197,7 +190,7 @@ class Unit:
             if attr := attrs.get(name) or attrs.get(other):
                 out += word, b" ", unit.text_of(attr), b"\n"
                 return
-            following = attrs.get(ORIGIN) or attrs.get(SPECIFICATION)
+            following = attrs.get(gimli.DW_AT_abstract_origin) or attrs.get(gimli.DW_AT_specification)
             found = following and unit.followed(following)
             if not found:
                 return
@@ -206,8 +199,8 @@ class Unit:
     def meet_root(self, root, address):
         """Keeps in mind that the unit of a root has the address but is a skeleton, whose functions are in
         another file."""
-        name = root.get(DWO_NAME) or root.get(GNU_DWO_NAME)
-        if self.file.skeleton or (not name and self.header.kind != SKELETON):
+        name = root.get(gimli.DW_AT_dwo_name) or root.get(gimli.DW_AT_GNU_dwo_name)
+        if self.file.skeleton or (not name and self.header.kind != gimli.DW_UT_skeleton):
             return
         if self.has_address(root, address):
             self.file.skeleton = self.header.offset, self.text_of(name) if name else b""
@@ -219,7 +212,7 @@ class Unit:
             for row, attrs in entries:
                 if row[0] == self.header.header_size:
                     self.meet_root(self.by_name(attrs), address)
-                if row[2] == SUBPROGRAM and self.is_function(out, self.by_name(attrs), address):
+                if row[2] == gimli.DW_TAG_subprogram and self.is_function(out, self.by_name(attrs), address):
                     return True
         except gimli.Refused as refused:
             offset = self.header.offset + (refused.offset or self.header.header_size)
@@ -230,9 +223,9 @@ class Unit:
         if not self.has_address(attrs, address):
             return False
         out.append(b"unit %#x\n" % self.header.offset)
-        self.print_text(out, b"unit name", self.entry_at(self.header.header_size), NAME, NAME)
-        self.print_text(out, b"function", attrs, NAME, NAME)
-        self.print_text(out, b"linkage name", attrs, LINKAGE_NAME, MIPS_LINKAGE_NAME)
+        self.print_text(out, b"unit name", self.entry_at(self.header.header_size), gimli.DW_AT_name)
+        self.print_text(out, b"function", attrs, gimli.DW_AT_name)
+        self.print_text(out, b"linkage name", attrs, gimli.DW_AT_linkage_name, gimli.DW_AT_MIPS_linkage_name)
         out += [b"range %#x %#x\n" % pair for pair in self.ranges_of(attrs)]
         return True
 

@@ -1,6 +1,6 @@
 //! Rows, and entries with their attributes.
 
-use crate::{Abbreviations, Attribute, Place, Row, Sections, UnitHeader};
+use crate::{Abbreviations, Attribute, DwTag, Place, Refused, Row, Sections, UnitHeader};
 use crate::{END, Error, MORE, ROW_REFUSED, Result, reserve, sys};
 use alloc::vec::Vec;
 use core::fmt;
@@ -84,6 +84,14 @@ impl<'a> Reading<'a, '_> {
         Ok(())
     }
 
+    // Where the last refusal stands, whose place is this if it is one of a row.
+    fn refused(&self, error: Error, place: Place) -> Refused {
+        Refused {
+            offset: self.row_refused.then_some(place.offset),
+            ..self.unit.refused(error)
+        }
+    }
+
     fn debug(&self, name: &str, place: Place, f: &mut fmt::Formatter<'_>) -> fmt::Result {
         f.debug_struct(name)
             .field("unit", &self.unit.offset())
@@ -141,6 +149,23 @@ impl<'a> Rows<'a> {
     #[inline]
     pub fn is_row_refused(&self) -> bool {
         self.reading.row_refused
+    }
+
+    /// The refusal that the last item is, with the unit, and with the row if it is of one.
+    ///
+    /// ```
+    /// use gimli_proved::{Refused, Sections, UnitHeader};
+    ///
+    /// fn print_tags(sections: &Sections, unit: &UnitHeader) -> Result<(), Refused> {
+    ///     let mut rows = sections.rows(unit);
+    ///     while let Some(row) = rows.next() {
+    ///         println!("{}", row.map_err(|error| rows.refused(error))?.tag_name());
+    ///     }
+    ///     Ok(())
+    /// }
+    /// ```
+    pub fn refused(&self, error: Error) -> Refused {
+        self.reading.refused(error, self.place())
     }
 
     // Reads on where the buffer has no more rows; false at the end.
@@ -253,6 +278,11 @@ impl<'a, 'abbrev> Entries<'a, 'abbrev> {
         self.reading.row_refused
     }
 
+    /// The refusal that the last answer is, with the unit, and with the entry if it is of one.
+    pub fn refused(&self, error: Error) -> Refused {
+        self.reading.refused(error, self.place())
+    }
+
     /// The next entry, a null too; none at the end, and after a refusal.
     #[inline]
     pub fn next_entry(&mut self) -> Result<Option<Entry<'a, '_>>> {
@@ -300,11 +330,24 @@ impl fmt::Debug for Entries<'_, '_> {
 }
 
 /// An entry with its attributes, or the null that closes a list of children.
-#[derive(Clone, Copy, Debug)]
+#[derive(Clone, Copy)]
 pub struct Entry<'a, 'b> {
     row: &'b sys::Entry,
     attrs: &'b [sys::Attr],
     units: &'a [u8],
+}
+
+// It has the number of attributes.
+impl fmt::Debug for Entry<'_, '_> {
+    fn fmt(&self, f: &mut fmt::Formatter<'_>) -> fmt::Result {
+        f.debug_struct("Entry")
+            .field("offset", &format_args!("{:#x}", self.offset()))
+            .field("depth", &self.depth())
+            .field("tag", &format_args!("{}", self.tag_name()))
+            .field("has_children", &self.has_children())
+            .field("attrs", &self.attrs.len())
+            .finish()
+    }
 }
 
 impl<'a, 'b> Entry<'a, 'b> {
@@ -332,6 +375,12 @@ impl<'a, 'b> Entry<'a, 'b> {
         self.row.tag
     }
 
+    /// Its tag, which prints as `DW_TAG_subprogram` and the like.
+    #[inline]
+    pub fn tag_name(&self) -> DwTag {
+        DwTag(self.row.tag)
+    }
+
     /// Whether it is a null.
     #[inline]
     pub fn is_null(&self) -> bool {
@@ -353,7 +402,7 @@ impl<'a, 'b> Entry<'a, 'b> {
             .map(move |&attr| Attribute { attr, units })
     }
 
-    /// The first attribute of a name.
+    /// The first attribute of a name, as `entry.attr(DW_AT_name.0)`.
     #[inline]
     pub fn attr(&self, name: u16) -> Option<Attribute<'a>> {
         self.attrs().find(|a| a.name() == name)

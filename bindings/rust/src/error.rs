@@ -90,6 +90,50 @@ impl fmt::Display for Error {
 
 impl core::error::Error for Error {}
 
+/// A refusal and where it stands, which `refused` of a unit and of an iterator makes of an
+/// [`Error`]. Of an error alone nothing is known of where it stands.
+#[derive(Clone, Copy, Debug, PartialEq, Eq, Hash)]
+pub struct Refused {
+    /// Why.
+    pub error: Error,
+    /// Where the unit begins in its section, if that is known.
+    pub unit: Option<u64>,
+    /// Where the row that was refused stands in the unit, if it was one.
+    pub offset: Option<u64>,
+}
+
+impl fmt::Display for Refused {
+    fn fmt(&self, f: &mut fmt::Formatter<'_>) -> fmt::Result {
+        match (self.offset, self.unit) {
+            (Some(offset), Some(unit)) => {
+                write!(f, "the entry at {offset:#x} of the unit at {unit:#x}: ")?
+            }
+            (Some(offset), None) => write!(f, "the entry at {offset:#x}: ")?,
+            (None, Some(unit)) => write!(f, "the unit at {unit:#x}: ")?,
+            (None, None) => {}
+        }
+        self.error.fmt(f)
+    }
+}
+
+impl core::error::Error for Refused {}
+
+impl From<Error> for Refused {
+    fn from(error: Error) -> Self {
+        Refused {
+            error,
+            unit: None,
+            offset: None,
+        }
+    }
+}
+
+impl From<Refused> for Error {
+    fn from(refused: Refused) -> Self {
+        refused.error
+    }
+}
+
 #[cfg(test)]
 mod tests {
     use super::{Error, LAST};

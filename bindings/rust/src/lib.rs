@@ -12,7 +12,7 @@
 //! call may be made again.
 //!
 //! ```
-//! use gimli_proved::{AttributeValue, Sections};
+//! use gimli_proved::{AttributeValue, DW_AT_name, Sections};
 //!
 //! fn names(info: &[u8], abbrev: &[u8]) -> gimli_proved::Result<Vec<String>> {
 //!     let sections = Sections { debug_info: info, debug_abbrev: abbrev, ..Sections::default() };
@@ -20,7 +20,7 @@
 //!     for unit in sections.units() {
 //!         let mut entries = sections.entries(&unit?);
 //!         while let Some(entry) = entries.next_entry()? {
-//!             let name = entry.attr(0x03).map(|name| name.raw_value());
+//!             let name = entry.attr(DW_AT_name.0).map(|name| name.raw_value());
 //!             if let Some(AttributeValue::String(text)) = name {
 //!                 names.push(String::from_utf8_lossy(text).into_owned());
 //!             }
@@ -36,18 +36,23 @@
 
 extern crate alloc;
 
+pub mod constants;
 mod entries;
 mod error;
+mod names;
 #[allow(unsafe_code)]
 mod sys;
 mod value;
 
+pub use constants::*;
 pub use entries::{Entries, Entry, Rows};
-pub use error::Error;
+pub use error::{Error, Refused};
+pub use names::UnknownName;
 pub use sys::Abbreviations;
 pub use value::{Attribute, AttributeValue};
 
 use alloc::vec::Vec;
+use core::fmt;
 
 /// The result of a call that may be refused.
 pub type Result<T> = core::result::Result<T, Error>;
@@ -68,7 +73,7 @@ pub enum Endian {
 }
 
 /// The sections of a file; those that no call needs may be empty.
-#[derive(Clone, Copy, Debug, Default)]
+#[derive(Clone, Copy, Default)]
 pub struct Sections<'a> {
     /// `.debug_info`: the units.
     pub debug_info: &'a [u8],
@@ -92,11 +97,46 @@ pub struct Sections<'a> {
     pub endian: Endian,
 }
 
+// The lengths of those that are not empty.
+impl fmt::Debug for Sections<'_> {
+    fn fmt(&self, f: &mut fmt::Formatter<'_>) -> fmt::Result {
+        let sections = [
+            ("debug_info", self.debug_info),
+            ("debug_types", self.debug_types),
+            ("debug_abbrev", self.debug_abbrev),
+            ("debug_addr", self.debug_addr),
+            ("debug_aranges", self.debug_aranges),
+            ("debug_ranges", self.debug_ranges),
+            ("debug_rnglists", self.debug_rnglists),
+            ("debug_loc", self.debug_loc),
+            ("debug_loclists", self.debug_loclists),
+        ];
+        let mut text = f.debug_struct("Sections");
+        for (name, section) in sections.iter().filter(|(_, section)| !section.is_empty()) {
+            text.field(name, &section.len());
+        }
+        text.field("endian", &self.endian).finish()
+    }
+}
+
 /// The header of a unit.
-#[derive(Clone, Copy, Debug)]
+#[derive(Clone, Copy)]
 pub struct UnitHeader {
     pub(crate) unit: sys::Unit,
     pub(crate) types: bool,
+}
+
+impl fmt::Debug for UnitHeader {
+    fn fmt(&self, f: &mut fmt::Formatter<'_>) -> fmt::Result {
+        f.debug_struct("UnitHeader")
+            .field("offset", &format_args!("{:#x}", self.offset()))
+            .field("length", &self.length_including_self())
+            .field("version", &self.version())
+            .field("kind", &format_args!("{}", self.ut_name()))
+            .field("address_size", &self.address_size())
+            .field("offset_size", &self.offset_size())
+            .finish_non_exhaustive()
+    }
 }
 
 impl UnitHeader {
@@ -136,6 +176,12 @@ impl UnitHeader {
         self.unit.kind
     }
 
+    /// The type of the unit, which prints as `DW_UT_compile` and the like.
+    #[inline]
+    pub fn ut_name(&self) -> DwUt {
+        DwUt(self.unit.kind)
+    }
+
     /// The number of bytes of an address.
     #[inline]
     pub fn address_size(&self) -> u8 {
@@ -164,6 +210,23 @@ impl UnitHeader {
     #[inline]
     pub fn is_in_debug_types(&self) -> bool {
         self.types
+    }
+
+    /// A refusal of a call over the unit, with the unit: its text names where it begins.
+    ///
+    /// ```
+    /// use gimli_proved::{Refused, Row, Sections, UnitHeader};
+    ///
+    /// fn sibling(sections: &Sections, unit: &UnitHeader, row: &Row) -> Result<Option<Row>, Refused> {
+    ///     let sibling = sections.next_sibling(unit, row.place(), false);
+    ///     sibling.map_err(|error| unit.refused(error))
+    /// }
+    /// ```
+    pub fn refused(&self, error: Error) -> Refused {
+        Refused {
+            unit: Some(self.offset()),
+            ..error.into()
+        }
     }
 
     /// The place before its first row.
@@ -204,6 +267,12 @@ impl Row {
     #[inline]
     pub fn has_children(&self) -> bool {
         self.has_children != 0
+    }
+
+    /// Its tag, which prints as `DW_TAG_subprogram` and the like.
+    #[inline]
+    pub fn tag_name(&self) -> DwTag {
+        DwTag(self.tag)
     }
 
     /// Whether it is a null.
@@ -278,20 +347,12 @@ impl<'a> Sections<'a> {
 
     /// The units of `.debug_info`, one after the other, up to the first that is refused.
     pub fn units(&self) -> Units<'a> {
-        Units {
-            sections: *self,
-            types: false,
-            next: Some(0),
-        }
+        Units::of(self, false)
     }
 
     /// The same of `.debug_types`.
     pub fn type_units(&self) -> Units<'a> {
-        Units {
-            sections: *self,
-            types: true,
-            next: Some(0),
-        }
+        Units::of(self, true)
     }
 
     /// The unit at an offset of `.debug_info`, or of `.debug_types`; none at the section's end.
@@ -406,6 +467,10 @@ impl<'a> Sections<'a> {
 
     /// The ranges of the list that an attribute of a unit's entry names: all of them, or the
     /// refusal that stands after those before it. `attr_ranges` has those too.
+    ///
+    /// Left out are ranges that do not begin below their end, and those whose beginning or base is
+    /// one of the two highest addresses of the unit's size, which stand for none. So a list whose
+    /// ranges are all empty answers as an empty list does.
     pub fn ranges(
         &self,
         unit: &UnitHeader,
@@ -416,7 +481,7 @@ impl<'a> Sections<'a> {
     }
 
     /// The same one by one, and then the refusal if there is one; none where the value names no
-    /// list. Refused memory and refusals of the size of addresses, of the list's index or of its
+    /// list. A list whose ranges are all empty is there, and has no item. Refused memory and refusals of the size of addresses, of the list's index or of its
     /// offset come at once.
     pub fn attr_ranges(
         &self,
@@ -429,6 +494,9 @@ impl<'a> Sections<'a> {
 
     /// The locations of the list that an attribute of a unit's entry names: all of them, or the
     /// refusal that stands after those before it. `attr_locations` has those too.
+    ///
+    /// Left out are those whose ranges `ranges` leaves out. So a list whose ranges are all empty
+    /// answers as an empty list does.
     pub fn locations(
         &self,
         unit: &UnitHeader,
@@ -534,23 +602,67 @@ fn reserve<T>(buffer: &mut Vec<T>, more: usize) -> Result<()> {
     reserved.map_err(|_| Error::OutOfMemory)
 }
 
-/// The units of a section.
-#[derive(Clone, Debug)]
+/// The units of a section, up to the first that is refused.
+#[derive(Clone)]
 pub struct Units<'a> {
     sections: Sections<'a>,
     types: bool,
-    next: Option<u64>,
+    // of the next unit, or of the one that was refused
+    offset: u64,
+    is_over: bool,
+}
+
+impl<'a> Units<'a> {
+    fn of(sections: &Sections<'a>, types: bool) -> Self {
+        Units {
+            sections: *sections,
+            types,
+            offset: 0,
+            is_over: false,
+        }
+    }
+
+    /// The refusal that the last item is, with where the unit begins.
+    ///
+    /// ```
+    /// use gimli_proved::{Refused, Sections};
+    ///
+    /// fn print_units(sections: &Sections) -> Result<(), Refused> {
+    ///     let mut units = sections.units();
+    ///     while let Some(unit) = units.next() {
+    ///         println!("{:?}", unit.map_err(|error| units.refused(error))?);
+    ///     }
+    ///     Ok(())
+    /// }
+    /// ```
+    pub fn refused(&self, error: Error) -> Refused {
+        Refused {
+            unit: Some(self.offset),
+            ..error.into()
+        }
+    }
+}
+
+impl fmt::Debug for Units<'_> {
+    fn fmt(&self, f: &mut fmt::Formatter<'_>) -> fmt::Result {
+        f.debug_struct("Units")
+            .field("offset", &format_args!("{:#x}", self.offset))
+            .finish_non_exhaustive()
+    }
 }
 
 impl Iterator for Units<'_> {
     type Item = Result<UnitHeader>;
 
     fn next(&mut self) -> Option<Self::Item> {
-        let unit = self.sections.unit_at(self.types, self.next?).transpose();
-        self.next = match &unit {
-            Some(Ok(unit)) => Some(unit.offset() + unit.length_including_self()),
-            _ => None,
-        };
+        if self.is_over {
+            return None;
+        }
+        let unit = self.sections.unit_at(self.types, self.offset).transpose();
+        match &unit {
+            Some(Ok(unit)) => self.offset += unit.length_including_self(),
+            _ => self.is_over = true,
+        }
         unit
     }
 }

@@ -1,6 +1,8 @@
 //! Attributes and their values.
 
 use crate::sys::Attr;
+use crate::{DwAt, DwForm};
+use core::fmt;
 
 /// The value of an attribute, as it is read. Slices are those of the unit's section.
 #[derive(Clone, Copy, Debug, PartialEq, Eq)]
@@ -61,10 +63,33 @@ pub enum AttributeValue<'a> {
 }
 
 /// An attribute of an entry.
-#[derive(Clone, Copy, Debug)]
+#[derive(Clone, Copy)]
 pub struct Attribute<'a> {
     pub(crate) attr: Attr,
     pub(crate) units: &'a [u8],
+}
+
+// How many bytes of a text are shown.
+const SHOWN: usize = 40;
+
+// Of a block and of an expression it has the number of bytes, of a text the beginning.
+impl fmt::Debug for Attribute<'_> {
+    fn fmt(&self, f: &mut fmt::Formatter<'_>) -> fmt::Result {
+        use AttributeValue::*;
+        let (name, form) = (self.at_name(), self.form_name());
+        write!(f, "Attribute {{ name: {name}, form: {form}, value: ")?;
+        match self.raw_value() {
+            Block(bytes) => write!(f, "Block({} bytes)", bytes.len())?,
+            Exprloc(bytes) => write!(f, "Exprloc({} bytes)", bytes.len())?,
+            String(text) => {
+                let shown = text.get(..SHOWN).unwrap_or(text);
+                let more = if shown.len() < text.len() { ".." } else { "" };
+                write!(f, "String(\"{}\"{more})", shown.escape_ascii())?
+            }
+            value => write!(f, "{value:?}")?,
+        }
+        f.write_str(" }")
+    }
 }
 
 impl<'a> Attribute<'a> {
@@ -74,10 +99,22 @@ impl<'a> Attribute<'a> {
         self.attr.name
     }
 
+    /// The name, which prints as `DW_AT_name` and the like.
+    #[inline]
+    pub fn at_name(&self) -> DwAt {
+        DwAt(self.attr.name)
+    }
+
     /// The form of the declaration, a `DW_FORM` number.
     #[inline]
     pub fn form(&self) -> u16 {
         self.attr.form
+    }
+
+    /// The form, which prints as `DW_FORM_strp` and the like.
+    #[inline]
+    pub fn form_name(&self) -> DwForm {
+        DwForm(self.attr.form)
     }
 
     /// The value, as it is read.

@@ -1,10 +1,10 @@
 //! The repository's real files, and answers beside each other.
 
 use gimli_proved::{
-    Abbreviations, AttributeValue, Bases, Endian, Entries, Error, Place, Row, Rows, Sections,
-    UnitHeader, Units,
+    Abbreviations, AttributeValue, Bases, Endian, Entries, Error, Place, Refused, Row, Rows,
+    Sections, UnitHeader, Units,
 };
-use std::{env, fs, path::PathBuf};
+use std::{env, fmt::Debug, fs, path::PathBuf};
 
 struct File {
     name: String,
@@ -622,5 +622,200 @@ fn numbers() {
         assert_eq!(attr.form(), form.into());
         assert_eq!(attr.number(), number, "{form:x}");
         assert_eq!(attr.udata_value(), constant, "{form:x}");
+    }
+}
+
+// The text of what is printed for debugging, which is one short line.
+fn short(it: &dyn Debug) -> String {
+    let text = format!("{it:?}");
+    assert!(text.len() <= 200 && !text.contains('\n'), "{text}");
+    text
+}
+
+#[test]
+fn debug_texts_are_short() {
+    let mut longest = 0;
+    for file in files() {
+        let sections = file.sections();
+        short(&sections);
+        short(&sections.units());
+        for unit in sections.units() {
+            let unit = unit.unwrap();
+            short(&unit);
+            short(&sections.abbreviations(&unit).unwrap());
+            short(&sections.rows(&unit));
+            let mut entries = sections.entries(&unit);
+            short(&entries);
+            while let Some(entry) = entries.next_entry().unwrap() {
+                short(&entry);
+                short(&entry.place());
+                for attr in entry.attrs() {
+                    longest = longest.max(short(&attr).len());
+                }
+            }
+        }
+    }
+    assert!(longest > 80, "{longest}");
+}
+
+#[test]
+fn debug_texts() {
+    // a unit of version 4: its root with a text, a long text, a block and an expression
+    let mut info = vec![0, 0, 0, 0, 4, 0, 0, 0, 0, 0, 8, 1];
+    info.extend(b"a\"\xff\0");
+    info.extend([b'x'; 41]);
+    info.extend([0, 2, 6, 7, 1, 8]);
+    info[0] = (info.len() - 4) as u8;
+    let abbrev = [
+        1, 0x11, 0, 3, 8, 0x25, 8, 0x1c, 0x0a, 2, 0x18, 0x99, 0x40, 0x19, 0, 0, 0,
+    ];
+    let sections = Sections {
+        debug_info: &info,
+        debug_abbrev: &abbrev,
+        endian: Endian::Little,
+        ..Sections::default()
+    };
+    let unit = sections.units().next().unwrap().unwrap();
+    let mut entries = sections.entries(&unit);
+    let entry = entries.next_entry().unwrap().unwrap();
+    let told: Vec<String> = entry.attrs().map(|attr| short(&attr)).collect();
+    let long = "x".repeat(40);
+    let value = |name, form, value| format!("Attribute {{ name: {name}, form: {form}, {value} }}");
+    let wanted = [
+        value(
+            "DW_AT_name",
+            "DW_FORM_string",
+            "value: String(\"a\\\"\\xff\")",
+        ),
+        value(
+            "DW_AT_producer",
+            "DW_FORM_string",
+            &format!("value: String(\"{long}\"..)"),
+        ),
+        value(
+            "DW_AT_const_value",
+            "DW_FORM_block1",
+            "value: Block(2 bytes)",
+        ),
+        value(
+            "DW_AT_location",
+            "DW_FORM_exprloc",
+            "value: Exprloc(1 bytes)",
+        ),
+        value(
+            "Unknown DwAt: 0x2019",
+            "DW_FORM_flag_present",
+            "value: Flag(true)",
+        ),
+    ];
+    assert_eq!(told, wanted);
+    assert_eq!(
+        short(&entry),
+        "Entry { offset: 0xb, depth: 0, tag: DW_TAG_compile_unit, has_children: false, attrs: 5 }"
+    );
+    assert_eq!(
+        short(&sections),
+        format!(
+            "Sections {{ debug_info: {}, debug_abbrev: 17, endian: Little }}",
+            info.len()
+        )
+    );
+    let header = "UnitHeader { offset: 0x0, length: 63, version: 4, kind: DW_UT_compile, ";
+    assert!(short(&unit).starts_with(header), "{unit:?}");
+}
+
+#[test]
+fn refusals_name_the_unit() {
+    // two units of version 4; the second has a code that is not declared
+    let first = [10, 0, 0, 0, 4, 0, 0, 0, 0, 0, 8, 2, 2, 2];
+    let second = [9, 0, 0, 0, 4, 0, 0, 0, 0, 0, 8, 2, 9];
+    let info = [&first[..], &second].concat();
+    let sections = Sections {
+        debug_info: &info,
+        debug_abbrev: &[2, 0x34, 0, 0, 0, 0],
+        ..Sections::default()
+    };
+    let told = |refused: Refused| (refused.unit, refused.offset, refused.to_string());
+    let unit = sections.units().nth(1).unwrap().unwrap();
+    let mut rows = sections.rows(&unit);
+    let mut entries = sections.entries(&unit);
+    let error = rows.find_map(Result::err).unwrap();
+    assert!(entries.next_entry().is_ok());
+    assert_eq!(entries.next_entry().err(), Some(error));
+    let text = "the entry at 0xc of the unit at 0xe: The code of an abbreviation is not declared.";
+    let wanted = (Some(0xe), Some(0xc), String::from(text));
+    assert_eq!(told(rows.refused(error)), wanted);
+    assert_eq!(told(entries.refused(error)), wanted);
+    // of the unit, and of nothing that is known
+    let text = "the unit at 0xe: The value names no list.";
+    let wanted = (Some(0xe), None, String::from(text));
+    assert_eq!(told(unit.refused(Error::NoList)), wanted);
+    let text = String::from("The value names no list.");
+    assert_eq!(told(Error::NoList.into()), (None, None, text));
+    assert_eq!(Error::from(unit.refused(Error::NoList)), Error::NoList);
+    let entry = Refused {
+        offset: Some(0xc),
+        ..Error::AbbreviationTagZero.into()
+    };
+    assert_eq!(
+        entry.to_string(),
+        "the entry at 0xc: A declared tag is zero."
+    );
+    let without = Sections {
+        debug_abbrev: &[],
+        ..sections
+    };
+    let mut rows = without.rows(&unit);
+    let error = rows.next().unwrap().unwrap_err();
+    let text = "the unit at 0xe: The input ends before what should stand there.";
+    assert_eq!(rows.refused(error).to_string(), text);
+    // the unit itself
+    let cut = Sections {
+        debug_info: &info[..info.len() - 1],
+        ..sections
+    };
+    let mut units = cut.units();
+    let error = units.find_map(Result::err).unwrap();
+    assert_eq!(units.refused(error).to_string(), text);
+    assert!(units.next().is_none());
+    // the wrong byte order is a refusal, and no end
+    let wrong = Sections {
+        endian: Endian::Big,
+        ..sections
+    };
+    assert_eq!(
+        wrong.units().next().unwrap().err(),
+        Some(Error::UnexpectedEof)
+    );
+}
+
+#[test]
+fn lists_of_empty_ranges() {
+    // a unit of version 5 whose entry has ranges at an offset, and a location list
+    let info = [
+        0x11, 0, 0, 0, 5, 0, 1, 8, 0, 0, 0, 0, 1, 0, 0, 0, 0, 0, 0, 0, 0,
+    ];
+    let rnglists = [4, 0x10, 0x10, 4, 0x30, 0x20, 0];
+    let loclists = [4, 1, 1, 1, 0x9c, 4, 3, 2, 1, 0x9c, 0];
+    let empty = [0];
+    for (debug_rnglists, debug_loclists) in [(&rnglists[..], &loclists[..]), (&empty, &empty)] {
+        let sections = Sections {
+            debug_info: &info,
+            debug_abbrev: &[1, 0x11, 0, 0x55, 0x17, 2, 0x17, 0, 0, 0],
+            debug_rnglists,
+            debug_loclists,
+            ..Sections::default()
+        };
+        let unit = sections.units().next().unwrap().unwrap();
+        let mut entries = sections.entries(&unit);
+        let entry = entries.next_entry().unwrap().unwrap();
+        let (ranges, locations) = (entry.attr(0x55).unwrap(), entry.attr(2).unwrap());
+        let bases = Bases::default();
+        assert_eq!(sections.ranges(&unit, &ranges, &bases), Ok(vec![]));
+        assert_eq!(sections.locations(&unit, &locations, &bases), Ok(vec![]));
+        let ranges = sections.attr_ranges(&unit, &ranges, &bases).unwrap();
+        assert_eq!(ranges.unwrap().count(), 0);
+        let locations = sections.attr_locations(&unit, &locations, &bases).unwrap();
+        assert_eq!(locations.unwrap().count(), 0);
     }
 }

@@ -3,25 +3,15 @@
 //! The exit status is 1 where there is none, and 2 where something is refused. The sections are
 //! read by the crate `object`.
 
-use gimli_proved::{Abbreviations, Attribute, AttributeValue, Bases, Entry, Error, Place, Range, Sections, UnitHeader};
+use gimli_proved::{
+    Abbreviations, Attribute, AttributeValue, Bases, DW_AT_GNU_dwo_name, DW_AT_MIPS_linkage_name,
+    DW_AT_abstract_origin, DW_AT_addr_base, DW_AT_dwo_name, DW_AT_high_pc, DW_AT_linkage_name, DW_AT_low_pc,
+    DW_AT_name, DW_AT_ranges, DW_AT_rnglists_base, DW_AT_specification, DW_AT_str_offsets_base, DW_TAG_subprogram,
+    DW_UT_skeleton, DwAt, Entry, Error, Place, Range, Sections, UnitHeader,
+};
 use object::{Object, ObjectKind, ObjectSection};
 use std::{borrow::Cow, cell::Cell, io::Write, process::ExitCode, rc::Rc};
 
-const SUBPROGRAM: u16 = 0x2e;
-const NAME: u16 = 0x03;
-const LOW_PC: u16 = 0x11;
-const HIGH_PC: u16 = 0x12;
-const ORIGIN: u16 = 0x31;
-const SPECIFICATION: u16 = 0x47;
-const RANGES: u16 = 0x55;
-const LINKAGE_NAME: u16 = 0x6e;
-const STR_OFFSETS_BASE: u16 = 0x72;
-const ADDR_BASE: u16 = 0x73;
-const RNGLISTS_BASE: u16 = 0x74;
-const DWO_NAME: u16 = 0x76;
-const MIPS_LINKAGE_NAME: u16 = 0x2007;
-const GNU_DWO_NAME: u16 = 0x2130;
-const SKELETON: u8 = 4;
 const MOST_STEPS: usize = 16;
 
 /// The sections that are read.
@@ -68,12 +58,12 @@ struct Unit {
 
 type Attrs<'a> = Vec<Attribute<'a>>;
 
-fn find<'a>(attrs: &[Attribute<'a>], name: u16) -> Option<Attribute<'a>> {
-    attrs.iter().find(|a| a.name() == name).copied()
+fn find<'a>(attrs: &[Attribute<'a>], name: DwAt) -> Option<Attribute<'a>> {
+    attrs.iter().find(|a| a.at_name() == name).copied()
 }
 
 /// The number of an attribute that is an offset; 0 where it is not there.
-fn number_of(attrs: &[Attribute<'_>], name: u16) -> u64 {
+fn number_of(attrs: &[Attribute<'_>], name: DwAt) -> u64 {
     find(attrs, name).and_then(|a| a.number()).unwrap_or(0)
 }
 
@@ -152,11 +142,11 @@ impl<'a> File<'a> {
     /// The ranges of an entry, without those from 0 on, which the linker leaves of a function that
     /// it discards.
     fn ranges_of(&self, unit: &Unit, attrs: &[Attribute<'_>]) -> Vec<Range> {
-        let low = find(attrs, LOW_PC).and_then(|low| self.address_of(unit, &low));
-        let mut ranges = if let Some((begin, high)) = low.zip(find(attrs, HIGH_PC)) {
+        let low = find(attrs, DW_AT_low_pc).and_then(|low| self.address_of(unit, &low));
+        let mut ranges = if let Some((begin, high)) = low.zip(find(attrs, DW_AT_high_pc)) {
             let end = self.end_of(unit, &high, begin);
             if begin < end { vec![Range { begin, end }] } else { vec![] }
-        } else if let Some(list) = find(attrs, RANGES) {
+        } else if let Some(list) = find(attrs, DW_AT_ranges) {
             self.listed(unit, &list)
         } else {
             vec![]
@@ -182,10 +172,10 @@ impl<'a> File<'a> {
         let abbreviations = self.dwarf.abbreviations(&header).map_err(refused)?;
         let mut unit = Unit { header, abbreviations, bases: Bases::default(), text_offsets: 0 };
         let root = self.entry_at(&unit, header.header_size())?;
-        unit.text_offsets = number_of(&root, STR_OFFSETS_BASE);
-        unit.bases.addresses = number_of(&root, ADDR_BASE);
-        unit.bases.rnglists = number_of(&root, RNGLISTS_BASE);
-        let low = find(&root, LOW_PC).and_then(|low| self.address_of(&unit, &low));
+        unit.text_offsets = number_of(&root, DW_AT_str_offsets_base);
+        unit.bases.addresses = number_of(&root, DW_AT_addr_base);
+        unit.bases.rnglists = number_of(&root, DW_AT_rnglists_base);
+        let low = find(&root, DW_AT_low_pc).and_then(|low| self.address_of(&unit, &low));
         unit.bases.address = low.unwrap_or(0);
         Ok(Some(Rc::new(unit)))
     }
@@ -218,7 +208,7 @@ impl<'a> File<'a> {
         word: &str,
         of: &Rc<Unit>,
         attrs: &Attrs<'a>,
-        names: [u16; 2],
+        names: [DwAt; 2],
     ) -> Result<()> {
         let (mut unit, mut attrs) = (Rc::clone(of), attrs.clone());
         for _ in 0..MOST_STEPS {
@@ -227,7 +217,7 @@ impl<'a> File<'a> {
                 out.extend([word.as_bytes(), b" ", text, b"\n"].concat());
                 return Ok(());
             }
-            let Some(next) = find(&attrs, ORIGIN).or(find(&attrs, SPECIFICATION)) else { break };
+            let Some(next) = find(&attrs, DW_AT_abstract_origin).or(find(&attrs, DW_AT_specification)) else { break };
             match self.followed(&unit, &next)? {
                 Some(entry) => (unit, attrs) = entry,
                 None => break,
@@ -244,9 +234,9 @@ impl<'a> File<'a> {
         }
         out.extend(format!("unit {:#x}\n", unit.header.offset()).bytes());
         let root = self.entry_at(unit, unit.header.header_size())?;
-        self.print_text(out, "unit name", unit, &root, [NAME, NAME])?;
-        self.print_text(out, "function", unit, attrs, [NAME, NAME])?;
-        self.print_text(out, "linkage name", unit, attrs, [LINKAGE_NAME, MIPS_LINKAGE_NAME])?;
+        self.print_text(out, "unit name", unit, &root, [DW_AT_name; 2])?;
+        self.print_text(out, "function", unit, attrs, [DW_AT_name; 2])?;
+        self.print_text(out, "linkage name", unit, attrs, [DW_AT_linkage_name, DW_AT_MIPS_linkage_name])?;
         for range in ranges {
             out.extend(format!("range {:#x} {:#x}\n", range.begin, range.end).bytes());
         }
@@ -256,8 +246,8 @@ impl<'a> File<'a> {
     /// Keeps in mind that the unit of a root has the address but is a skeleton, whose functions are
     /// in another file.
     fn meet_root(&self, unit: &Unit, root: &Attrs<'a>, address: u64) {
-        let name = find(root, DWO_NAME).or(find(root, GNU_DWO_NAME));
-        if self.skeleton.get().is_some() || (name.is_none() && unit.header.kind() != SKELETON) {
+        let name = find(root, DW_AT_dwo_name).or(find(root, DW_AT_GNU_dwo_name));
+        if self.skeleton.get().is_some() || (name.is_none() && unit.header.ut_name() != DW_UT_skeleton) {
             return;
         }
         if has_address(&self.ranges_of(unit, root), address) {
@@ -276,7 +266,9 @@ impl<'a> File<'a> {
                     if entry.offset() == unit.header.header_size() {
                         self.meet_root(unit, &attrs_of(&entry), address);
                     }
-                    if entry.tag() == SUBPROGRAM && self.is_function(out, unit, &attrs_of(&entry), address)? {
+                    if entry.tag_name() == DW_TAG_subprogram
+                        && self.is_function(out, unit, &attrs_of(&entry), address)?
+                    {
                         return Ok(true);
                     }
                 }
@@ -362,7 +354,7 @@ fn answer(bytes: &[u8], address: u64) -> Option<u8> {
     };
     std::io::stdout().write_all(&out).ok()?;
     Some(status.unwrap_or_else(|Refused(error, what, offset)| {
-        eprintln!("error {}: {what} {offset:#x}", error.number());
+        eprintln!("error {}: {what} {offset:#x}: {error}", error.number());
         2
     }))
 }
