@@ -2,7 +2,7 @@
 # sanitize.sh: runs the C programs over the library that build.sh has built with the compiler's
 # checks of addresses, leaks and undefined behaviour: on the real files, on each of them cut at
 # many places, and on all rows of the tables of tests, whose answers are compared (hostile/cases.py).
-# The checks see the C side and the allocator; behind each section and each buffer of hostile.c no
+# The checks see the C side and the allocator; after each section and each buffer of hostile.c no
 # page is mapped.
 set -euo pipefail
 here=$(cd "$(dirname "$0")" && pwd)

@@ -21,7 +21,7 @@ static void empty_sections(void) {
     size_t count = 7;
     uint64_t offset = 7;
     same("no unit", gimli_unit(&s, 0, &unit), GIMLI_END);
-    same("behind no unit", gimli_unit(&s, 1, &unit), GIMLI_REFUSED + GIMLI_UNEXPECTED_EOF);
+    same("after no unit", gimli_unit(&s, 1, &unit), GIMLI_REFUSED + GIMLI_UNEXPECTED_EOF);
     same("no rows", gimli_rows(&s, 0, &place, GIMLI_NONE(gimli_row_t), 0, &count), GIMLI_REFUSED + GIMLI_UNEXPECTED_EOF);
     same("count", count, 0);
     same("no set", gimli_unit_of_address(&s, 5, &offset), GIMLI_END);
@@ -111,7 +111,7 @@ static void lists(void) {
     same("count", count, 1);
 }
 
-/* a list with ranges that are left out, and an index without an address, behind which one stands */
+/* a list with ranges that are left out, and an index without an address, after which one stands */
 static void ranges_left_out(void) {
     static const uint8_t rnglists[] = {
         4, 0x10, 0x20,                                            /* from 0x1000 on */
@@ -176,7 +176,7 @@ static void siblings(uint8_t target, uint32_t falsely) {
     same("where", offset, falsely == GIMLI_MORE ? 0x0b : 7);
 }
 
-/* The same entry, where an entry is refused behind what closes it, and before that. */
+/* The same entry, where an entry is refused after what closes it, and before that. */
 static void broken_off(size_t refused, uint32_t falsely) {
     uint8_t info[] = {0x10, 0, 0, 0, 4, 0, 0, 0, 0, 0, 4, 1, 0x0f, 2, 0, 2, 2, 0, 0, 0};
     static const uint8_t abbrev[] = {1, 0x2e, 1, 1, 0x11, 0, 0, 2, 0x34, 0, 0, 0, 0};

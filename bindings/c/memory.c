@@ -52,7 +52,7 @@ static void is_kept(const char *what, const void *buffer, size_t filled, size_t 
     for (size_t i = filled; i < size; i++) if (((const unsigned char *)buffer)[i] != MARK) fails(what, at);
 }
 
-/* One call with a buffer of rows; what is behind its rows is as it was. */
+/* One call with a buffer of rows; what is after its rows is as it was. */
 static uint32_t some_rows(enum way way, gimli_place_t *place, size_t *count, long at) {
     uint32_t status;
     if (way != ROWS) {
@@ -61,12 +61,12 @@ static uint32_t some_rows(enum way way, gimli_place_t *place, size_t *count, lon
         status = way == ENTRIES ? gimli_entries(&sections, unit.offset, place, rows, ROOM, attrs, SPACE, &filled)
                                 : gimli_entries_by(&sections, unit.offset, table, place, rows, ROOM, attrs, SPACE, &filled);
         *count = filled.rows;
-        is_kept("written behind entries", rows, filled.rows * sizeof *rows, sizeof rows, at);
+        is_kept("written after entries", rows, filled.rows * sizeof *rows, sizeof rows, at);
         return status;
     }
     memset(plain, MARK, sizeof plain);
     status = gimli_rows(&sections, unit.offset, place, plain, ROOM, count);
-    is_kept("written behind rows", plain, *count * sizeof *plain, sizeof plain, at);
+    is_kept("written after rows", plain, *count * sizeof *plain, sizeof plain, at);
     for (size_t i = 0; i < *count; i++) {
         gimli_entry_t row = {plain[i].offset, plain[i].depth, 0, 0, plain[i].tag, plain[i].has_children};
         rows[i] = row;

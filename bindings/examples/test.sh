@@ -107,7 +107,7 @@ ends() {
     done
 }
 
-# address PROGRAM NAME [MORE]: where a function begins, and so many bytes behind
+# address PROGRAM NAME [MORE]: where a function begins, and so many bytes after
 address() { printf '%x\n' $(($(nm "$1" | awk -v name="$2" '$3 == name { print "0x" $1 }') + ${3:-0})); }
 
 # messages in place of answers
@@ -115,7 +115,7 @@ for words in "" "$made/c-compressed nine" "$made/c-compressed"; do ends 2 0 1 "^
 for file in "$here/test.sh" /none; do ends 2 0 1 "^function_at: $file is no linked ELF file\$" "$file" 10; done
 ends 1 1 0 "^no function at 0x10\$" "$made/two-discarded" 10
 
-# a list of more ranges than there is room for at first, behind one that is refused
+# a list of more ranges than there is room for at first, after one that is refused
 gcc -nostdlib -static -o "$made/lists" "$here/programs/lists.s"
 ends 0 70003 0 "^function many\$" "$made/lists" "$(address "$made/lists" many 69999)"
 ends 2 0 1 "^error 1: the ranges of the unit at 0x0: The input ends before what should stand there\.\$" "$made/lists" 10

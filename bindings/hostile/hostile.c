@@ -1,6 +1,6 @@
 /* hostile CASES: answers the cases of a file, one a line, as cases.py writes them, by
    every call with buffers of several sizes, 0 among them. Sections and buffers end where no page
-   is mapped, so that a read or a write behind them stops the program; the bytes before and behind
+   is mapped, so that a read or a write after them stops the program; the bytes before and after
    what a call fills have to stay. Calls with other sizes have to answer the same, and so have those
    by a table of abbreviations.
 
@@ -39,7 +39,7 @@ static void same(const char *what, uint64_t is, uint64_t wanted) {
     if (is != wanted) differs(what, is, wanted);
 }
 
-/* The last bytes of an arena; behind them nothing is mapped. */
+/* The last bytes of an arena; after them nothing is mapped. */
 static void *room_in(int arena, size_t size) {
     if (!arenas[arena]) {
         uint8_t *made = mmap(NULL, GUARD + ARENA + GUARD, PROT_READ | PROT_WRITE, MAP_PRIVATE | MAP_ANONYMOUS, -1, 0);
@@ -60,7 +60,7 @@ static void *marked(int arena, size_t size) {
     return buffer;
 }
 
-/* What is before a buffer and behind its first bytes is as it was. */
+/* What is before a buffer and after its first bytes is as it was. */
 static void is_kept(const char *what, const void *buffer, size_t filled, size_t size) {
     const uint8_t *at = buffer;
     for (const uint8_t *it = at - FRONT; it < at; it++) if (*it != MARK) return differs(what, 0, 1);

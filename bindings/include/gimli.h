@@ -49,11 +49,11 @@ extern "C" {
 enum {
     GIMLI_MORE = 0,          /* something was found, and there may be more; with no room for rows or for a table see there */
     GIMLI_END = 1,           /* nothing is left */
-    GIMLI_TOO_DEEP = 2,      /* the depth of the place is so great that depths behind it may be out of range */
+    GIMLI_TOO_DEEP = 2,      /* the depth of the place is so great that depths after it may be out of range */
     GIMLI_NO_LIST = 3,       /* the attribute's value names no list */
     GIMLI_UNORDERED = 4,     /* the codes of a table of abbreviations are not 1, 2, .. in this order */
     GIMLI_REFUSED = 256,     /* and a number of gimli_error: what the call begins with was refused, or a table */
-    GIMLI_ROW_REFUSED = 512  /* and a number of gimli_error: what stands behind all that was written was refused */
+    GIMLI_ROW_REFUSED = 512  /* and a number of gimli_error: what stands after all that was written was refused */
 };
 
 /* The number of a refusal, of a status from GIMLI_REFUSED on. */
@@ -280,7 +280,7 @@ typedef struct {
 /* A range of addresses. */
 typedef struct {
     uint64_t begin;
-    uint64_t end; /* behind the last */
+    uint64_t end; /* one past the last */
 } gimli_range_t;
 
 /* A range of addresses, and where the expression that holds there lies in .debug_loclists
@@ -318,7 +318,7 @@ static inline gimli_sections_t gimli_no_sections(void) {
 uint32_t gimli_unit(const gimli_sections_t *sections, uint64_t offset, gimli_unit_t *unit);
 
 /* Rows of the unit at an offset of `units`, from a place on: `count` of them from the front of
-   all that are left. The place is left behind them, and `rows` is as it was behind them. `units`
+   all that are left. The place is left after them, and `rows` is as it was after them. `units`
    and `abbrev` are read.
    MORE: the buffer is full, and there is more. END: none is left, as at the offset that is the
    unit's length. ROW_REFUSED: what stands at the place was refused.
@@ -340,7 +340,7 @@ uint32_t gimli_entries(const gimli_sections_t *sections, uint64_t unit, gimli_pl
                        gimli_attr_t *attrs, size_t space, gimli_filled_t *filled);
 
 /* The table of abbreviations at an offset of `abbrev`. `abbrev` is read, and no memory is asked for.
-   END: `counted` declarations and specifications are written, and behind them the buffers are as
+   END: `counted` declarations and specifications are written, and after them the buffers are as
    they were: the table of every unit whose `abbreviations` is this offset. Else both are as they
    were. MORE: there is no room for all of the table; `counted` is how much it wants, so a first
    call may come with no room. UNORDERED, or REFUSED of the offset or of a declaration: `counted` is
@@ -367,10 +367,10 @@ uint32_t gimli_entries_by(const gimli_sections_t *sections, uint64_t unit, const
    closes their list. `units` and `abbrev` are read. With `follows` 0 all rows between are read;
    else the references of entries (DW_AT_sibling) are followed, and the answer is the same where
    gimli_first_false finds none in the unit; where it finds one, `row` need not be a row of the
-   unit: all that is said then is that it stands behind the place. So a loop that takes the offset
+   unit: all that is said then is that it stands after the place. So a loop that takes the offset
    of `row` as the next place ends, whatever the bytes.
    MORE: `row` is it, and its depth is the place's. Else `row` is as it was. END: there is none, or
-   a null stands at the place. ROW_REFUSED: what stands at the place or behind was refused.
+   a null stands at the place. ROW_REFUSED: what stands at the place or after was refused.
    REFUSED: of the unit, of its abbreviations or of the offset, as that of the unit's length is. */
 uint32_t gimli_sibling(const gimli_sections_t *sections, uint64_t unit, const gimli_place_t *place, uint8_t follows,
                        gimli_row_t *row);
@@ -395,9 +395,9 @@ uint32_t gimli_unit_of_address(const gimli_sections_t *sections, uint64_t addres
    `ranges` or `rnglists` is read, and `addresses`. Left out are ranges that do not begin below their
    end, and those whose beginning or base is one of the two highest addresses of the unit's size,
    which stand for none: a list whose ranges are all empty answers as an empty list does. What
-   stands behind a refused one can't be had.
+   stands after a refused one can't be had.
    MORE: there are more than there is room for. END: all were written. ROW_REFUSED: all were
-   written, and what stands behind them was refused. NO_LIST, or REFUSED of the size of addresses,
+   written, and what stands after them was refused. NO_LIST, or REFUSED of the size of addresses,
    of the index or of the offset: none. */
 uint32_t gimli_ranges(const gimli_sections_t *sections, const gimli_unit_t *unit, const gimli_attr_t *attribute,
                       const gimli_bases_t *bases, gimli_range_t *into, size_t room, size_t *count);

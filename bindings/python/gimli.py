@@ -285,7 +285,7 @@ def numpy_if_there():
 
 @lru_cache(maxsize=None)
 def dtype_of(struct):
-    """numpy's type of a struct. Field by field, as of a struct with free bytes behind its fields numpy warns by itself."""
+    """numpy's type of a struct. Field by field, as of a struct with free bytes after its fields numpy warns by itself."""
     import numpy
     names = [name for name, *_ in struct._fields_]
     return numpy.dtype({"names": names, "formats": [numpy.dtype(kind) for _, kind in struct._fields_],
@@ -516,7 +516,7 @@ class Dwarf:
 
         With follows references are followed: the answer is the same where first_false finds none
         in the unit; where it finds one, it need not be a row of the unit, and stands
-        behind the offset.
+        after the offset.
         """
         row = self.found("sibling", Row(), unit.offset, byref(Place(number(offset), depth)), follows, unit=unit.offset)
         return row and row_of(row)

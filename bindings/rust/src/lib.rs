@@ -423,7 +423,7 @@ impl<'a> Sections<'a> {
 
     /// The next sibling of the row at a place, if there is one. With `follows` references are
     /// followed: the answer is the same where `first_false_sibling` finds none in the unit; where
-    /// it finds one, it need not be a row of the unit, and stands behind the place: a loop that goes
+    /// it finds one, it need not be a row of the unit, and stands after the place: a loop that goes
     /// on from each answer ends, whatever the bytes.
     pub fn next_sibling(
         &self,
