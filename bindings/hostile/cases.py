@@ -665,7 +665,9 @@ def cases_of(row):
              | dict.fromkeys(("rows", "tree", "tree_at", "raw", "entries", "entry"), walk_cases)
              | {"words": words_cases, "file": file_cases, "units": section_cases, "type_units": section_cases},
              "memory": dict.fromkeys(("cursor", "plain", "raw", "run_tree", "entry", "check", "run_cursor", "tree", "walker",
-                                      "run_plain", "nodes", "clone", "units", "type_units", "clone_tree", "text"), walk_cases)}
+                                      "run_plain", "nodes", "clone", "units", "type_units", "clone_tree", "text"), walk_cases),
+             # (the library for C has no call for bases yet: their sections are walked)
+             "dwarf": dict.fromkeys(("bases", "values", "lists"), walk_cases) | {"holding": section_cases}}
     case = calls[row.calls].get(row.call)
     return case(row) if case and (row.sections or row.call == "file") else ()
 
