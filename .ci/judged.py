@@ -2,14 +2,16 @@
 
 usage: python3 .ci/judged.py         prints the parts that are due
 
-.ci/judged has a line for each part that passed: its name, and a hash of the paths and contents of what it judged. No proof is among
-these: a proof that the prover takes changes nothing of what a contract says.
+.ci/judged has a line for each part that passed: its name, and a hash of the paths and contents of what it judged. No proof and no
+comment is among these: neither changes what a contract says or what a function does.
 """
 import hashlib, os
 
 import kit
 
 PATH = ".ci/judged"
+# what a line of comment begins with, in files of these endings
+COMMENTS = {".rt": b"//", ".antt": b"--"}
 
 
 def sources_of(crate, *folders):
@@ -30,12 +32,19 @@ def parts():
     return found
 
 
+def judged_text(path):
+    """Returns what is judged of a file: of code, of clauses and of definitions the lines that are no comment."""
+    with open(path, "rb") as file:
+        text = file.read()
+    mark = COMMENTS.get(os.path.splitext(path)[1])
+    return b"\n".join(it for it in text.split(b"\n") if not it.lstrip().startswith(mark)) if mark else text
+
+
 def hash_of(paths):
     """Returns a hash of the files at or below some paths."""
     whole = hashlib.sha256()
     for path in kit.files(*paths):
-        with open(path, "rb") as file:
-            whole.update(f"{path} {hashlib.sha256(file.read()).hexdigest()}\n".encode())
+        whole.update(f"{path} {hashlib.sha256(judged_text(path)).hexdigest()}\n".encode())
     return whole.hexdigest()
 
 
