@@ -76,6 +76,7 @@ impl Model for AttributeSpecification {
 }
 
 impl Debug for AttributeSpecification {
+    // Shows the name, the form, its width, and the number of the form implicit_const.
     fn fmt<W: fmt::Write>(&self, f: &mut fmt::Formatter<W>) -> fmt::Result {
         f.debug_struct("AttributeSpecification")
             .field("name", &self.name)
@@ -87,7 +88,8 @@ impl Debug for AttributeSpecification {
 }
 
 impl AttributeSpecification {
-    /// A declared attribute; a number stands exactly with the form implicit_const.
+    /// A declared attribute. `implicit_const_value` has to be given with the form implicit_const,
+    /// and with no other.
     #[inline]
     pub fn new(name: DwAt, form: DwForm, implicit_const_value: Option<i64>) -> Self
         requires { IsWellFormed
@@ -118,7 +120,7 @@ impl AttributeSpecification {
         self.form
     }
 
-    /// The number that the form implicit_const has here.
+    /// The number that the form implicit_const has here; none with any other form.
     #[inline]
     pub fn implicit_const_value(&self) -> Option<i64>
         ensures value { result ≡ self.now.constant }
@@ -130,8 +132,8 @@ impl AttributeSpecification {
         }
     }
 
-    /// The number of bytes of the form's value under an encoding, where it does not depend on the
-    /// bytes (DWARF 5, 7.5.6).
+    /// The number of bytes of the form's value under an encoding (DWARF 5, 7.5.6). None where it
+    /// depends on the bytes, and where the form is not known.
     #[inline]
     pub fn size(&self, encoding: Encoding) -> Option<u8>
         ensures { result ≡ form_size encoding self.now.form.0 }
@@ -141,7 +143,7 @@ impl AttributeSpecification {
 }
 
 impl AttributeSpecification {
-    /// How many bytes the form's value takes.
+    /// How many bytes the form's value takes, as `Width::of` answers.
     #[inline(always)]
     pub(crate) fn width(&self) -> Width
         ensures { result ≡ width_of self.now.form.0 }
@@ -149,11 +151,13 @@ impl AttributeSpecification {
         self.width
     }
 
-    /// Reads the next declared attribute, or none where two zeros end the list (DWARF 5, 7.5.3). It
-    /// is for those who keep declarations of their own: `DebugAbbrev::abbreviations` reads a table.
+    /// Reads the next declared attribute; none where two zeros end the list, which are passed
+    /// (DWARF 5, 7.5.3). A name or form that is not known is not refused. It is for those who keep
+    /// declarations of their own: `DebugAbbrev::abbreviations` reads a table.
     ///
-    /// Refusals: `UnexpectedEof`, `BadUnsignedLeb128`, `BadSignedLeb128`, `AttributeNameZero`,
-    /// `AttributeFormZero`; the input then stays.
+    /// Refusals, in this order: of the name and then of the form, `UnexpectedEof` and
+    /// `BadUnsignedLeb128`; `AttributeNameZero` and `AttributeFormZero`; of the number of the form
+    /// implicit_const, `UnexpectedEof` and `BadSignedLeb128`. The input is then as it was.
     #[inline]
     pub fn read<R: Reader>(input: &mut R) -> Result<Option<AttributeSpecification>>
         ensures value { read_of result (R.view input.new) ≡ specification_at (R.view input.old) }
@@ -165,8 +169,8 @@ impl AttributeSpecification {
         Ok(specification)
     }
 
-    // The next declared attribute, or none where two zeros end the list; where it is refused, the
-    // input is left anywhere.
+    /// The next declared attribute; none where two zeros end the list. It is as `read`, with the
+    /// same refusals in the same order; but after one the input is left anywhere.
     #[inline(always)]
     #[tactic(auto, unfolding(crate::specs::Abbreviations::specification_at))]
     pub(crate) fn parse<R: Reader>(input: &mut R) -> Result<Option<AttributeSpecification>>
@@ -187,7 +191,8 @@ impl AttributeSpecification {
     }
 }
 
-// Says that each attribute has a number exactly where its form is implicit_const; it does nothing.
+// Does nothing. It is called for its clause: each attribute has a number exactly where its form is
+// implicit_const.
 fn are_formed(specifications: &[AttributeSpecification])
     ensures { All IsWellFormed specifications.now }
 {
@@ -198,7 +203,9 @@ fn are_formed(specifications: &[AttributeSpecification])
     }
 }
 
-// The bytes of the values of attributes under an encoding, where the form of each tells its size.
+// The number of bytes of the values of attributes together under an encoding. None where the form
+// of one does not fix its size, and where the sum needs more than 64 bits, which it does not for
+// fewer than 2^32 attributes.
 fn sum_of_sizes(specifications: &[AttributeSpecification], encoding: Encoding) -> Option<u64>
     ensures exact { IfSome result (λ n. attributes_size encoding specifications.now ≡ Some n) }
     ensures known { length specifications.now < 2 ^ 32
@@ -258,7 +265,7 @@ impl<A: Allocator> Abbreviation<A> {
         self.tag
     }
 
-    /// Whether children follow the entries.
+    /// Whether a list of children, which a null entry ends, follows each of the entries.
     #[inline]
     pub fn has_children(&self) -> bool
         ensures { result ≡ self.now.has_children }
@@ -274,8 +281,9 @@ impl<A: Allocator> Abbreviation<A> {
         self.attributes.specifications()
     }
 
-    /// The bytes of all values together under an encoding, where the form of each tells its size
-    /// (DWARF 5, 7.5.6). Of 2^32 attributes and more it may be none.
+    /// The number of bytes of all values of an entry together under an encoding (DWARF 5, 7.5.6).
+    /// None where the form of one does not fix its size; of 2^32 attributes and more it may be none
+    /// too.
     pub fn attributes_size(&self, encoding: Encoding) -> Option<u64>
         ensures exact { IfSome result (λ n.
             attributes_size encoding self.now.attributes ≡ Some n) }
@@ -290,8 +298,9 @@ impl<A: Allocator> Abbreviation<A> {
         sum_of_sizes(self.attributes(), encoding)
     }
 
-    /// All values as one step, if the declaration keeps one: where it has one step, and where two,
-    /// if with the value between them they have room in one.
+    /// All values of an entry as one step, also that of a DW_AT_sibling; none where the declaration
+    /// keeps no such step. It keeps one where it has one step, and where it has two, if the form of
+    /// the value between them fixes its size and one step has room for all.
     #[inline(always)]
     pub fn whole_step(&self) -> Option<&Step>
         ensures { IfSome (option_copied result) (λ s. IsRun s self.now.attributes) }
@@ -299,7 +308,9 @@ impl<A: Allocator> Abbreviation<A> {
         self.attributes.whole()
     }
 
-    /// The steps by which the values of the entries are passed, in their order.
+    /// The steps by which the values of the entries are passed, in their order; there is at least
+    /// one. Between two of them one value is read by itself. The first DW_AT_sibling is always such
+    /// a value.
     #[inline]
     pub fn steps(&self) -> &[Step]
         ensures { AreSteps false result.now self.now.attributes }
@@ -308,8 +319,11 @@ impl<A: Allocator> Abbreviation<A> {
     }
 }
 
-// The tag and the children flag of a declaration, whose code is read already, and its attributes
-// after none; where they are refused, the input and the attributes are left anywhere.
+// Reads a declaration after its code: answers the tag and the flag `has_children`, and fills
+// `attributes`, which have to be as `Attributes::new` answers them. Refusals, in this order: of the
+// tag, `UnexpectedEof`, `BadUnsignedLeb128` and `AbbreviationTagZero`; of the flag, `UnexpectedEof`
+// and `InvalidAbbreviationChildren`; those of `Attributes::parse`, before which no memory is asked
+// for. The input and the attributes are then left anywhere.
 #[inline(always)]
 #[tactic(auto, unfolding(crate::specs::Abbreviations::declared_at, crate::specs::Abbreviations::is_headed, crate::specs::Abbreviations::tag_at, crate::specs::Abbreviations::children_at))]
 fn parse_declared<R: Reader, A: Allocator + Copy>(
@@ -350,8 +364,11 @@ fn parse_declared<R: Reader, A: Allocator + Copy>(
     Ok((tag, has_children))
 }
 
-// Adds a declaration to those whose codes are not in order. It is a function of its own, as the place
-// of what the map hands back, larger than a declaration, is set to zero where its body begins.
+// Puts a declaration under `code` into those whose codes are not in order; one that is there
+// already is replaced. Refusal: `OutOfMemory`; the map is then left anywhere.
+//
+// It is a function of its own, as the place of what the map hands back, larger than a declaration,
+// is set to zero where its body begins.
 #[inline(always)]
 fn insert_other<A: Allocator + Copy>(
     others: &mut BTreeMap<u64, Abbreviation<A>, A>,
@@ -383,8 +400,8 @@ impl<A: Allocator> Model for Abbreviations<A> {
 }
 
 impl<A: Allocator> Abbreviations<A> {
-    /// The declaration of a code, if there is one: in constant time where the codes 1, 2, .. are
-    /// declared in order, else in logarithmic time.
+    /// The declaration of a code; none where no declaration has it. It takes constant time where
+    /// the codes 1, 2, .. are declared in order, else logarithmic time.
     #[inline]
     #[tactic(auto, unfolding(crate::specs::Table::codes_of))]
     pub fn get(&self, code: u64) -> Option<&Abbreviation<A>>
@@ -401,7 +418,7 @@ impl<A: Allocator> Abbreviations<A> {
 }
 
 impl<A: Allocator + Copy> Abbreviations<A> {
-    // A table without declarations.
+    // A table without declarations. No memory is asked for.
     fn new(alloc: A) -> Self
         ensures { result ≡ record { dense = []; others = [] } }
     {
@@ -411,7 +428,8 @@ impl<A: Allocator + Copy> Abbreviations<A> {
         }
     }
 
-    // Adds a declaration. A code that is declared already is refused.
+    // Adds a declaration. Refusals: `DuplicateAbbreviationCode` where its code is declared already;
+    // `OutOfMemory`. The table is then left anywhere.
     #[inline(always)]
     fn insert(&mut self, declared: Abbreviation<A>) -> Result<()>
         ensures ok { OnOk result
@@ -436,7 +454,9 @@ impl<A: Allocator + Copy> Abbreviations<A> {
         Ok(())
     }
 
-    // The table of the declarations up to the code 0; where it is refused, the input is left
+    // Reads the declarations up to the code 0, which is passed, and answers their table. Refusals:
+    // of each declaration in order, those of its code (`UnexpectedEof`, `BadUnsignedLeb128`), those
+    // of `parse_declared`, and `DuplicateAbbreviationCode`; `OutOfMemory`. The input is then left
     // anywhere.
     fn parse<R: Reader>(alloc: A, input: &mut R) -> Result<Abbreviations<A>>
         ensures value { UnlessMemory result
@@ -469,7 +489,7 @@ pub struct DebugAbbrev<R> {
 }
 
 impl<'a, E: Endianity> DebugAbbrev<EndianSlice<'a, E>> {
-    /// The section of these bytes.
+    /// The section of these bytes, in the byte order `endian`. Its first place is 0.
     pub fn new(bytes: &'a [u8], endian: E) -> Self
         ensures { ⟦<DebugAbbrev<EndianSlice<'a, E>> as Section<EndianSlice<'a, E>>>⟧.content result
             ≡ record { big = E.big endian; place = 0; bytes = bytes.now } }
@@ -508,10 +528,11 @@ impl<R: Reader> DebugAbbrev<R> {
     /// The table of the declarations at an offset of the section, up to the code 0 (DWARF 5,
     /// 7.5.3). Memory is taken only where a first declaration is read as far as its attributes.
     ///
-    /// Refusals: `UnexpectedEof`, also where the offset lies after the section's end,
-    /// `BadUnsignedLeb128`, `BadSignedLeb128`, `AbbreviationTagZero`,
-    /// `InvalidAbbreviationChildren`, `AttributeNameZero`, `AttributeFormZero`,
-    /// `DuplicateAbbreviationCode`, `OutOfMemory`.
+    /// Refusals: `UnexpectedEof`, with the section's first place, where the offset lies after the
+    /// section's end; then the first that comes as the declarations are read in order:
+    /// `UnexpectedEof`, `BadUnsignedLeb128`, `AbbreviationTagZero`, `InvalidAbbreviationChildren`,
+    /// `AttributeNameZero`, `AttributeFormZero`, `BadSignedLeb128`, and, after the second
+    /// declaration of a code, `DuplicateAbbreviationCode`. `OutOfMemory` where memory is refused.
     #[tactic(auto, unfolding(crate::specs::Abbreviations::map_at, crate::specs::Abbreviations::table_takes_memory_at))]
     pub fn abbreviations<A: Allocator + Copy>(
         &self,

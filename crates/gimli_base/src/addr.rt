@@ -44,10 +44,12 @@ impl<R: Reader> DebugAddr<R> {
     /// The address at an index of the table that begins at `base`, an offset of the section, with
     /// addresses of `address_size` bytes.
     ///
-    /// Refusals: `UnexpectedEof`, where the base, the number of bytes before the address or the
-    /// address itself lies after the section's end, with the section's first place, the table's or
-    /// the address's; `UnsupportedOffset`, where the number of bytes before the address does not
-    /// fit the reader's offsets; `UnsupportedAddressSize`, where the size is not 1, 2, 4 or 8.
+    /// Refusals, in this order: `UnexpectedEof`, with the section's first place, where the base
+    /// lies after the section's end; `UnsupportedOffset`, where the number of bytes before the
+    /// address does not fit the reader's offsets; `UnexpectedEof`, with the table's place, where
+    /// the address would begin after the section's end; `UnsupportedAddressSize`, where the size is
+    /// not 1, 2, 4 or 8; `UnexpectedEof`, with the address's place, where its bytes are not all
+    /// there.
     #[tactic(auto, unfolding(crate::specs::Address::table_address))]
     pub fn get_address(
         &self,

@@ -17,20 +17,21 @@ pub trait ReaderAddress: Copy {
         requires { IsTrue (is_size size) }
         ensures { number result ≡ ones_sized size };
 
-    /// The least address of `size` bytes that stands for none: all ones, less one. Linkers write
-    /// it, and all ones, where the code of a range was dropped. The size has to be 1, 2, 4 or 8.
+    /// The least address of `size` bytes that stands for no address: all ones, less one. Linkers
+    /// write it, and all ones, where the code of a range was dropped. The size has to be 1, 2, 4 or
+    /// 8.
     fn min_tombstone(size: u8) -> Self
         requires { IsTrue (is_size size) }
         ensures { number result ≡ min_tombstone size };
 
-    /// The sum of the address and a length. Refusal: `AddressOverflow`, where it needs more than
+    /// The sum of the address and `length`. Refusal: `AddressOverflow`, where it needs more than
     /// `size` bytes. The size has to be 1, 2, 4 or 8.
     fn add_sized(self, length: u64, size: u8) -> Result<Self>
         requires { IsTrue (is_size size) }
         ensures { answer_of number result ≡ sum_sized size (number self) length };
 
-    /// The sum of the address and a length, in its lowest `size` bytes. The size has to be 1, 2, 4
-    /// or 8.
+    /// The lowest `size` bytes of the sum of the address and `length`; what does not fit them is
+    /// dropped. The size has to be 1, 2, 4 or 8.
     fn wrapping_add_sized(self, length: u64, size: u8) -> Self
         requires { IsTrue (is_size size) }
         ensures { number result ≡ wrapped_sum size (number self) length };

@@ -15,7 +15,8 @@ use std::alloc::{AllocError, Allocator};
 use std::fmt::{self, Debug};
 use std::marker::Model;
 
-// Puts those in place into a list of their own; where memory is refused, that is left anywhere.
+// Makes `more` a copy of `few`; the items that it had are dropped. Where memory is refused, `more`
+// is left anywhere.
 #[inline(never)]
 fn spill<T: Copy, A: Allocator>(
     few: &[T],
@@ -46,7 +47,7 @@ impl<A: Allocator> Model for Specifications<A> {
 }
 
 impl<A: Allocator> Specifications<A> {
-    // None of them.
+    // No attributes. No memory is asked for.
     #[inline(always)]
     fn new(alloc: A) -> Self
         ensures { result ≡ [] }
@@ -58,7 +59,7 @@ impl<A: Allocator> Specifications<A> {
         }
     }
 
-    // All of them, in their order.
+    // The attributes, in their order.
     #[inline]
     fn as_slice(&self) -> &[AttributeSpecification]
         ensures { result.now ≡ self.now }
@@ -70,7 +71,8 @@ impl<A: Allocator> Specifications<A> {
         }
     }
 
-    // Adds one; where memory is refused, they are left anywhere.
+    // Adds an attribute as the last. Memory is asked for from the thirteenth on; where it is
+    // refused, the list is left anywhere.
     #[inline(always)]
     fn push(&mut self, specification: AttributeSpecification) -> std::result::Result<(), AllocError>
         ensures { OnOk result (self.new ≡ self.old ++ specification ∷ []) }
@@ -107,7 +109,7 @@ impl<A: Allocator> Model for Steps<A> {
 }
 
 impl<A: Allocator> Steps<A> {
-    // None of them.
+    // No steps. No memory is asked for.
     #[inline(always)]
     fn new(alloc: A) -> Self
         ensures { result ≡ [] }
@@ -119,7 +121,7 @@ impl<A: Allocator> Steps<A> {
         }
     }
 
-    // All of them, in their order.
+    // The steps, in their order.
     #[inline]
     fn as_slice(&self) -> &[Step]
         ensures { result.now ≡ self.now }
@@ -131,7 +133,8 @@ impl<A: Allocator> Steps<A> {
         }
     }
 
-    // Adds one; where memory is refused, they are left anywhere.
+    // Adds a step as the last. Memory is asked for from the fourteenth on; where it is refused, the
+    // list is left anywhere.
     #[inline(always)]
     fn push(&mut self, step: Step) -> std::result::Result<(), AllocError>
         ensures { OnOk result (self.new ≡ self.old ++ step ∷ []) }
@@ -159,8 +162,8 @@ pub(crate) struct Attributes<A: Allocator> {
     steps: Steps<A>,
 }
 
-// As the list of the attributes alone.
 impl<A: Allocator> Debug for Attributes<A> {
+    // Shows the list of the attributes alone, without the steps.
     fn fmt<W: fmt::Write>(&self, f: &mut fmt::Formatter<W>) -> fmt::Result {
         self.specifications().fmt(f)
     }
@@ -175,7 +178,7 @@ impl<A: Allocator> Attributes<A> {
         self.specifications.as_slice()
     }
 
-    /// The steps, in their order.
+    /// The steps, in their order: between two of them one value is read by itself.
     #[inline]
     pub(crate) fn steps(&self) -> &[Step]
         ensures { result.now ≡ self.now.steps }
@@ -183,7 +186,7 @@ impl<A: Allocator> Attributes<A> {
         self.steps.as_slice()
     }
 
-    /// All values as one step, where that is kept.
+    /// All values as one step; none where that is not kept.
     #[inline(always)]
     pub(crate) fn whole(&self) -> Option<&Step>
         ensures { option_copied result ≡ self.now.whole }
@@ -192,8 +195,8 @@ impl<A: Allocator> Attributes<A> {
     }
 }
 
-// All values as one step: that which they have, or both, where the first DW_AT_sibling alone stands
-// between two.
+// All values as one step, where `steps` are those of the attributes: the only step, or both of two
+// with the value between them, where `Step::join` joins these. None else.
 #[inline]
 fn whole_of(specifications: &[AttributeSpecification], steps: &[Step]) -> Option<Step>
     requires { AreSteps false steps.now specifications.now }
@@ -211,7 +214,7 @@ fn whole_of(specifications: &[AttributeSpecification], steps: &[Step]) -> Option
 }
 
 impl<A: Allocator + Copy> Attributes<A> {
-    /// No attributes, and no steps yet.
+    /// No attributes, and no steps yet. No memory is asked for.
     #[inline(always)]
     pub(crate) fn new(alloc: A) -> Self
         ensures { result ≡ record { specifications = []; steps = []; whole = None } }
@@ -223,8 +226,11 @@ impl<A: Allocator + Copy> Attributes<A> {
         }
     }
 
-    /// Adds the declared attributes up to two zeros to none, and their steps; where they are
-    /// refused, the input and the attributes are left anywhere.
+    /// Reads the declared attributes up to the two zeros that end their list, which are passed, and
+    /// makes their steps. `self` has to be as `new` answers it.
+    ///
+    /// Refusals: those of `AttributeSpecification::parse`, of each attribute in order, and
+    /// `OutOfMemory`. The input and `self` are then left anywhere.
     #[inline(always)]
     pub(crate) fn parse<R: Reader>(&mut self, input: &mut R) -> Result<()>
         requires { self.old ≡ record { specifications = []; steps = []; whole = None } }

@@ -16,7 +16,8 @@ pub enum Format {
 }
 
 impl Format {
-    /// The number of bytes of a length field: 4, or 12 with the escape before it.
+    /// The number of bytes of a length field: 4, or 12 with the 4 bytes 0xffffffff before the
+    /// length.
     pub fn initial_length_size(self) -> u8
         ensures { result ≡ initial_length_size_of self }
     {
@@ -187,7 +188,8 @@ pub struct DebugTypeSignature(pub u64);
 #[derive(Clone, Copy, Debug, PartialEq, Eq, PartialOrd, Ord, Hash)]
 pub struct DwoId(pub u64);
 
-// The base of a unit's table of offsets of lists, where the unit names none.
+// The base of a unit's table of offsets of lists, where the unit names none. In a split file of
+// version 5 or later it is after the section's header, at 12 or 20 by the format; else it is 0.
 fn default_lists_base(encoding: Encoding, file_type: DwarfFileType) -> u8
     ensures { result ≡ default_base encoding file_type }
 {

@@ -1,4 +1,4 @@
-//! A reader over a slice.
+//! A reader over a slice, of which it keeps what is left.
 
 ghost use Rattle.std.specs.Prelude.{◌≡◌, ℕ, ◌+◌, ◌-◌, ◌<◌, ◌≤◌, ◌^◌, length, Bool, ⊤, IfSome, ◌==◌};
 ghost use Rattle.std.specs.Prelude.{◌++◌, nat_eq, [], All};
@@ -53,6 +53,7 @@ impl<'a, E, K: Copy> Copy for EndianSlice<'a, E, K> {}
 impl<'a, E: Endianity + Default> Default for EndianSlice<'a, E> {
     ghost is_default = { λ r. (r.bytes.now ≡ []) × E.is_default (E.order r.kept) × (r.end ≡ 0) };
 
+    // A reader without bytes, at place 0, in the default byte order.
     fn default() -> Self {
         EndianSlice {
             bytes: &[],
@@ -64,6 +65,7 @@ impl<'a, E: Endianity + Default> Default for EndianSlice<'a, E> {
 }
 
 impl<'a, E: Endianity> Debug for EndianSlice<'a, E> {
+    // Shows the bytes that are left, the byte order, and the place.
     fn fmt<W: fmt::Write>(&self, f: &mut fmt::Formatter<W>) -> fmt::Result {
         f.debug_struct("EndianSlice")
             .field("bytes", &self.bytes)
@@ -73,7 +75,6 @@ impl<'a, E: Endianity> Debug for EndianSlice<'a, E> {
     }
 }
 
-// Two readers are equal where their bytes and byte orders are, wherever they stand.
 impl<'a, E: Endianity> PartialEq for EndianSlice<'a, E> {
     ghost eq = { eq_of_both (on (λ r. r.bytes.now) (pointwise nat_eq))
         (on (λ r. E.order r.kept) E.PartialEq.eq) };
@@ -82,6 +83,8 @@ impl<'a, E: Endianity> PartialEq for EndianSlice<'a, E> {
         (on_per (λ r. r.bytes.now) (lists_per (partial_equiv_from_equiv nat_eq_equiv)))
         (on_per (λ r. E.order r.kept) E.PartialEq.laws) };
 
+    // Two readers are equal where the bytes that are left and the byte orders are, wherever they
+    // stand.
     fn eq(&self, other: &Self) -> bool {
         self.bytes == other.bytes && E::from_kept(self.kept) == E::from_kept(other.kept)
     }
@@ -97,6 +100,7 @@ impl<'a, E: Endianity + Hash> Hash for EndianSlice<'a, E> {
 
     ghost respects_eq = { Prim.search (hashing, rules) };
 
+    // Feeds what `eq` compares: the bytes that are left and the byte order, not the place.
     fn hash<H: Hasher>(&self, state: &mut H) {
         self.bytes.hash(state);
         E::from_kept(self.kept).hash(state);
@@ -104,7 +108,7 @@ impl<'a, E: Endianity + Hash> Hash for EndianSlice<'a, E> {
 }
 
 impl<'a, E: Endianity> EndianSlice<'a, E> {
-    /// A reader of `bytes` whose first place is 0.
+    /// A reader of `bytes` in the byte order `endian`, whose first place is 0.
     #[inline]
     pub fn new(bytes: &'a [u8], endian: E) -> Self
         ensures { ⟦<EndianSlice<'a, E> as Reader>⟧.view result
@@ -113,7 +117,8 @@ impl<'a, E: Endianity> EndianSlice<'a, E> {
         Self::new_at(bytes, endian, 0)
     }
 
-    /// A reader of `bytes` whose first place is `place`.
+    /// A reader of `bytes` in the byte order `endian`, whose first place is `place`. The place of
+    /// their end has to be below 2^64.
     #[inline]
     pub fn new_at(bytes: &'a [u8], endian: E, place: u64) -> Self
         requires { place + length bytes.now < 2 ^ 64 }
@@ -129,7 +134,8 @@ impl<'a, E: Endianity> EndianSlice<'a, E> {
         }
     }
 
-    // The reader of `bytes` at `place`, in the byte order that is kept
+    // A reader of `bytes` whose first place is `place`, in the byte order that `kept` stands for.
+    // The place of their end has to be below 2^64.
     #[inline]
     fn at(bytes: &'a [u8], kept: E::Kept, place: u64) -> Self
         requires { place + length bytes.now < 2 ^ 64 }
@@ -145,7 +151,7 @@ impl<'a, E: Endianity> EndianSlice<'a, E> {
         }
     }
 
-    // The place of the first byte that is left
+    // The place of the next byte, or of the end where none is left.
     #[inline]
     fn place(&self) -> u64
         ensures { result ≡ (⟦<EndianSlice<'a, E> as Reader>⟧.view self.now).place }
@@ -264,8 +270,9 @@ impl<'a, E: Endianity> Reader for EndianSlice<'a, E> {
     ghost bytes_fit = { λ r. r.bytes_fit };
 }
 
-// The number of bytes before the first `byte`: a call, so that its loop takes no registers from
-// those who read other things beside.
+/// The number of bytes before the first `byte`; none where there is no such byte.
+///
+/// It is a call, so that its loop takes no registers from those who read other things beside.
 #[inline(never)]
 pub(crate) fn position_of(byte: u8, bytes: &[u8]) -> Option<usize>
     ensures exact { result ≡ position (λ b. b == byte) bytes.now }

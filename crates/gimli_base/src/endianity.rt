@@ -121,6 +121,7 @@ impl Endianity for RunTimeEndian {
         }
     }
 
+    // 0 for `Little`, 1 for `Big`.
     #[inline]
     fn to_kept(self) -> u64 {
         match self {
@@ -129,6 +130,7 @@ impl Endianity for RunTimeEndian {
         }
     }
 
+    // 0 stands for `Little`, and any other number for `Big`.
     #[inline]
     fn from_kept(form: u64) -> RunTimeEndian {
         if form == 0 {

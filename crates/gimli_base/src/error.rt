@@ -65,7 +65,8 @@ pub enum Error {
 pub type Result<T> = std::result::Result<T, Error>;
 
 impl Error {
-    /// The number by which tools name the refusal, from 1 to 24.
+    /// The number by which tools name the refusal: from 1 to 24, in the order of the variants. The
+    /// place, code or other number that a variant has does not count.
     pub fn number(self) -> u8
         ensures { result ≡ number_of self }
     {
@@ -101,6 +102,7 @@ impl Error {
 impl From<AllocError> for Error {
     ghost from_gives = { λ _ e. e ≡ OutOfMemory };
 
+    // Always `OutOfMemory`.
     fn from(_error: AllocError) -> Error {
         Error::OutOfMemory
     }
@@ -109,6 +111,7 @@ impl From<AllocError> for Error {
 impl<T: Drop> From<AllocFailed<T>> for Error {
     ghost from_gives = { λ _ e. e ≡ OutOfMemory };
 
+    // Always `OutOfMemory`; what the call hands back is dropped.
     fn from(_error: AllocFailed<T>) -> Error {
         Error::OutOfMemory
     }

@@ -1,11 +1,13 @@
-//! LEB128 numbers of more than two bytes (DWARF 5, 7.6).
+//! LEB128 numbers (DWARF 5, 7.6), for `Reader`, which reads those of one and two bytes itself.
 
 ghost use Rattle.std.specs.Prelude.{◌≡◌, ◌<◌, ◌≤◌, pos, ◌-ℤ◌};
 ghost use Rattle.gimli_base.specs.Reading.{read_of, uleb_at, sleb_at};
 
 use crate::{Error, Reader, Result};
 
-/// The next unsigned LEB128 number; where it is refused, the reader is left anywhere.
+/// The next unsigned LEB128 number of 64 bits, of one to ten bytes. Refusals: `UnexpectedEof`, with
+/// the place of the input's end; `BadUnsignedLeb128`, where a tenth byte is neither 00 nor 01. The
+/// reader is then left anywhere.
 ///
 /// It is never inlined and gets a reader of its own, so that the caller's stays in registers.
 #[inline(never)]
@@ -29,7 +31,8 @@ pub(crate) fn long_uleb128<R: Reader>(reader: &mut R) -> Result<u64>
     Ok(value + byte * scale)
 }
 
-/// The 7 bits of a last byte below 128 as a signed number: the bit of value 64 (0x40) is the sign.
+/// The number, from -64 to 63, in the 7 bits of the last byte of a signed LEB128 number: the bit of
+/// value 64 (0x40) is the sign. The last byte is below 128.
 #[inline]
 pub(crate) fn signed_bits(byte: u8) -> i64
     ensures low { byte < 64 → result ≡ pos byte }
@@ -42,7 +45,9 @@ pub(crate) fn signed_bits(byte: u8) -> i64
     }
 }
 
-/// The next signed LEB128 number; where it is refused, the reader is left anywhere.
+/// The next signed LEB128 number of 64 bits, of one to ten bytes. Refusals: `UnexpectedEof`, with
+/// the place of the input's end; `BadSignedLeb128`, where a tenth byte is neither 00 nor 7f. The
+/// reader is then left anywhere.
 #[inline(never)]
 pub(crate) fn long_sleb128<R: Reader>(reader: &mut R) -> Result<i64>
     ensures { read_of result (R.view reader.new) ≡ sleb_at (R.view reader.old) }

@@ -28,7 +28,7 @@ pub trait ReaderOffset: Copy + Debug + Eq + Ord {
     fn from_u32(value: u32) -> Self
         ensures { number result ≡ value };
 
-    /// The offset of a number, refused with `UnsupportedOffset` where it does not fit.
+    /// The offset of a number. Refusal: `UnsupportedOffset` where it does not fit.
     fn from_u64(value: u64) -> Result<Self>
         ensures { answer_of number result ≡ offset_of limit value };
 
@@ -37,11 +37,11 @@ pub trait ReaderOffset: Copy + Debug + Eq + Ord {
         ensures value { result ≡ number self }
         ensures fits { number self < limit };
 
-    /// The sum, where it fits.
+    /// The sum; none where it does not fit.
     fn checked_add(self, other: Self) -> Option<Self>
         ensures { option_map number result ≡ sum_of limit (number self) (number other) };
 
-    /// The difference, where it is not below 0.
+    /// The offset less `other`; none where that is below 0.
     fn checked_sub(self, other: Self) -> Option<Self>
         ensures { option_map number result ≡ difference_of (number self) (number other) };
 
@@ -71,6 +71,7 @@ impl ReaderOffset for u64 {
         u64::from(value)
     }
 
+    // Every number fits.
     #[inline]
     fn from_u64(value: u64) -> Result<u64> {
         Ok(value)
@@ -116,6 +117,7 @@ impl ReaderOffset for usize {
         value as usize
     }
 
+    // A `usize` has 64 bits, so that every number fits.
     #[inline]
     fn from_u64(value: u64) -> Result<usize> {
         Ok(value as usize)

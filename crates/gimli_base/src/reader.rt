@@ -1,4 +1,5 @@
-//! Readers: what can be read next, and where.
+//! Readers: what can be read next, and where. A refused call of `Reader` leaves the reader as it
+//! was.
 
 ghost use Rattle.std.specs.Prelude.{◌≡◌, ℕ, ◌+◌, ◌-◌, ◌<◌, ◌≤◌, ◌^◌, ◌↔◌, length, Bool, IsTrue};
 ghost use Rattle.std.specs.Prelude.{OnErr, All};
@@ -47,7 +48,7 @@ pub trait Reader: Debug + Drop {
     // what the reader holds
     ghost view: { Self → View };
 
-    /// The byte order.
+    /// The byte order in which numbers are read.
     fn endian(&self) -> Self::Endian
         ensures { Self.Endian.big result ≡ (view self.now).big };
 
@@ -59,35 +60,38 @@ pub trait Reader: Debug + Drop {
     fn offset_id(&self) -> ReaderOffsetId
         ensures { result ≡ record { 0 = (view self.now).place } };
 
-    /// A reader of the same view.
+    /// Another reader of the same bytes, at the same place and in the same byte order.
     fn copy(&self) -> Self
         ensures { view result ≡ view self.now };
 
-    /// Passes `n` bytes. Refusal: `UnexpectedEof` where there are fewer.
+    /// Passes `n` bytes. Refusal: `UnexpectedEof`, with the reader's place, where fewer are left.
     fn skip(&mut self, n: Self::Offset) -> Result<()>
         ensures value { read_of result (view self.new)
             ≡ skip_at (Self.Offset.number n) (view self.old) }
         ensures kept { OnErr result (view self.new ≡ view self.old) };
 
-    /// A reader of the next `n` bytes, which are passed. Refusal: `UnexpectedEof` where there are
-    /// fewer.
+    /// A reader of the next `n` bytes, which this reader passes. Refusal: `UnexpectedEof`, with the
+    /// reader's place, where fewer are left.
     fn split(&mut self, n: Self::Offset) -> Result<Self>
         ensures value { read_of (answer_of view result) (view self.new)
             ≡ split_at (Self.Offset.number n) (view self.old) }
         ensures kept { OnErr result (view self.new ≡ view self.old) };
 
-    /// The next byte. Refusal: `UnexpectedEof`.
+    /// The next byte. Refusal: `UnexpectedEof` where none is left.
     fn read_u8(&mut self) -> Result<u8>
         ensures value { read_of result (view self.new) ≡ byte_at (view self.old) }
         ensures kept { OnErr result (view self.new ≡ view self.old) };
 
-    /// Fills `into` with the next bytes. Refusal: `UnexpectedEof` where there are fewer.
+    /// Fills `into` with the next bytes, which are passed. Refusal: `UnexpectedEof`, with the
+    /// reader's place, where fewer are left than `into` has room for; `into` may then hold any
+    /// bytes.
     fn read_slice(&mut self, into: &mut [u8]) -> Result<()>
         ensures value { read_of (answer_leaving into.new result) (view self.new)
             ≡ bytes_at (length into.old) (view self.old) }
         ensures kept { OnErr result (view self.new ≡ view self.old) };
 
-    /// The number of bytes before the first `byte`. Refusal: `UnexpectedEof` where there is none.
+    /// The number of bytes before the first `byte` of those that are left; none is passed. Refusal:
+    /// `UnexpectedEof`, with the reader's place, where there is no such byte.
     fn find(&self, byte: u8) -> Result<Self::Offset>
         ensures { answer_of Self.Offset.number result ≡ find_at byte (view self.now) };
 
@@ -107,7 +111,7 @@ pub trait Reader: Debug + Drop {
         self.len().into_u64() == 0
     }
 
-    /// Passes all bytes.
+    /// Passes all bytes that are left: the reader then stands at its end.
     #[tactic(auto, unfolding(crate::specs::Reading::skip_at))]
     final fn empty(&mut self)
         ensures { view self.new ≡ end_of_view (view self.old) }
@@ -116,7 +120,8 @@ pub trait Reader: Debug + Drop {
         let _ = self.skip(all);
     }
 
-    /// Keeps the next `n` bytes alone. Refusal: `UnexpectedEof` where there are fewer.
+    /// Keeps the next `n` bytes, and drops those after them; the reader's place stays. Refusal:
+    /// `UnexpectedEof`, with that place, where fewer are left.
     #[tactic(auto, unfolding(crate::specs::Reading::truncate_at, crate::specs::Reading::split_at))]
     final fn truncate(&mut self, n: Self::Offset) -> Result<()>
         ensures value { read_of result (view self.new)
@@ -129,7 +134,8 @@ pub trait Reader: Debug + Drop {
         Ok(())
     }
 
-    /// The number of bytes before a place, where the place is one of the reader's bytes or its end.
+    /// The number of bytes from the reader's place to the place `id`. The reader's end is such a
+    /// place too. None where `id` lies before the reader's place or after its end.
     #[tactic(auto, unfolding(crate::specs::Reading::lookup_at))]
     final fn lookup_offset_id(&self, id: ReaderOffsetId) -> Option<Self::Offset>
         ensures { option_map Self.Offset.number result ≡ lookup_at id.0 (view self.now) }
@@ -145,7 +151,8 @@ pub trait Reader: Debug + Drop {
         Self::Offset::from_u64(before).ok()
     }
 
-    /// The next two bytes as a number. Refusal: `UnexpectedEof`.
+    /// The next two bytes as a number, in the reader's byte order. Refusal: `UnexpectedEof`, with
+    /// the reader's place, where fewer are left.
     #[inline]
     #[tactic(auto, unfolding(crate::specs::Reading::uint_at))]
     final fn read_u16(&mut self) -> Result<u16>
@@ -158,7 +165,8 @@ pub trait Reader: Debug + Drop {
         Ok(word_16(big, bytes))
     }
 
-    /// The next four bytes as a number. Refusal: `UnexpectedEof`.
+    /// The next four bytes as a number, in the reader's byte order. Refusal: `UnexpectedEof`, with
+    /// the reader's place, where fewer are left.
     #[inline]
     #[tactic(auto, unfolding(crate::specs::Reading::uint_at))]
     final fn read_u32(&mut self) -> Result<u32>
@@ -171,7 +179,8 @@ pub trait Reader: Debug + Drop {
         Ok(word_32(big, bytes))
     }
 
-    /// The next eight bytes as a number. Refusal: `UnexpectedEof`.
+    /// The next eight bytes as a number, in the reader's byte order. Refusal: `UnexpectedEof`, with
+    /// the reader's place, where fewer are left.
     #[inline]
     #[tactic(auto, unfolding(crate::specs::Reading::uint_at))]
     final fn read_u64(&mut self) -> Result<u64>
@@ -184,7 +193,8 @@ pub trait Reader: Debug + Drop {
         Ok(word_64(big, bytes))
     }
 
-    /// The next sixteen bytes as a number. Refusal: `UnexpectedEof`.
+    /// The next sixteen bytes as a number, in the reader's byte order. Refusal: `UnexpectedEof`,
+    /// with the reader's place, where fewer are left.
     #[inline]
     #[tactic(auto, unfolding(crate::specs::Reading::uint_at))]
     final fn read_u128(&mut self) -> Result<u128>
@@ -197,7 +207,8 @@ pub trait Reader: Debug + Drop {
         Ok(word_128(big, bytes))
     }
 
-    /// The next `n` bytes as a number, `n` from 1 to 8. Refusal: `UnexpectedEof`.
+    /// The next `n` bytes as a number, in the reader's byte order; `n` has to be from 1 to 8.
+    /// Refusal: `UnexpectedEof`, with the reader's place, where fewer are left.
     #[inline]
     #[tactic(auto, unfolding(crate::specs::Reading::uint_at))]
     final fn read_uint(&mut self, n: usize) -> Result<u64>
@@ -217,7 +228,7 @@ pub trait Reader: Debug + Drop {
         Ok(value)
     }
 
-    /// The next unsigned LEB128 number, of at most ten bytes (DWARF 5, 7.6). Refusals:
+    /// The next unsigned LEB128 number of 64 bits, of at most ten bytes (DWARF 5, 7.6). Refusals:
     /// `UnexpectedEof`, with the place of the input's end; `BadUnsignedLeb128` where a tenth byte
     /// is neither 00 nor 01.
     #[inline]
@@ -271,7 +282,7 @@ pub trait Reader: Debug + Drop {
         Ok(u16::from(low - 128) + 128 * (u16::from(middle - 128) + 128 * u16::from(high)))
     }
 
-    /// The next signed LEB128 number, of at most ten bytes (DWARF 5, 7.6). Refusals:
+    /// The next signed LEB128 number of 64 bits, of at most ten bytes (DWARF 5, 7.6). Refusals:
     /// `UnexpectedEof`, with the place of the input's end; `BadSignedLeb128` where a tenth byte is
     /// neither 00 nor 7f.
     #[inline]
@@ -297,8 +308,8 @@ pub trait Reader: Debug + Drop {
         Ok(value)
     }
 
-    /// Passes a LEB128 number of any length: bytes whose top bit is set, and one more (DWARF 5,
-    /// 7.6). Refusal: `UnexpectedEof`, with the place of the input's end.
+    /// Passes a LEB128 number, signed or not and of any length: bytes whose top bit is set, and one
+    /// more (DWARF 5, 7.6). Refusal: `UnexpectedEof`, with the place of the input's end.
     #[inline]
     final fn skip_leb128(&mut self) -> Result<()>
         ensures value { read_of result (view self.new) ≡ skip_leb_at (view self.old) }
@@ -310,8 +321,13 @@ pub trait Reader: Debug + Drop {
         Ok(())
     }
 
-    /// The length of a unit, and the format that it shows (DWARF 5, 7.2.2 and 7.4). Refusals:
-    /// `UnexpectedEof`, `UnknownReservedLength`, `UnsupportedOffset`.
+    /// The length field of a unit or a table (DWARF 5, 7.2.2 and 7.4): the length, and the format.
+    /// The field has 4 bytes, or 12 where the first 4 are 0xffffffff. The length is not compared
+    /// with the bytes that are left.
+    ///
+    /// Refusals, in this order: `UnexpectedEof` of the first 4 bytes; `UnknownReservedLength` where
+    /// they are from 0xfffffff0 to 0xfffffffe; `UnexpectedEof` of the other 8; `UnsupportedOffset`
+    /// where the length does not fit the reader's offsets.
     final fn read_initial_length(&mut self) -> Result<(Self::Offset, Format)>
         ensures value { read_of (answer_of (map_first Self.Offset.number) result) (view self.new)
             ≡ initial_length_at Self.Offset.limit (view self.old) }
@@ -323,8 +339,8 @@ pub trait Reader: Debug + Drop {
         Ok(length)
     }
 
-    /// The next byte, as the number of bytes of an address: 1, 2, 4 or 8. Refusals:
-    /// `UnexpectedEof`, `UnsupportedAddressSize`.
+    /// The next byte, as the number of bytes of an address. Refusals: `UnexpectedEof`;
+    /// `UnsupportedAddressSize`, with the byte, where it is not 1, 2, 4 or 8.
     #[tactic(auto, unfolding(crate::specs::Reading::address_size_at))]
     final fn read_address_size(&mut self) -> Result<u8>
         ensures value { read_of result (view self.new) ≡ address_size_at (view self.old) }
@@ -341,8 +357,9 @@ pub trait Reader: Debug + Drop {
         }
     }
 
-    /// The next 1, 2, 4 or 8 bytes, as an address of that size. Refusals: `UnsupportedAddressSize`
-    /// for any other size, before anything is read; `UnexpectedEof`.
+    /// The next `address_size` bytes as an address, in the reader's byte order. Refusals, in this
+    /// order: `UnsupportedAddressSize` where the size is not 1, 2, 4 or 8; `UnexpectedEof`, with
+    /// the reader's place.
     #[inline]
     #[tactic(auto, using(crate::proofs::OneByte::one_byte), unfolding(crate::specs::Reading::address_at))]
     final fn read_address(&mut self, address_size: u8) -> Result<u64>
@@ -360,8 +377,9 @@ pub trait Reader: Debug + Drop {
         Ok(address)
     }
 
-    /// The next 4 or 8 bytes, by the format, as an offset. Refusals: `UnexpectedEof`,
-    /// `UnsupportedOffset`.
+    /// The next 4 or 8 bytes, by the format, as an offset. Refusals, in this order:
+    /// `UnexpectedEof`, with the reader's place; `UnsupportedOffset` where the number does not fit
+    /// the reader's offsets.
     #[inline]
     #[tactic(auto, unfolding(crate::specs::Reading::offset_at))]
     final fn read_offset(&mut self, format: Format) -> Result<Self::Offset>
@@ -379,8 +397,9 @@ pub trait Reader: Debug + Drop {
         Ok(offset)
     }
 
-    /// The next 1, 2, 4 or 8 bytes, as an offset. Refusals: `UnexpectedEof`, `UnsupportedOffset`,
-    /// `UnsupportedOffsetSize` for any other size.
+    /// The next `size` bytes as an offset. Refusals, in this order: `UnsupportedOffsetSize` where
+    /// the size is not 1, 2, 4 or 8; `UnexpectedEof`, with the reader's place; `UnsupportedOffset`
+    /// where the number does not fit the reader's offsets.
     #[inline]
     #[tactic(auto, using(crate::proofs::OneByte::one_byte), unfolding(crate::specs::Reading::sized_offset_at))]
     final fn read_sized_offset(&mut self, size: u8) -> Result<Self::Offset>
@@ -401,8 +420,8 @@ pub trait Reader: Debug + Drop {
         Ok(offset)
     }
 
-    /// A reader of the bytes before the first zero, which is passed too. Refusal: `UnexpectedEof`
-    /// where there is no zero, with the place where the text begins.
+    /// A reader of the bytes before the first zero; they and the zero are passed. Refusal:
+    /// `UnexpectedEof` where there is no zero, with the place where the text begins.
     #[tactic(auto, unfolding(crate::specs::Reading::text_at))]
     final fn read_null_terminated_slice(&mut self) -> Result<Self>
         ensures value { read_of (answer_of view result) (view self.new) ≡ text_at (view self.old) }
@@ -417,7 +436,8 @@ pub trait Reader: Debug + Drop {
     }
 }
 
-// The length of a unit; where it is refused, the reader is left anywhere.
+// The length of a unit or a table, and its format. It is as `Reader::read_initial_length`, with the
+// same refusals in the same order; but after one the reader is left anywhere.
 #[tactic(auto, unfolding(crate::specs::Reading::initial_length_at))]
 fn initial_length<R: Reader>(reader: &mut R) -> Result<(R::Offset, Format)>
     ensures { read_of (answer_of (map_first R.Offset.number) result) (R.view reader.new)

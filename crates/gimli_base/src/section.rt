@@ -28,15 +28,15 @@ pub trait Section<R: Reader>: From<R> {
     ghost content_of_from: { (r : R) → (s : Self) → Self.From.from_gives r s
         → content s ≡ R.view r };
 
-    /// A section of the same bytes.
+    /// Another section of the same bytes, at the same place and in the same byte order.
     final fn copy(&self) -> Self
         ensures { content result ≡ content self.now }
     {
         Self::from(self.reader().copy())
     }
 
-    /// The section, and the number of its bytes before a place, where the place is one of its bytes
-    /// or its end.
+    /// Which section it is, and the number of its bytes before the place `id`. The section's end is
+    /// such a place too. None where `id` lies before the section's first place or after its end.
     final fn lookup_offset_id(&self, id: ReaderOffsetId) -> Option<(SectionId, R::Offset)>
         ensures number { option_map (λ p. R.Offset.number p.1) result
             ≡ lookup_at id.0 (content self.now) }

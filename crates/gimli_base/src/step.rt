@@ -1,4 +1,5 @@
-//! The steps by which the values of an entry are passed.
+//! Steps: runs of an entry's values that are passed together, without being read. Between two steps
+//! one value is read by itself.
 
 ghost use Rattle.std.specs.Prelude.{◌≡◌, IfSome, true, false};
 ghost use Rattle.gimli_base.specs.Steps.{AddsValue, Joins, empty_step, is_sibling, step_size};
@@ -6,8 +7,8 @@ ghost use Rattle.gimli_base.specs.Steps.{AddsValue, Joins, empty_step, is_siblin
 use crate::width::Width;
 use crate::{AttributeSpecification, DW_AT_sibling, DW_FORM_ref_sup8, DW_FORM_ref8, Encoding};
 
-/// A step of passing the values of an entry: so many of them, whose sizes their forms tell (DWARF
-/// 5, 7.5.6), are passed together. Then the entry ends, or one value is looked at.
+/// A run of an entry's values that are passed together, since their forms fix their sizes (DWARF 5,
+/// 7.5.6). After it the entry ends, or one value is read by itself.
 ///
 /// Their bytes are counted by kinds, as only an encoding tells how many an address has.
 #[repr(C)]
@@ -29,7 +30,7 @@ pub struct Step {
 }
 
 impl Step {
-    /// No values.
+    /// A step of no values.
     #[inline]
     pub fn new() -> Step
         ensures { result ≡ empty_step }
@@ -44,9 +45,10 @@ impl Step {
         }
     }
 
-    /// Adds the value of an attribute, if its form tells its size and there is room for it, and if
-    /// it is not the first DW_AT_sibling, of which one was seen before or not; answers whether it
-    /// did, and else the step stays.
+    /// Adds the value of an attribute. Answers true where it is added. Answers false, and the step
+    /// is as it was, where the form does not fix the size, where a field has no room for it, and at
+    /// the first DW_AT_sibling of a declaration. `is_seen`: an attribute before it is a
+    /// DW_AT_sibling.
     #[inline(always)]
     pub fn push(&mut self, specification: &AttributeSpecification, is_seen: bool) -> bool
         ensures pushed { result ≡ true → AddsValue specification.now self.old self.new }
@@ -85,8 +87,9 @@ impl Step {
         true
     }
 
-    // These values, that of an attribute after them, and those of another step, if its form tells
-    // its size and there is room for all.
+    /// One step of these values, then that of `specification`, then those of `last`. None where the
+    /// form of the attribute does not fix the size, and where a field has no room for the sum. The
+    /// attribute may be a DW_AT_sibling.
     pub(crate) fn join(&self, specification: &AttributeSpecification, last: &Step) -> Option<Step>
         ensures { IfSome result (λ s. Joins self.now specification.now last.now s) }
     {
@@ -104,7 +107,7 @@ impl Step {
         })
     }
 
-    /// How many bytes the values have together under an encoding.
+    /// The number of bytes of all values of the step under an encoding.
     #[inline(always)]
     pub fn size(&self, encoding: Encoding) -> u64
         ensures { result ≡ step_size encoding self.now }

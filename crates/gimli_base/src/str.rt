@@ -16,7 +16,7 @@ pub struct DebugStr<R> {
 }
 
 impl<'a, E: Endianity> DebugStr<EndianSlice<'a, E>> {
-    /// The section of these bytes.
+    /// The section of these bytes, in the byte order `endian`. Its first place is 0.
     pub fn new(bytes: &'a [u8], endian: E) -> Self
         ensures { ⟦<DebugStr<EndianSlice<'a, E>> as Section<EndianSlice<'a, E>>>⟧.content result
             ≡ record { big = E.big endian; place = 0; bytes = bytes.now } }

@@ -61,6 +61,7 @@ impl<'a, E, K: Copy> Copy for WholeSlice<'a, E, K> {}
 impl<'a, E: Endianity + Default> Default for WholeSlice<'a, E> {
     ghost is_default = { λ r. (r.whole.now ≡ []) × E.is_default (E.order r.kept) × (r.place ≡ 0) };
 
+    // A reader without bytes, at place 0, in the default byte order.
     fn default() -> Self {
         WholeSlice {
             whole: &[],
@@ -74,6 +75,7 @@ impl<'a, E: Endianity + Default> Default for WholeSlice<'a, E> {
 }
 
 impl<'a, E: Endianity> Debug for WholeSlice<'a, E> {
+    // Shows the bytes that are left, the byte order, and the place.
     fn fmt<W: fmt::Write>(&self, f: &mut fmt::Formatter<W>) -> fmt::Result {
         f.debug_struct("WholeSlice")
             .field("bytes", &self.slice())
@@ -83,7 +85,6 @@ impl<'a, E: Endianity> Debug for WholeSlice<'a, E> {
     }
 }
 
-// Two readers are equal where their bytes and byte orders are, wherever they stand.
 impl<'a, E: Endianity> PartialEq for WholeSlice<'a, E> {
     ghost eq = { eq_of_both (on (λ r. slice_range r.whole.now r.begin r.end) (pointwise nat_eq))
         (on (λ r. E.order r.kept) E.PartialEq.eq) };
@@ -93,6 +94,8 @@ impl<'a, E: Endianity> PartialEq for WholeSlice<'a, E> {
         (lists_per (partial_equiv_from_equiv nat_eq_equiv)))
         (on_per (λ r. E.order r.kept) E.PartialEq.laws) };
 
+    // Two readers are equal where the bytes that are left and the byte orders are, wherever they
+    // stand.
     fn eq(&self, other: &Self) -> bool {
         self.slice() == other.slice() && E::from_kept(self.kept) == E::from_kept(other.kept)
     }
@@ -108,6 +111,7 @@ impl<'a, E: Endianity + Hash> Hash for WholeSlice<'a, E> {
 
     ghost respects_eq = { Prim.search (hashing, rules) };
 
+    // Feeds what `eq` compares: the bytes that are left and the byte order, not the place.
     fn hash<H: Hasher>(&self, state: &mut H) {
         self.slice().hash(state);
         E::from_kept(self.kept).hash(state);
@@ -115,7 +119,8 @@ impl<'a, E: Endianity + Hash> Hash for WholeSlice<'a, E> {
 }
 
 impl<'a, E: Endianity> WholeSlice<'a, E> {
-    /// A reader of `bytes` whose first place is 0. It asks for at most `u32::MAX` bytes.
+    /// A reader of `bytes` in the byte order `endian`, whose first place is 0. There may be at most
+    /// `u32::MAX` bytes.
     #[inline]
     pub fn new(bytes: &'a [u8], endian: E) -> Self
         requires { length bytes.now < 2 ^ 32 }
@@ -125,8 +130,8 @@ impl<'a, E: Endianity> WholeSlice<'a, E> {
         Self::new_at(bytes, endian, 0)
     }
 
-    /// A reader of `bytes` whose first place is `place`. It asks for at most `u32::MAX` bytes, and
-    /// that their end has a place.
+    /// A reader of `bytes` in the byte order `endian`, whose first place is `place`. There may be
+    /// at most `u32::MAX` bytes, and the place of their end has to be below 2^64.
     #[inline]
     pub fn new_at(bytes: &'a [u8], endian: E, place: u64) -> Self
         requires short { length bytes.now < 2 ^ 32 }
@@ -152,7 +157,8 @@ impl<'a, E: Endianity> WholeSlice<'a, E> {
         &self.whole[self.begin..self.end]
     }
 
-    // The reader of the first `n` bytes
+    // A reader of the first `n` of the bytes that are left, at the same place. `n` is at most their
+    // number.
     #[inline]
     #[tactic(auto, using(crate::proofs::Ranges::take_range))]
     fn before(&self, n: u32) -> Self
@@ -170,7 +176,8 @@ impl<'a, E: Endianity> WholeSlice<'a, E> {
         }
     }
 
-    // The reader of the bytes after the first `n`
+    // A reader of the bytes after the first `n` of those that are left. `n` is at most their
+    // number.
     #[inline]
     #[tactic(auto, using(crate::proofs::Ranges::drop_range))]
     fn after(&self, n: u32) -> Self

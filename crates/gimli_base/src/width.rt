@@ -17,7 +17,7 @@ use crate::{DwForm, Encoding};
 /// 7.5.6).
 #[derive(Clone, Copy, Debug, PartialEq, Eq)]
 pub(crate) enum Width {
-    /// Only the bytes of the value tell.
+    /// Only the bytes of the value tell, or the form is not known.
     // (it is the first, so that a place without an attribute is all zeros)
     Unknown,
     /// So many bytes.
@@ -32,7 +32,7 @@ pub(crate) enum Width {
 }
 
 impl Width {
-    /// The width of a form.
+    /// The width of a form; `Unknown` of a code that is no form, and of DW_FORM_indirect.
     //
     // It is laid into its caller, where tables tell the widths of low codes.
     #[inline(always)]
@@ -46,7 +46,7 @@ impl Width {
         }
     }
 
-    // The same of a form of a vendor, by a call.
+    // The width of a form of a vendor, whose code is not below 128: as `look_up`, by a call.
     #[inline(never)]
     fn look_up_vendor(form: DwForm) -> Width
         ensures { result ≡ width_of form.0 }
@@ -54,7 +54,7 @@ impl Width {
         Width::look_up(form)
     }
 
-    // The same, in one list of all forms.
+    // The width of any form, as `of` answers it, in one list of all forms.
     #[inline(always)]
     #[tactic(auto, unfolding(crate::specs::Width::width_of))]
     fn look_up(form: DwForm) -> Width
@@ -82,7 +82,7 @@ impl Width {
         }
     }
 
-    /// The number of bytes under an encoding, where it is known.
+    /// The number of bytes under an encoding; none of `Unknown`.
     #[inline]
     pub(crate) fn size(self, encoding: Encoding) -> Option<u8>
         ensures { result ≡ size_in encoding self }
@@ -104,8 +104,8 @@ impl Width {
 }
 
 impl DwForm {
-    /// The number of bytes of the form's value under an encoding, where it does not depend on the
-    /// bytes (DWARF 5, 7.5.6).
+    /// The number of bytes of the form's value under an encoding (DWARF 5, 7.5.6). None where it
+    /// depends on the bytes, and where the form is not known.
     #[inline]
     pub fn size(self, encoding: Encoding) -> Option<u8>
         ensures { result ≡ form_size encoding self.0 }

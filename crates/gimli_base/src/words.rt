@@ -3,7 +3,7 @@
 ghost use Rattle.std.specs.Prelude.{◌≡◌};
 ghost use Rattle.gimli_base.specs.Reading.{number};
 
-/// The number in two bytes.
+/// The number in two bytes. Where `big` is true, the first byte is the highest, else the lowest.
 #[inline]
 #[tactic(auto, using(crate::proofs::WordBytes::le_2, crate::proofs::WordBytes::be_2))]
 pub(crate) fn word_16(big: bool, bytes: [u8; 2]) -> u16
@@ -16,7 +16,7 @@ pub(crate) fn word_16(big: bool, bytes: [u8; 2]) -> u16
     }
 }
 
-/// The number in four bytes.
+/// The number in four bytes. Where `big` is true, the first byte is the highest, else the lowest.
 #[inline]
 #[tactic(auto, using(crate::proofs::WordBytes::le_4, crate::proofs::WordBytes::be_4))]
 pub(crate) fn word_32(big: bool, bytes: [u8; 4]) -> u32
@@ -29,7 +29,7 @@ pub(crate) fn word_32(big: bool, bytes: [u8; 4]) -> u32
     }
 }
 
-/// The number in eight bytes.
+/// The number in eight bytes. Where `big` is true, the first byte is the highest, else the lowest.
 #[inline]
 #[tactic(auto, using(crate::proofs::WordBytes::le_8, crate::proofs::WordBytes::be_8))]
 pub(crate) fn word_64(big: bool, bytes: [u8; 8]) -> u64
@@ -42,7 +42,8 @@ pub(crate) fn word_64(big: bool, bytes: [u8; 8]) -> u64
     }
 }
 
-/// The number in sixteen bytes.
+/// The number in sixteen bytes. Where `big` is true, the first byte is the highest, else the
+/// lowest.
 #[inline]
 #[tactic(auto, using(crate::proofs::WordBytes::le_16, crate::proofs::WordBytes::be_16))]
 pub(crate) fn word_128(big: bool, bytes: [u8; 16]) -> u128

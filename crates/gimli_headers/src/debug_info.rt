@@ -79,10 +79,11 @@ impl<R: Reader> Section<R> for DebugInfo<R> {
 }
 
 impl<R: Reader> DebugInfo<R> {
-    /// The header of the unit at an offset of the section.
+    /// The header of the unit that begins at an offset of the section; whatever stands there is
+    /// read as one.
     ///
-    /// Refusals: `UnexpectedEof`, also where the offset lies after the section's end, and those of
-    /// `next` of the units.
+    /// Refusals: `UnexpectedEof`, where the offset lies after the section's end; then those of
+    /// `DebugInfoUnitHeadersIter::next`.
     #[tactic(auto, unfolding(crate::specs::Units::header_at))]
     pub fn header_from_offset(&self, offset: DebugInfoOffset<R::Offset>) -> Result<UnitHeader<R>>
         ensures value { answer_of unit_view result
@@ -147,10 +148,13 @@ impl<R: Reader> DebugInfoUnitHeadersIter<R> {
         }
     }
 
-    /// The next unit, or none at the end of the section.
+    /// The header of the next unit, or none at the end of the section. Of the unit's entries
+    /// nothing is read.
     ///
-    /// Refusals: `UnexpectedEof`, `UnknownReservedLength`, `UnknownVersion`, `UnknownUnitType`,
-    /// `UnsupportedAddressSize`, `UnsupportedOffset`; nothing is left then.
+    /// Refusals, of the first field that has one: `UnexpectedEof`, also where the section ends
+    /// before the unit, `UnknownReservedLength`, `UnsupportedOffset`, `UnknownVersion` of a version
+    /// other than 2 to 5, `UnsupportedAddressSize`, and after the fields that all units have
+    /// `UnknownUnitType`. Nothing is left then, and the next call answers none.
     pub fn next(&mut self) -> Result<Option<UnitHeader<R>>>
         ensures value { (answer_of (option_map unit_view) result, self.new)
             ≡ next_unit R.Offset.limit InfoSection self.old }

@@ -125,10 +125,13 @@ impl<R: Reader> DebugTypesUnitHeadersIter<R> {
         }
     }
 
-    /// The next unit, or none at the end of the section.
+    /// The header of the next unit, or none at the end of the section. Of the unit's entries
+    /// nothing is read.
     ///
-    /// Refusals: `UnexpectedEof`, `UnknownReservedLength`, `UnknownVersion`, `UnknownUnitType`,
-    /// `UnsupportedAddressSize`, `UnsupportedOffset`; nothing is left then.
+    /// Refusals, of the first field that has one: `UnexpectedEof`, also where the section ends
+    /// before the unit, `UnknownReservedLength`, `UnsupportedOffset`, `UnknownVersion` of a version
+    /// other than 2 to 5, `UnsupportedAddressSize`, and after the fields that all units have
+    /// `UnknownUnitType`. Nothing is left then, and the next call answers none.
     pub fn next(&mut self) -> Result<Option<UnitHeader<R>>>
         ensures value { (answer_of (option_map unit_view) result, self.new)
             ≡ next_unit R.Offset.limit TypesSection self.old }

@@ -34,7 +34,8 @@ struct Common<Offset> {
     address_size: u8,
 }
 
-// The code of the type that a unit of versions 2 to 4 has by its section.
+// The type that a unit of versions 2 to 4 has by its section, as its header has no code for it:
+// `DW_UT_type` in `.debug_types`, and `DW_UT_compile` in any other.
 fn implied_type(section: SectionId) -> DwUt
     ensures { result.0 ≡ implied_type section }
 {
@@ -44,8 +45,10 @@ fn implied_type(section: SectionId) -> DwUt
     }
 }
 
-// The fields of versions 2 to 4, after the version; where they are refused, the input is left
-// anywhere.
+// The fields of versions 2 to 4 after the version: the offset of the abbreviations and the size of
+// an address, in this order; the type is that of the section. The first field that is refused is
+// the refusal: `UnexpectedEof`, `UnsupportedOffset`, `UnsupportedAddressSize`. The input is then
+// left anywhere.
 #[tactic(auto, unfolding(crate::specs::Header::old_common_at))]
 fn parse_old_common<R: Reader>(
     input: &mut R,
@@ -66,7 +69,10 @@ fn parse_old_common<R: Reader>(
     })
 }
 
-// The fields of version 5, after the version; where they are refused, the input is left anywhere.
+// The fields of version 5 after the version: the code of the type, which may be unknown, the size
+// of an address and the offset of the abbreviations, in this order. The first field that is refused
+// is the refusal: `UnexpectedEof`, `UnsupportedAddressSize`, `UnsupportedOffset`. The input is then
+// left anywhere.
 #[tactic(auto, unfolding(crate::specs::Header::new_common_at))]
 fn parse_new_common<R: Reader>(
     input: &mut R,
@@ -87,8 +93,9 @@ fn parse_new_common<R: Reader>(
     })
 }
 
-// The fields after a length field, up to those that the type adds; where they are refused, the
-// input is left anywhere.
+// The version and the fields after it, up to those that the type adds. Refusals: `UnexpectedEof`;
+// `UnknownVersion` of a version other than 2 to 5; then those of the version's fields. The input is
+// then left anywhere.
 #[tactic(auto, unfolding(crate::specs::Header::common_at))]
 fn parse_common<R: Reader>(
     input: &mut R,
@@ -108,8 +115,9 @@ fn parse_common<R: Reader>(
     }
 }
 
-// A signature, and where the type's entry stands; where they are refused, the input is left
-// anywhere.
+// The signature of a type, and the offset of the type's entry in the unit, in this order; whether
+// an entry stands there is not looked at. Refusals: `UnexpectedEof`, `UnsupportedOffset`. The input
+// is then left anywhere.
 #[tactic(auto, unfolding(crate::specs::Header::signature_at))]
 fn parse_signature<R: Reader>(
     input: &mut R,
@@ -123,7 +131,10 @@ fn parse_signature<R: Reader>(
     Ok((type_signature, type_offset))
 }
 
-// What the type of a code adds; where it is refused, the input is left anywhere.
+// The type of a code, with the fields that it adds to the header: a signature and an offset for
+// `DW_UT_type` and `DW_UT_split_type`, an id for `DW_UT_skeleton` and `DW_UT_split_compile`, else
+// none. A code from `DW_UT_lo_user` on is a vendor's type. Refusals: `UnknownUnitType` of any other
+// code; those of the fields. The input is then left anywhere.
 #[tactic(auto, unfolding(crate::specs::Header::type_at))]
 fn parse_type<R: Reader>(input: &mut R, format: Format, code: DwUt) -> Result<UnitType<R::Offset>>
     ensures { read_of (answer_of (map_type R.Offset.number) result) (R.view input.new)
@@ -153,8 +164,12 @@ fn parse_type<R: Reader>(input: &mut R, format: Format, code: DwUt) -> Result<Un
     }
 }
 
-/// The next unit, which begins at an offset of its section; where it is refused, the input is left
-/// anywhere.
+/// The header of the next unit, which begins at `unit_offset` of `section`. The input is left at
+/// the end of the whole unit, and the header keeps the bytes of the entries.
+///
+/// Refusals: those of `Reader::read_initial_length`; `UnexpectedEof` where the input ends before
+/// the unit; those of the fields in their order, that of an unknown type last. The input is then
+/// left anywhere.
 #[tactic(auto, unfolding(crate::specs::Header::unit_at, crate::specs::Header::fields_at))]
 pub(crate) fn parse_unit_header<R: Reader>(
     input: &mut R,

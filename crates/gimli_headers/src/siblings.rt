@@ -40,8 +40,8 @@ struct Check<Offset, A: Allocator> {
     first: Option<UnitOffset<Offset>>,
 }
 
-// An entry or a null of which only this is read: where it stands, its depth, and where its reference
-// leads, if it has children and one.
+// An entry or a null of which only this is read: where it stands, its depth, and where its
+// reference leads, if it has children and one.
 #[derive(Clone, Copy)]
 struct Passed<Offset> {
     is_null: bool,
@@ -50,8 +50,9 @@ struct Passed<Offset> {
     sibling: Option<UnitOffset<Offset>>,
 }
 
-// Where a reference leads, if it can be followed: not before what is after its entry, and not past
-// the end.
+// Where the sibling reference of an entry leads, if it can be followed: not before `after`, which
+// is the offset of what follows the entry, and not past `end`, the offset of the unit's end. It may
+// lead to either. None of any other reference, and of an entry without one.
 fn usable_target<Offset: ReaderOffset>(
     sibling: Option<UnitOffset<Offset>>,
     after: UnitOffset<Offset>,
@@ -71,7 +72,7 @@ fn usable_target<Offset: ReaderOffset>(
 }
 
 impl<Offset: ReaderOffset, A: Allocator> Check<Offset, A> {
-    // A check that has found nothing.
+    // A check without open entries that has found nothing. Takes no memory yet.
     fn new(alloc: A) -> Self
         ensures { check_held Offset.number result ≡ record { opens = []; first = None } }
     {
@@ -81,7 +82,11 @@ impl<Offset: ReaderOffset, A: Allocator> Check<Offset, A> {
         }
     }
 
-    // Goes after a null of this depth, which may close the innermost open entry.
+    // Takes a null into the check. `depth` is the null's, and `after` the offset just past it.
+    //
+    // Where the innermost open entry is one less deep, the null closes it; else nothing changes.
+    // If the entry's reference does not lead to `after`, the entry is now the first whose reference
+    // is false: the one that was found before stands inside it.
     fn close(&mut self, depth: isize, after: UnitOffset<Offset>)
         requires { Rise depth (check_held Offset.number self.old).opens }
         ensures judged { (end : ℕ) (r : Row) (rest : List Row) → is_null r.entry ≡ true →
@@ -105,8 +110,10 @@ impl<Offset: ReaderOffset, A: Allocator> Check<Offset, A> {
         self.first = Some(offset);
     }
 
-    // Opens an entry of this depth whose reference can be followed, where no false reference is
-    // found yet. Refusal: `OutOfMemory`.
+    // Opens an entry at `offset`, as the innermost one. The caller sees to it that its reference
+    // can be followed, to `target`, and that no false reference is found yet.
+    //
+    // Refusal: `OutOfMemory`; the check is then left anywhere.
     fn enter(
         &mut self,
         offset: UnitOffset<Offset>,
@@ -129,8 +136,8 @@ impl<Offset: ReaderOffset, A: Allocator> Check<Offset, A> {
         Ok(())
     }
 
-    // What is found at the end of the rows, or where an entry is refused: no open entry is closed
-    // any more.
+    // The first entry whose reference is false, where no entry or null is left: the outermost open
+    // entry, since nothing closes it any more, or else the one that was found; or none.
     fn finish(&self) -> Option<UnitOffset<Offset>>
         ensures { (end : ℕ) → option_map (λ o. Offset.number o.0) result
             ≡ judgement end (check_held Offset.number self.now) [] }
@@ -142,8 +149,12 @@ impl<Offset: ReaderOffset, A: Allocator> Check<Offset, A> {
     }
 }
 
-// Goes after an entry or a null, with the offsets of what is after it and of the end. Refusal:
-// `OutOfMemory`.
+// Takes the next entry or null into the check. `after` is the offset just past it, and `end` that
+// of the unit's end.
+//
+// A null is taken as by `close`. An entry is opened where its reference can be followed, and only
+// as long as no false reference is found; any other entry changes nothing. Refusal: `OutOfMemory`,
+// only where an entry is opened; the check is then left anywhere.
 fn go_past<Offset: ReaderOffset, A: Allocator>(
     check: &mut Check<Offset, A>,
     passed: &Passed<Offset>,
@@ -176,8 +187,12 @@ fn go_past<Offset: ReaderOffset, A: Allocator>(
     }
 }
 
-// The first of the rows that are left whose reference is false. Of an entry only the head and the
-// reference are read. Refusal: `OutOfMemory`.
+// The offset of the first entry that is left whose reference is false, as `first_false_sibling`
+// says it, or none. `end` is the offset of the unit's end. `entries` is left anywhere.
+//
+// Each entry and null is read in turn, of an entry only the head and the reference; no reference is
+// followed. Bytes that are refused end the reading, and what was read before is judged. Refusal:
+// `OutOfMemory`, only where a reference can be followed.
 fn first_false_ahead<R: Reader, A: Allocator>(
     alloc: A,
     entries: &mut EntriesRaw<'_, R, A>,
@@ -214,9 +229,12 @@ fn first_false_ahead<R: Reader, A: Allocator>(
 /// The offset of the first entry of a unit whose sibling reference can be followed and does not
 /// lead just past the null that closes its children, also where there is no such null; or none.
 ///
-/// There is none exactly where the rows of the unit are honest, and they are then honest from the
-/// offset of each on. Rows before a refusal of bytes are judged. Refusal: `OutOfMemory`, only where
-/// a reference can be followed.
+/// A reference can be followed that leads neither before what follows its entry nor past the unit's
+/// end. Without children an entry has none. There is none exactly where the rows of the unit are
+/// honest, and they are then honest from the offset of each on.
+///
+/// Where bytes of the unit are refused, the rows before them are judged, and the call is not
+/// refused. Refusal: `OutOfMemory`, only where a reference can be followed.
 pub fn first_false_sibling<R: Reader, A: Allocator + Copy>(
     alloc: A,
     unit: &UnitHeader<R>,

@@ -11,8 +11,10 @@ use crate::parse::parse_unit_header;
 use gimli_base::{Reader, ReaderOffset, Result, SectionId};
 use gimli_units::{UnitHeader, UnitSectionOffset};
 
-// The next unit of a section, of which `input` is left and begins at `offset`: none where nothing
-// is left. After a refusal nothing is left.
+/// Takes the header of the next unit of a section, or none where nothing is left. `input` is what
+/// is left of the section, and `offset` is where that begins in it; both go past the whole unit.
+///
+/// Refusals: those of `parse_unit_header`; nothing is left of `input` then, and `offset` stays.
 #[tactic(auto, unfolding(crate::specs::Units::next_unit))]
 pub(crate) fn next_header<R: Reader>(
     input: &mut R,

@@ -57,9 +57,10 @@ impl<R, Offset> Attribute<R, Offset> {
 }
 
 impl<R: Reader> Attribute<R> {
-    /// Reads the attribute of a specification and hands it to a sink, which has room for it; put
-    /// in place where it is called. It is for those who keep declarations of their own: in a unit's
-    /// entries `EntriesRaw::read_attribute_to` does the same.
+    /// Reads the attribute of a specification from the input and hands it to a sink, which has room
+    /// for it; answers what the sink answers. It is put in place where it is called. It is for
+    /// those who keep declarations of their own: in a unit's entries
+    /// `EntriesRaw::read_attribute_to` does the same.
     ///
     /// Refusals: those of `EntriesRaw::read_attribute`; the input and the sink then stay.
     #[inline(always)]
@@ -82,8 +83,8 @@ impl<R: Reader> Attribute<R> {
         Ok(taken)
     }
 
-    /// Passes the value of an attribute as it is read. It is for those who keep declarations of
-    /// their own, as `read_to`.
+    /// Passes the value of an attribute: leaves the input where reading it would. It is for those
+    /// who keep declarations of their own, as `read_to`.
     ///
     /// Refusals: those of `EntriesRaw::read_attribute`; the input then stays.
     #[inline(always)]
@@ -145,7 +146,8 @@ impl<R: Reader> Attribute<R> {
         }
     }
 
-    // Where it leads in its unit, if it is a reference there.
+    /// The offset of a `UnitRef`, in the unit. None for any other value, a reference into a section
+    /// too.
     pub(crate) fn reference(&self) -> Option<UnitOffset<R::Offset>>
         ensures { option_map (λ o. R.Offset.number o.0) result
             ≡ unit_reference (map_value R.view R.Offset.number self.now.value) }
@@ -153,7 +155,7 @@ impl<R: Reader> Attribute<R> {
         self.value.reference()
     }
 
-    /// The value as an unsigned number of 8 bits, where it is one and fits.
+    /// The value as an unsigned number, as `udata_value` answers it, if it is below 2^8; else none.
     pub fn u8_value(&self) -> Option<u8>
         ensures { result ≡ below (2 ^ 8)
             (udata_of (map_value R.view R.Offset.number self.now.value)) }
@@ -161,7 +163,8 @@ impl<R: Reader> Attribute<R> {
         self.value.u8_value()
     }
 
-    /// The value as an unsigned number of 16 bits, where it is one and fits.
+    /// The value as an unsigned number, as `udata_value` answers it, if it is below 2^16; else
+    /// none.
     pub fn u16_value(&self) -> Option<u16>
         ensures { result ≡ below (2 ^ 16)
             (udata_of (map_value R.view R.Offset.number self.now.value)) }
@@ -169,21 +172,25 @@ impl<R: Reader> Attribute<R> {
         self.value.u16_value()
     }
 
-    /// The value as an unsigned number, where it is one.
+    /// The value as an unsigned number, as `AttributeValue::udata_value`: of data of 1, 2, 4 or 8
+    /// bytes, of a `Udata`, and of an `Sdata` that is not negative; else none. What the name makes
+    /// of the value is not looked at.
     pub fn udata_value(&self) -> Option<u64>
         ensures { result ≡ udata_of (map_value R.view R.Offset.number self.now.value) }
     {
         self.value.udata_value()
     }
 
-    /// The value as a signed number, where it is one.
+    /// The value as a signed number, as `AttributeValue::sdata_value`: of data of 1, 2, 4 or 8
+    /// bytes in two's complement, of an `Sdata`, and of a `Udata` below 2^63; else none.
     pub fn sdata_value(&self) -> Option<i64>
         ensures { result ≡ sdata_of (map_value R.view R.Offset.number self.now.value) }
     {
         self.value.sdata_value()
     }
 
-    /// The offset into a section, where the form or the name of the attribute made it one.
+    /// The offset into a section, as the form sec_offset reads, or data4 and data8 under some
+    /// names; none for any other value. Which section it is, the name says.
     pub fn offset_value(&self) -> Option<R::Offset>
         ensures { option_map R.Offset.number result
             ≡ sec_offset_of (map_value R.view R.Offset.number self.now.value) }
@@ -191,7 +198,8 @@ impl<R: Reader> Attribute<R> {
         self.value.offset_value()
     }
 
-    /// The value as an expression, where it is one, or a block.
+    /// The value as an expression: of an `Exprloc`, and of a `Block`, as which versions 2 and 3
+    /// write one. None for any other value.
     pub fn exprloc_value(&self) -> Option<Expression<R>>
         ensures { option_map (λ e. R.view e.0) result
             ≡ exprloc_of (map_value R.view R.Offset.number self.now.value) }
@@ -199,8 +207,9 @@ impl<R: Reader> Attribute<R> {
         self.value.exprloc_value()
     }
 
-    /// The value as the bytes of a text, where it is one that stands in the attribute or in
-    /// `.debug_str`. None too where `.debug_str` has no text at the offset.
+    /// The value as the bytes of a text, without the zero that ends it: of a `String`, and of a
+    /// `DebugStrRef` those at its offset in `debug_str`. None where `debug_str` has no text there,
+    /// and for any other value, an index or an offset into another section too.
     pub fn string_value(&self, debug_str: &DebugStr<R>) -> Option<R>
         ensures { option_map R.view result
             ≡ string_of (str_content R.view debug_str.now)
@@ -209,8 +218,9 @@ impl<R: Reader> Attribute<R> {
         self.value.string_value(debug_str)
     }
 
-    /// The value as the bytes of a text, as `string_value`, or of one in `.debug_str` of the
-    /// supplementary file, where that is given.
+    /// As `string_value`; and the text of a `DebugStrRefSup` is that at its offset in
+    /// `debug_str_sup`, `.debug_str` of the supplementary file. None where that is not given, or
+    /// has no text there.
     pub fn string_value_sup(
         &self,
         debug_str: &DebugStr<R>,

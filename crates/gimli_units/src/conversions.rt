@@ -10,8 +10,8 @@ ghost use Rattle.gimli_base.specs.Sections.{str_content};
 use crate::AttributeValue;
 use gimli_base::{DebugStr, Expression, Reader, Section};
 
-// A number of bits whose sign is that of weight `half`, in two's complement: from `half` on it stands
-// for one that is less by twice `half`.
+// `number` in two's complement, where `half` is the weight of the sign bit (0x80 for 8 bits). From
+// `half` on it stands for a negative number: the one that is less by twice `half`.
 fn signed_of(number: u64, half: u64) -> i64
     requires low { 0 < half }
     requires high { half ≤ 2 ^ 63 }
@@ -26,7 +26,7 @@ fn signed_of(number: u64, half: u64) -> i64
 }
 
 impl<R: Reader> AttributeValue<R> {
-    /// The value as an unsigned number of 8 bits, where it is one and fits.
+    /// The value as an unsigned number, as `udata_value` answers it, if it is below 2^8; else none.
     pub fn u8_value(&self) -> Option<u8>
         ensures { result ≡ below (2 ^ 8) (udata_of (map_value R.view R.Offset.number self.now)) }
     {
@@ -36,7 +36,8 @@ impl<R: Reader> AttributeValue<R> {
         }
     }
 
-    /// The value as an unsigned number of 16 bits, where it is one and fits.
+    /// The value as an unsigned number, as `udata_value` answers it, if it is below 2^16; else
+    /// none.
     pub fn u16_value(&self) -> Option<u16>
         ensures { result ≡ below (2 ^ 16) (udata_of (map_value R.view R.Offset.number self.now)) }
     {
@@ -46,8 +47,9 @@ impl<R: Reader> AttributeValue<R> {
         }
     }
 
-    /// The value as an unsigned number, where it is one: data of 1 to 8 bytes, or a number that is
-    /// not negative.
+    /// The value as an unsigned number: of data of 1, 2, 4 or 8 bytes, of a `Udata`, and of an
+    /// `Sdata` that is not negative. None for a negative one, and for any other value, `Data16` and
+    /// `SecOffset` too.
     pub fn udata_value(&self) -> Option<u64>
         ensures { result ≡ udata_of (map_value R.view R.Offset.number self.now) }
     {
@@ -61,8 +63,9 @@ impl<R: Reader> AttributeValue<R> {
         }
     }
 
-    /// The value as a signed number, where it is one: data of 1 to 8 bytes with a sign, or a number
-    /// that fits.
+    /// The value as a signed number: of data of 1, 2, 4 or 8 bytes in two's complement at their own
+    /// width, of an `Sdata`, and of a `Udata` below 2^63. None for a greater one, and for any other
+    /// value, `Data16` too.
     pub fn sdata_value(&self) -> Option<i64>
         ensures { result ≡ sdata_of (map_value R.view R.Offset.number self.now) }
     {
@@ -83,7 +86,9 @@ impl<R: Reader> AttributeValue<R> {
         }
     }
 
-    /// The offset into a section, where the form or the name of the attribute made it one.
+    /// The offset of a `SecOffset`, as the form sec_offset reads, or data4 and data8 under some
+    /// names. None for any other value, also for an offset whose variant names its section, as
+    /// `DebugLineRef`.
     pub fn offset_value(&self) -> Option<R::Offset>
         ensures { option_map R.Offset.number result
             ≡ sec_offset_of (map_value R.view R.Offset.number self.now) }
@@ -94,7 +99,8 @@ impl<R: Reader> AttributeValue<R> {
         }
     }
 
-    /// The value as an expression, where it is one, or a block, as older versions have it.
+    /// The value as an expression: of an `Exprloc`, and of a `Block`, as which versions 2 and 3
+    /// write one. None for any other value.
     pub fn exprloc_value(&self) -> Option<Expression<R>>
         ensures { option_map (λ e. R.view e.0) result
             ≡ exprloc_of (map_value R.view R.Offset.number self.now) }
@@ -106,8 +112,9 @@ impl<R: Reader> AttributeValue<R> {
         }
     }
 
-    /// The value as the bytes of a text, where it is one that stands in the attribute or in
-    /// `.debug_str`. None too where `.debug_str` has no text at the offset.
+    /// The value as the bytes of a text, without the zero that ends it: of a `String`, and of a
+    /// `DebugStrRef` those at its offset in `debug_str`. None where `debug_str` has no text there,
+    /// and for any other value, an index or an offset into another section too.
     pub fn string_value(&self, debug_str: &DebugStr<R>) -> Option<R>
         ensures { option_map R.view result
             ≡ string_of (str_content R.view debug_str.now)
@@ -120,8 +127,9 @@ impl<R: Reader> AttributeValue<R> {
         }
     }
 
-    /// The value as the bytes of a text, as `string_value`, or of one in `.debug_str` of the
-    /// supplementary file, where that is given.
+    /// As `string_value`; and the text of a `DebugStrRefSup` is that at its offset in
+    /// `debug_str_sup`, `.debug_str` of the supplementary file. None where that is not given, or
+    /// has no text there.
     pub fn string_value_sup(
         &self,
         debug_str: &DebugStr<R>,

@@ -9,7 +9,8 @@ use crate::{DebugInfoOffset, DebugTypesOffset, UnitHeader, UnitOffset, UnitSecti
 use gimli_base::{Reader, ReaderOffset, SectionId};
 
 impl<T: ReaderOffset> DebugInfoOffset<T> {
-    /// The offset as one of the unit's section, where that is `.debug_info`.
+    /// The same offset as one of the unit's section, if that is `.debug_info`, else none. Whether
+    /// it lies in the unit is not looked at.
     pub fn to_unit_section_offset<R: Reader<Offset = T>>(
         &self,
         unit: &UnitHeader<R>,
@@ -24,7 +25,9 @@ impl<T: ReaderOffset> DebugInfoOffset<T> {
         }
     }
 
-    /// The offset as one of the unit, where it is that of a byte of the unit's entries.
+    /// The offset as one in the unit, counted from the unit's beginning, if a byte of the unit's
+    /// entries has it. None where the unit lies in another section, for an offset before the first
+    /// entry, and from the unit's end on.
     pub fn to_unit_offset<R: Reader<Offset = T>>(
         &self,
         unit: &UnitHeader<R>,
@@ -40,7 +43,8 @@ impl<T: ReaderOffset> DebugInfoOffset<T> {
 }
 
 impl<T: ReaderOffset> DebugTypesOffset<T> {
-    /// The offset as one of the unit's section, where that is `.debug_types`.
+    /// The same offset as one of the unit's section, if that is `.debug_types`, else none. Whether
+    /// it lies in the unit is not looked at.
     pub fn to_unit_section_offset<R: Reader<Offset = T>>(
         &self,
         unit: &UnitHeader<R>,
@@ -55,7 +59,9 @@ impl<T: ReaderOffset> DebugTypesOffset<T> {
         }
     }
 
-    /// The offset as one of the unit, where it is that of a byte of the unit's entries.
+    /// The offset as one in the unit, counted from the unit's beginning, if a byte of the unit's
+    /// entries has it. None where the unit lies in another section, for an offset before the first
+    /// entry, and from the unit's end on.
     pub fn to_unit_offset<R: Reader<Offset = T>>(
         &self,
         unit: &UnitHeader<R>,
@@ -72,7 +78,9 @@ impl<T: ReaderOffset> DebugTypesOffset<T> {
 }
 
 impl<T: ReaderOffset> UnitSectionOffset<T> {
-    /// The offset as one of the unit, where it is that of a byte of the unit's entries.
+    /// The offset as one in the unit, counted from the unit's beginning, if a byte of the unit's
+    /// entries has it. None for an offset before the first entry, and from the unit's end on. It is
+    /// taken as one of the unit's section.
     pub fn to_unit_offset<R: Reader<Offset = T>>(
         &self,
         unit: &UnitHeader<R>,
@@ -90,7 +98,7 @@ impl<T: ReaderOffset> UnitSectionOffset<T> {
         }
     }
 
-    /// The offset as one of `.debug_info`, where the unit lies there.
+    /// The same offset as one of `.debug_info`, if the unit lies there, else none.
     pub fn to_debug_info_offset<R: Reader<Offset = T>>(
         &self,
         unit: &UnitHeader<R>,
@@ -105,7 +113,7 @@ impl<T: ReaderOffset> UnitSectionOffset<T> {
         }
     }
 
-    /// The offset as one of `.debug_types`, where the unit lies there.
+    /// The same offset as one of `.debug_types`, if the unit lies there, else none.
     pub fn to_debug_types_offset<R: Reader<Offset = T>>(
         &self,
         unit: &UnitHeader<R>,
@@ -122,14 +130,15 @@ impl<T: ReaderOffset> UnitSectionOffset<T> {
 }
 
 impl<T: ReaderOffset> UnitOffset<T> {
-    /// Whether the offset is that of a byte of the unit's entries.
+    /// Whether the offset is that of a byte of the unit's entries; the unit's end is none.
     pub fn is_in_bounds<R: Reader<Offset = T>>(&self, unit: &UnitHeader<R>) -> bool
         ensures { result ≡ in_bounds (unit_view unit.now) (T.number self.now.0) }
     {
         unit.is_in_bounds(*self)
     }
 
-    /// The offset as one of the unit's section; the sum with the unit's own offset has to fit.
+    /// The offset as one of the unit's section: the sum with the unit's own offset, which has to
+    /// fit. Whether it is in bounds is not looked at.
     pub fn to_unit_section_offset<R: Reader<Offset = T>>(
         &self,
         unit: &UnitHeader<R>,
@@ -140,8 +149,8 @@ impl<T: ReaderOffset> UnitOffset<T> {
         UnitSectionOffset(unit.offset().0.checked_add(self.0).unwrap())
     }
 
-    /// The offset as one of `.debug_info`, where the unit lies there; the sum with the unit's own
-    /// offset has to fit.
+    /// The offset as one of `.debug_info`, if the unit lies there, else none; the sum with the
+    /// unit's own offset has to fit.
     pub fn to_debug_info_offset<R: Reader<Offset = T>>(
         &self,
         unit: &UnitHeader<R>,
@@ -154,8 +163,8 @@ impl<T: ReaderOffset> UnitOffset<T> {
         self.to_unit_section_offset(unit).to_debug_info_offset(unit)
     }
 
-    /// The offset as one of `.debug_types`, where the unit lies there; the sum with the unit's own
-    /// offset has to fit.
+    /// The offset as one of `.debug_types`, if the unit lies there, else none; the sum with the
+    /// unit's own offset has to fit.
     pub fn to_debug_types_offset<R: Reader<Offset = T>>(
         &self,
         unit: &UnitHeader<R>,

@@ -45,8 +45,8 @@ impl<'abbrev, R: Reader, A: Allocator> Model for EntriesCursor<'abbrev, R, A> {
 }
 
 impl<'abbrev, R: Reader, A: Allocator + Copy> EntriesCursor<'abbrev, R, A> {
-    // A cursor before the first entry that `raw` reads; it follows sibling references, or reads
-    // every entry.
+    /// A cursor before the first entry that `raw` reads. `follows`: it follows sibling references,
+    /// or else reads every entry.
     pub(crate) fn new(alloc: A, raw: EntriesRaw<'abbrev, R, A>, follows: bool) -> Self
         requires fits { length raw.rest.bytes ≤ raw.end }
         requires shallow { unsigned_abs raw.depth + length raw.rest.bytes < 2 ^ 63 }
@@ -110,7 +110,7 @@ impl<'abbrev, R: Reader, A: Allocator> EntriesCursor<'abbrev, R, A> {
         self.entry.depth
     }
 
-    /// The offset of what is read next.
+    /// The offset in the unit of what is read next, or of the end where nothing is left.
     #[inline]
     pub fn next_offset(&self) -> UnitOffset<R::Offset>
         ensures { R.Offset.number result.0 ≡ next_offset_of self.now.raw }
@@ -118,7 +118,7 @@ impl<'abbrev, R: Reader, A: Allocator> EntriesCursor<'abbrev, R, A> {
         self.raw.next_offset()
     }
 
-    /// The depth of what is read next.
+    /// The depth of what is read next: after a current entry with children, one more than its own.
     #[inline]
     pub fn next_depth(&self) -> isize
         ensures { result ≡ self.now.raw.depth }
@@ -126,7 +126,8 @@ impl<'abbrev, R: Reader, A: Allocator> EntriesCursor<'abbrev, R, A> {
         self.raw.next_depth()
     }
 
-    /// How many entries were read, nulls and refused ones too.
+    /// How many entries were read since the first step, nulls, passed and refused ones too; not
+    /// those that a reference leads past.
     #[inline]
     pub fn reads(&self) -> usize
         ensures { result ≡ self.now.reads }
@@ -134,7 +135,7 @@ impl<'abbrev, R: Reader, A: Allocator> EntriesCursor<'abbrev, R, A> {
         self.reads
     }
 
-    /// Whether sibling references are followed.
+    /// Whether a search for a sibling follows sibling references.
     #[inline]
     pub fn follows(&self) -> bool
         ensures { result ≡ self.now.follows }
@@ -142,7 +143,8 @@ impl<'abbrev, R: Reader, A: Allocator> EntriesCursor<'abbrev, R, A> {
         self.follows
     }
 
-    // The entry or the null that was read last.
+    /// The entry that was read last; a null where there is no current one. Its offset and depth are
+    /// those of `offset` and `depth`.
     #[inline]
     pub(crate) fn last(&self) -> &DebuggingInformationEntry<R, A>
         ensures entry { entry_of R.view R.Offset.number result.now ≡ self.now.entry }
@@ -153,7 +155,8 @@ impl<'abbrev, R: Reader, A: Allocator> EntriesCursor<'abbrev, R, A> {
         &self.entry
     }
 
-    // Begins anew where `raw` stands, before the first step.
+    /// Begins anew where `raw` stands, before the first step: there is no current entry, and
+    /// offset, depth and reads are 0. Whether references are followed stays.
     pub(crate) fn restart(&mut self, raw: EntriesRaw<'abbrev, R, A>)
         requires fits { length raw.rest.bytes ≤ raw.end }
         requires shallow { unsigned_abs raw.depth + length raw.rest.bytes < 2 ^ 63 }
@@ -175,8 +178,10 @@ impl<'abbrev, R: Reader, A: Allocator> EntriesCursor<'abbrev, R, A> {
         !self.entry.is_null()
     }
 
-    // Reads the next entry, a null too, in place of the one that was read last. Answers false at the
-    // end of the bytes; the last one is a null then. After a refusal nothing is left to read.
+    /// Reads the next entry or null, in place of the one that was read last, and answers true. At
+    /// the end of the bytes it answers false: the last one is then a null, and offset and depth
+    /// stay. Refusals: those of `EntriesRaw::read_entry`; the last one is then a null, with the
+    /// offset and the depth of what was refused, and nothing is left to read.
     #[inline(always)]
     pub(crate) fn read_next(&mut self) -> Result<bool>
         ensures read { HasRead R.Offset.limit self.old result self.new }
@@ -196,8 +201,9 @@ impl<'abbrev, R: Reader, A: Allocator> EntriesCursor<'abbrev, R, A> {
         }
     }
 
-    // Where the reference of the entry leads, if references are followed and it has at least the
-    // depth that is sought.
+    // Where the sibling reference of the current entry leads, if references are followed and the
+    // entry is at least as deep as `sought`, the depth of a search; else none. Whether the reader
+    // can go there is not looked at.
     fn reference(&self, sought: isize) -> Option<UnitOffset<R::Offset>>
         ensures { option_map (λ o. R.Offset.number o.0) result ≡ reference_for sought self.now }
     {
@@ -210,7 +216,9 @@ impl<'abbrev, R: Reader, A: Allocator> EntriesCursor<'abbrev, R, A> {
         self.entry.sibling()
     }
 
-    // Leaves the entry: for where its reference leads, if that is followed.
+    // Leaves the current entry, in a search for the depth `sought`: for where its `reference`
+    // leads, at the entry's depth, if the reader can go there (`EntriesRaw::go_to`). Else the
+    // reader stays. Offset and depth stay, without a current entry.
     fn follow(&mut self, sought: isize)
         ensures { self.new ≡ leave_entry sought self.old }
     {
@@ -223,8 +231,9 @@ impl<'abbrev, R: Reader, A: Allocator> EntriesCursor<'abbrev, R, A> {
         }
     }
 
-    /// Reads the next entry, a null too. Answers false at the end, and then there is no current
-    /// entry.
+    /// Reads the next entry or null, and answers true; no reference is followed. At a null there is
+    /// no current entry, but `offset` and `depth` are the null's. Answers false at the end, and
+    /// then there is no current entry.
     ///
     /// Refusals: those of `EntriesRaw::read_entry`; the walk is then over, without a current entry,
     /// at the offset and the depth of what was refused.
@@ -235,7 +244,9 @@ impl<'abbrev, R: Reader, A: Allocator> EntriesCursor<'abbrev, R, A> {
         self.read_next()
     }
 
-    // Reads on to the next entry that is no null. Answers whether there is one.
+    /// Reads on to the next entry that is no null, of whatever depth; no reference is followed.
+    /// Answers whether there is one; without one, at the end, there is no current entry. Refusals:
+    /// those of `next_entry`.
     pub(crate) fn advance_dfs(&mut self) -> Result<bool>
         ensures { HasWalked R.Offset.limit self.old result self.new }
     {
@@ -248,8 +259,9 @@ impl<'abbrev, R: Reader, A: Allocator> EntriesCursor<'abbrev, R, A> {
         Ok(false)
     }
 
-    // Goes to the next sibling of the current entry, if there is one. Answers whether there was
-    // one.
+    /// Goes to the next sibling of the current entry, as `next_sibling` does. True: it is the
+    /// current entry. False: there is none, and no current entry; without a current entry before,
+    /// nothing moves. Refusals: those of `next_entry`.
     pub(crate) fn advance_sibling(&mut self) -> Result<bool>
         ensures { HasWalkedOver R.Offset.limit self.old result self.new }
     {
@@ -261,7 +273,7 @@ impl<'abbrev, R: Reader, A: Allocator> EntriesCursor<'abbrev, R, A> {
         self.seek(offset, depth)
     }
 
-    // Sets the pair of offset and depth.
+    // Sets what `offset` and `depth` answer, where there is no current entry. The reader stays.
     fn set_pair(&mut self, offset: UnitOffset<R::Offset>, depth: isize)
         requires shallow { unsigned_abs depth + length self.old.raw.rest.bytes < 2 ^ 63 }
         requires none { is_null self.old.entry ≡ true }
@@ -271,7 +283,8 @@ impl<'abbrev, R: Reader, A: Allocator> EntriesCursor<'abbrev, R, A> {
         self.entry.depth = depth;
     }
 
-    // Stands where entries were passed, without a current one.
+    // Puts the cursor where `raw` stands, without a current entry: `offset` and `depth` are those
+    // of what was passed or refused last, and `reads` counts all that were read.
     #[inline(always)]
     fn set_place(
         &mut self,
@@ -293,7 +306,10 @@ impl<'abbrev, R: Reader, A: Allocator> EntriesCursor<'abbrev, R, A> {
         self.reads = reads;
     }
 
-    // Passes entries up to the first of a depth, or to the end of the bytes.
+    // Passes entries and nulls up to the first of the depth `sought`, which is read next then, or
+    // to the end of the bytes. The sibling references of entries at least so deep are followed,
+    // where `follows` is set. Refusals: those of `EntriesRaw::read_head`; nothing is then left to
+    // read. Offset and depth are those of what was passed last, or refused.
     //
     // What the cursor knows of its place is kept in registers, and written when all are passed.
     #[inline(always)]
@@ -325,11 +341,14 @@ impl<'abbrev, R: Reader, A: Allocator> EntriesCursor<'abbrev, R, A> {
         Ok(())
     }
 
-    // Reads on to the first entry of a depth; the references of entries that are at least so deep
-    // are followed. At the end of the input the pair becomes `offset` and that depth.
-    //
-    // The attributes of an entry of another depth are passed, but for the reference: only an entry
-    // that may be answered is read as a whole, and memory is asked for it alone.
+    /// Leaves the current entry and reads on to the first entry or null of a depth, past shallower
+    /// ones too. Answers true at an entry, and false at a null. At the end of the input it answers
+    /// false too, and `self.offset()` and `self.depth()` become `offset` and that depth. Where
+    /// `follows` is set, the references of entries at least so deep are followed. Refusals: those
+    /// of `EntriesRaw::read_entry`; nothing is then left to read.
+    ///
+    /// The attributes of an entry of another depth are passed, but for the reference: only an entry
+    /// that may be answered is read as a whole, and memory is asked for it alone.
     pub(crate) fn seek(&mut self, offset: UnitOffset<R::Offset>, depth: isize) -> Result<bool>
         requires sound { IsSound self.old }
         requires shallow { unsigned_abs depth < 2 ^ 63 }
@@ -348,7 +367,8 @@ impl<'abbrev, R: Reader, A: Allocator> EntriesCursor<'abbrev, R, A> {
     }
 }
 
-// Whether the reference of an entry of this depth is followed, if it has one that can be.
+// Whether a sibling reference of an entry of this depth is followed in a search for the depth
+// `sought`: references are followed, and the entry is at least so deep.
 #[inline(always)]
 fn is_followed(follows: bool, sought: isize, depth: isize) -> bool
     ensures { result ≡ (follows && int_le sought depth) }
@@ -356,8 +376,10 @@ fn is_followed(follows: bool, sought: isize, depth: isize) -> bool
     follows && sought <= depth
 }
 
-// Reads the next entry, without its attributes, and leaves it: for where its reference leads, if
-// that is followed. There is something to read. What a cursor knows beside `raw` is its caller's.
+// Passes the next entry or null, without keeping its attributes, and goes to where its sibling
+// reference leads, at the entry's depth, if that is followed (`is_followed`) and the reader can go
+// there. There is something to read. Refusals: those of `EntriesRaw::read_head`; nothing is then
+// left to read. What a cursor knows beside `raw` is its caller's.
 #[inline(always)]
 fn pass_on<R: Reader, A: Allocator>(
     raw: &mut EntriesRaw<R, A>,

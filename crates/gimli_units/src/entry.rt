@@ -53,7 +53,7 @@ impl<R: Reader, A: Allocator> DebuggingInformationEntry<R, A> {
         }
     }
 
-    /// A null, at offset 0 and depth 0.
+    /// A null entry, at offset 0 and depth 0. No memory is taken.
     pub fn null(alloc: A) -> Self
         ensures null { entry_of R.view R.Offset.number result ≡ null_entry }
         ensures offset { R.Offset.number result.offset.0 ≡ 0 }
@@ -68,7 +68,7 @@ impl<R: Reader, A: Allocator> DebuggingInformationEntry<R, A> {
         }
     }
 
-    /// Makes it a null; offset and depth stay.
+    /// Makes it a null entry: tag 0, no children, no attributes. Offset and depth stay.
     #[inline]
     pub fn set_null(&mut self)
         ensures null { entry_of R.view R.Offset.number self.new ≡ null_entry }
@@ -88,7 +88,8 @@ impl<R: Reader, A: Allocator> DebuggingInformationEntry<R, A> {
         self.tag == DW_TAG_null
     }
 
-    /// The depth below the place where the walk began.
+    /// The depth below the place where the walk began; negative past the null that ends the list in
+    /// which it began.
     #[inline]
     pub fn depth(&self) -> isize
         ensures { result ≡ self.now.depth }
@@ -96,7 +97,7 @@ impl<R: Reader, A: Allocator> DebuggingInformationEntry<R, A> {
         self.depth
     }
 
-    /// Where the entry stands in its unit.
+    /// The offset of the entry, or the null, in its unit.
     #[inline]
     pub fn offset(&self) -> UnitOffset<R::Offset>
         ensures { result ≡ self.now.offset }
@@ -112,7 +113,7 @@ impl<R: Reader, A: Allocator> DebuggingInformationEntry<R, A> {
         self.tag
     }
 
-    /// Whether children follow the entry.
+    /// Whether children follow the entry, as its abbreviation declares; false for a null.
     #[inline]
     pub fn has_children(&self) -> bool
         ensures { result ≡ self.now.has_children }
@@ -135,16 +136,17 @@ impl<R: Reader, A: Allocator> DebuggingInformationEntry<R, A> {
         self.attr(name).is_some()
     }
 
-    /// The first attribute of this name.
+    /// The first attribute of this name, if there is one.
     pub fn attr(&self, name: DwAt) -> Option<&Attribute<R>>
         ensures { option_copied result ≡ first_of name.0 self.now.attrs.items }
     {
         self.attrs.iter().find(|attr| attr.name() == name)
     }
 
-    /// Where the sibling reference leads, as an offset in the unit: none for a null, without
-    /// children, and where the first `DW_AT_sibling` is no reference in the unit. Whether an entry
-    /// begins there is not looked at (DWARF 5, 2.3).
+    /// Where the first `DW_AT_sibling` leads, if its value is a `UnitRef`, an offset in the unit.
+    /// None for a null, without children, and without such an attribute. The offset is as it is
+    /// read: it may lead back, or out of the unit, and whether an entry begins there is not looked
+    /// at (DWARF 5, 2.3).
     pub fn sibling(&self) -> Option<UnitOffset<R::Offset>>
         ensures { option_map (λ o. R.Offset.number o.0) result
             ≡ target (kind_of (entry_of R.view R.Offset.number self.now)) }
@@ -158,7 +160,8 @@ impl<R: Reader, A: Allocator> DebuggingInformationEntry<R, A> {
         }
     }
 
-    /// The value of the first attribute of this name, as its form shows it.
+    /// The value of the first attribute of this name, as its form shows it; none where there is no
+    /// such attribute.
     pub fn attr_value_raw(&self, name: DwAt) -> Option<AttributeValue<R>>
         ensures { option_map (map_value R.view R.Offset.number) result
             ≡ option_map (λ a. map_value R.view R.Offset.number a.value)
@@ -167,7 +170,8 @@ impl<R: Reader, A: Allocator> DebuggingInformationEntry<R, A> {
         self.attr(name).map(|attr| attr.raw_value())
     }
 
-    /// The value of the first attribute of this name, as the name makes it.
+    /// The value of the first attribute of this name, as the name makes it (`Attribute::value`);
+    /// none where there is no such attribute.
     pub fn attr_value(&self, name: DwAt) -> Option<AttributeValue<R>>
         ensures { option_map (map_value R.view R.Offset.number) result
             ≡ option_map (λ a. normal_value a.name.0 (map_value R.view R.Offset.number a.value))
@@ -178,7 +182,8 @@ impl<R: Reader, A: Allocator> DebuggingInformationEntry<R, A> {
 }
 
 impl<R: Reader, A: Allocator + Copy> DebuggingInformationEntry<R, A> {
-    /// An equal entry. Refusal: `OutOfMemory`, only where it has attributes.
+    /// An entry of the same parts, with the same offset and depth; `alloc` is for its attributes.
+    /// Refusal: `OutOfMemory`, only where it has attributes.
     pub fn try_clone(&self, alloc: A) -> Result<Self>
         ensures value { IfOk result
             (λ e. entry_of R.view R.Offset.number e ≡ entry_of R.view R.Offset.number self.now) }
@@ -198,7 +203,8 @@ impl<R: Reader, A: Allocator + Copy> DebuggingInformationEntry<R, A> {
     }
 }
 
-// The same attributes.
+// A list of the same attributes, their readers copied. Refusal: `OutOfMemory`, never of an empty
+// list.
 fn copies<R: Reader, A: Allocator>(alloc: A, attrs: &[Attribute<R>]) -> Result<Vec<Attribute<R>, A>>
     ensures value { IfOk result
         (λ copies. map (map_attribute R.view R.Offset.number) copies.items

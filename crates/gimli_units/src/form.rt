@@ -1,4 +1,4 @@
-//! Values as their forms show them.
+//! Reading the values of attributes by their forms, and handing them to a sink.
 
 ghost use Rattle.std.specs.Prelude.{◌≡◌, ◌==◌, ◌&&◌, if◌then◌else◌, Ok, None, OnErr, false};
 ghost use Rattle.gimli_base.specs.Offset.{answer_of};
@@ -32,7 +32,9 @@ use gimli_base::{
     DebugTypeSignature, DwAt, DwForm, Encoding, Error, Expression, Reader, ReaderOffset, Result,
 };
 
-// Whether data4 or data8 under a name is an offset into a section, if it has the width of one.
+// Whether data4 or data8 under this name is an offset into a section, if it has the width of the
+// format's offsets. `DW_AT_data_member_location` is such a name in versions 2 and 3 alone, the
+// others are in every version.
 #[tactic(auto, unfolding(crate::specs::Form::is_section_name))]
 fn allow_section_offset(name: DwAt, version: u16) -> bool
     ensures { result ≡ is_section_name name.0 version }
@@ -56,8 +58,8 @@ fn allow_section_offset(name: DwAt, version: u16) -> bool
     }
 }
 
-// Whether a value of so many bytes is an offset into a section: it has the width of one, and its
-// name is of such an attribute.
+// Whether data of `size` bytes under this name is an offset into a section: it has the width of the
+// format's offsets, and the name is one of `allow_section_offset`.
 #[inline(always)]
 fn is_offset(encoding: Encoding, size: u8, name: DwAt) -> bool
     ensures { result ≡ (word_size_of encoding.format == size
@@ -66,9 +68,9 @@ fn is_offset(encoding: Encoding, size: u8, name: DwAt) -> bool
     encoding.format.word_size() == size && allow_section_offset(name, encoding.version)
 }
 
-// The next address; where it is refused, the input is left anywhere. One of 8 bytes is read in
-// place, and the others by a call that gets a reader of its own, so that the caller's stays in
-// registers.
+// The next address, of `size` bytes. Refusals: `UnsupportedAddressSize` where that is not 1, 2, 4
+// or 8, then `UnexpectedEof`; the input is then left anywhere. One of 8 bytes is read in place, and
+// the others by a call that gets a reader of its own, so that the caller's stays in registers.
 #[inline(always)]
 #[tactic(auto, unfolding(gimli_base::specs::Reading::address_at))]
 fn address<R: Reader>(input: &mut R, size: u8) -> Result<u64>
@@ -83,7 +85,7 @@ fn address<R: Reader>(input: &mut R, size: u8) -> Result<u64>
     Ok(address)
 }
 
-// The next address, by a call.
+// As `address`, by a call, whatever the size.
 #[inline(never)]
 fn narrow_address<R: Reader>(input: &mut R, size: u8) -> Result<u64>
     ensures { read_of result (R.view input.new) ≡ address_at size (R.view input.old) }
@@ -91,7 +93,8 @@ fn narrow_address<R: Reader>(input: &mut R, size: u8) -> Result<u64>
     input.read_address(size)
 }
 
-// The next three bytes as an offset; where they are refused, the input is left anywhere.
+// The next three bytes as an offset or an index. Refusals: `UnexpectedEof`, `UnsupportedOffset`;
+// the input is then left anywhere.
 #[inline]
 fn three_byte_offset<R: Reader>(input: &mut R) -> Result<R::Offset>
     ensures { read_of (answer_of R.Offset.number result) (R.view input.new)
@@ -100,7 +103,9 @@ fn three_byte_offset<R: Reader>(input: &mut R) -> Result<R::Offset>
     R::Offset::from_u64(input.read_uint(3)?)
 }
 
-// The next LEB128 number as an offset; where it is refused, the input is left anywhere.
+/// The next unsigned LEB128 number as an offset or an index. Refusals: `UnexpectedEof`,
+/// `BadUnsignedLeb128`, and `UnsupportedOffset` where it does not fit the reader's offsets; the
+/// input is then left anywhere.
 #[inline(always)]
 pub(crate) fn uleb128_offset<R: Reader>(input: &mut R) -> Result<R::Offset>
     ensures { read_of (answer_of R.Offset.number result) (R.view input.new)
@@ -109,8 +114,8 @@ pub(crate) fn uleb128_offset<R: Reader>(input: &mut R) -> Result<R::Offset>
     R::Offset::from_u64(input.read_uleb128()?)
 }
 
-// The bytes after their number, which has `size` bytes; where they are refused, the input is left
-// anywhere.
+// The bytes of a block: a length of `size` bytes, 1, 2, 4 or 8, and then so many. Refusals: those
+// of `read_sized_offset`, then `UnexpectedEof` of the block; the input is then left anywhere.
 #[inline(always)]
 fn sized_block<R: Reader>(input: &mut R, size: u8) -> Result<R>
     ensures { read_of (answer_of R.view result) (R.view input.new)
@@ -120,8 +125,8 @@ fn sized_block<R: Reader>(input: &mut R, size: u8) -> Result<R>
     input.split(length)
 }
 
-// The bytes after their number, which is a LEB128 number; where they are refused, the input is left
-// anywhere.
+// The bytes of a block: a length that is a LEB128 number, and then so many. Refusals: those of
+// `uleb128_offset`, then `UnexpectedEof` of the block; the input is then left anywhere.
 #[inline(always)]
 fn uleb128_block<R: Reader>(input: &mut R) -> Result<R>
     ensures { read_of (answer_of R.view result) (R.view input.new)
@@ -131,8 +136,9 @@ fn uleb128_block<R: Reader>(input: &mut R) -> Result<R>
     input.split(length)
 }
 
-// The bytes of a text, as `read_null_terminated_slice` reads them, and without its copy of the
-// input; where they are refused, the input is left anywhere.
+// The bytes of a text, up to the first zero, which is passed too. It reads as
+// `read_null_terminated_slice` does, without its copy of the input. Refusal: `UnexpectedEof`,
+// without a zero; the input is then left anywhere.
 #[inline(always)]
 #[tactic(auto, unfolding(gimli_base::specs::Reading::text_at))]
 fn text<R: Reader>(input: &mut R) -> Result<R>
@@ -144,8 +150,10 @@ fn text<R: Reader>(input: &mut R) -> Result<R>
     Ok(text)
 }
 
-// The next offset of an entry in `.debug_info`; where it is refused, the input is left anywhere. In
-// version 2 it is read by a call, on a reader of its own, as an address is.
+// The next offset of an entry in `.debug_info`, as the form ref_addr has it: of the size of an
+// address in version 2, else of the format's width. Refusals: those of `sized_offset` in version 2,
+// else `UnexpectedEof` and `UnsupportedOffset`; the input is then left anywhere. In version 2 it is
+// read by a call, on a reader of its own, as an address is.
 #[inline]
 fn section_reference<R: Reader>(input: &mut R, encoding: Encoding) -> Result<R::Offset>
     ensures { let v = R.view input.old in let limit = R.Offset.limit in
@@ -162,8 +170,9 @@ fn section_reference<R: Reader>(input: &mut R, encoding: Encoding) -> Result<R::
     Ok(offset)
 }
 
-// The next 1, 2, 4 or 8 bytes as an offset, as `read_sized_offset` reads them, and without its copy
-// of the input; where they are refused, the input is left anywhere.
+// The next `size` bytes as an offset, as `read_sized_offset` reads them, without its copy of the
+// input. Refusals: `UnsupportedOffsetSize` where `size` is not 1, 2, 4 or 8, then `UnexpectedEof`,
+// `UnsupportedOffset`; the input is then left anywhere.
 #[inline(never)]
 #[tactic(auto, using(gimli_base::proofs::OneByte::one_byte), unfolding(gimli_base::specs::Reading::sized_offset_at))]
 fn sized_offset<R: Reader>(input: &mut R, size: u8) -> Result<R::Offset>
@@ -180,7 +189,7 @@ fn sized_offset<R: Reader>(input: &mut R, size: u8) -> Result<R::Offset>
     R::Offset::from_u64(value)
 }
 
-// The value that is an index into the table of texts.
+// The value of the forms strx: an index into the unit's offsets in `.debug_str_offsets`.
 #[inline(always)]
 fn str_index<R: Reader>(index: R::Offset) -> AttributeValue<R>
     ensures { map_value R.view R.Offset.number result ≡ str_index (R.Offset.number index) }
@@ -188,7 +197,7 @@ fn str_index<R: Reader>(index: R::Offset) -> AttributeValue<R>
     AttributeValue::DebugStrOffsetsIndex(DebugStrOffsetsIndex(index))
 }
 
-// The value that is an index into the table of addresses.
+// The value of the forms addrx: an index into the unit's addresses in `.debug_addr`.
 #[inline(always)]
 fn addr_index<R: Reader>(index: R::Offset) -> AttributeValue<R>
     ensures { map_value R.view R.Offset.number result ≡ addr_index (R.Offset.number index) }
@@ -207,8 +216,10 @@ macro_rules! hand_over {
     };
 }
 
-// Hands over the value of a form whose size is known before it is read; with any other it answers
-// none, and nothing is read. Where it is refused, the sink stays, and the input is left anywhere.
+// Reads the value of a form whose size is known before it is read, and hands the attribute of `s`
+// to the sink. `None`: the form is not one of these, and nothing is read. Refusals:
+// `UnexpectedEof`, `UnsupportedAddressSize`, `UnsupportedOffset`, `UnsupportedOffsetSize`,
+// `InvalidImplicitConst`; the sink then stays, and the input is left anywhere.
 #[inline(always)]
 #[tactic(auto, unfolding(crate::specs::Form::direct_at, crate::specs::Taking::has_fixed_size, gimli_base::specs::Reading::sized_offset_at))]
 fn read_fixed<R: Reader, T: AttributeSink<R>>(
@@ -285,7 +296,8 @@ fn read_fixed<R: Reader, T: AttributeSink<R>>(
     }
 }
 
-// The same of the forms of variable size, whose bytes tell how many they are.
+// As `read_fixed`, but of the forms of variable size, whose bytes tell how many they are. Refusals:
+// `UnexpectedEof`, `BadUnsignedLeb128`, `BadSignedLeb128`, `UnsupportedOffset`.
 #[inline(always)]
 #[tactic(auto, unfolding(crate::specs::Form::direct_at, crate::specs::Taking::has_variable_size, gimli_base::specs::Reading::sized_offset_at))]
 fn read_variable<R: Reader, T: AttributeSink<R>>(
@@ -328,8 +340,10 @@ fn read_variable<R: Reader, T: AttributeSink<R>>(
     }
 }
 
-// The form that a chain of indirect forms leads to; where it is refused, the input is left
-// anywhere.
+/// The form that a chain of indirect forms leads to, each of which is followed by the code of the
+/// next; `form` itself, and nothing is read, where it is not indirect. Whether the code is that of
+/// a form is not looked at. Refusals: `UnexpectedEof`, `BadUnsignedLeb128`; the input is then left
+/// anywhere.
 #[tactic(auto, unfolding(crate::specs::Form::form_at))]
 pub(crate) fn direct_form<R: Reader>(input: &mut R, form: DwForm) -> Result<DwForm>
     ensures { read_of (answer_of (λ f. f.0) result) (R.view input.new)
@@ -342,8 +356,10 @@ pub(crate) fn direct_form<R: Reader>(input: &mut R, form: DwForm) -> Result<DwFo
     Ok(form)
 }
 
-// Hands over the attribute of a specification, whose value has this form, which is not indirect;
-// where it is refused, the sink stays, and the input is left anywhere.
+// Reads the value of `form`, and hands the attribute of the specification to the sink. `form` is
+// the specification's, or the one that it leads to. Refusals: those of `read_fixed` and of
+// `read_variable`, and `UnknownForm` of any other form, an indirect one too. The sink then stays,
+// and the input is left anywhere.
 #[tactic(auto, using(crate::proofs::AttributeTurns::no_form))]
 fn read_direct<R: Reader, T: AttributeSink<R>>(
     input: &mut R,
@@ -367,8 +383,9 @@ fn read_direct<R: Reader, T: AttributeSink<R>>(
     Err(Error::UnknownForm(form))
 }
 
-// Hands over the attribute of a specification, whose form may be indirect; where it is refused, the
-// sink stays, and the input is left anywhere.
+// Reads the attribute of a specification, whose form may be indirect, and hands it to the sink.
+// Refusals: those of `direct_form`, then those of `read_direct`. The sink then stays, and the input
+// is left anywhere.
 #[inline(never)]
 #[tactic(auto, using(crate::proofs::AttributeTurns::made_chained, crate::proofs::AttributeTurns::made_refused))]
 fn read_any<R: Reader, T: AttributeSink<R>>(
@@ -388,8 +405,8 @@ fn read_any<R: Reader, T: AttributeSink<R>>(
     read_direct(input, encoding, specification, form, sink)
 }
 
-// The same, where `COPY` is not 0 on a reader of its own. It is a function of its own, since the
-// place of that reader is cleared where its body begins.
+// As `read_any`, where `COPY` is not 0 on a reader of its own. It is a function of its own, since
+// the place of that reader is cleared where its body begins.
 #[inline(always)]
 fn read_on_copy<R: Reader, T: AttributeSink<R>, const COPY: usize>(
     input: &mut R,
@@ -411,11 +428,13 @@ fn read_on_copy<R: Reader, T: AttributeSink<R>, const COPY: usize>(
     Ok(taken)
 }
 
-/// Hands over the attribute of a specification; where it is refused, the sink stays, and the input
-/// is left anywhere. Each form is put in place with what the sink makes of its value; a chain of
-/// indirect forms is followed by a call, where `COPY` is not 0 on a reader of its own, so that the
-/// caller's stays in registers. Each number is another copy of the function: the compiler puts one
-/// in place for one caller.
+/// Reads the attribute of a specification, and hands it to the sink. Refusals: those of
+/// `EntriesRaw::read_attribute`; the sink then stays, and the input is left anywhere.
+///
+/// Each form is put in place with what the sink makes of its value; a chain of indirect forms is
+/// followed by a call, where `COPY` is not 0 on a reader of its own, so that the caller's stays in
+/// registers. Each number is another copy of the function: the compiler puts one in place for one
+/// caller.
 #[inline(always)]
 #[tactic(auto, using(crate::proofs::AttributeTurns::made_direct))]
 pub(crate) fn read_form<R: Reader, T: AttributeSink<R>, const COPY: usize>(
@@ -440,8 +459,8 @@ pub(crate) fn read_form<R: Reader, T: AttributeSink<R>, const COPY: usize>(
     read_of_variable_size::<R, T, COPY>(input, encoding, specification, sink)
 }
 
-/// As `read_form`, but only the forms of variable size are put in place; all others are read by the
-/// call.
+/// As `read_form`, with the same answers for every form, but only the forms of variable size are
+/// put in place; all others are read by the call.
 #[inline(always)]
 #[tactic(auto, using(crate::proofs::AttributeTurns::made_direct))]
 pub(crate) fn read_of_variable_size<R: Reader, T: AttributeSink<R>, const COPY: usize>(

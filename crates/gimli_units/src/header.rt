@@ -74,8 +74,10 @@ impl<R: Reader> UnitHeader<R> {
     ghost use Rattle.gimli_units.specs.Unit.{range_to, debug_info_offset, debug_types_offset};
     ghost use Rattle.gimli_units.specs.Unit.{size_of_header, unit_entry_at, takes_memory_in};
 
-    /// A header of these parts. The whole length, which is 4 or 12 and `unit_length`, has to fit
-    /// the reader's offsets, and to be no less than the number of bytes in `entries_buf`.
+    /// A header of these parts. `unit_length` is the number in the length field, `unit_offset` is
+    /// where the unit begins in `section`, and `entries_buf` reads from the first entry to the
+    /// unit's end. The whole length, `unit_length` and the 4 or 12 bytes of the length field, has
+    /// to fit the reader's offsets, and to be no less than the number of bytes in `entries_buf`.
     pub fn new(
         encoding: Encoding,
         unit_length: R::Offset,
@@ -149,14 +151,14 @@ impl<R: Reader> UnitHeader<R> {
         self.unit_length
     }
 
-    /// How the bytes of the unit are read.
+    /// The format, the version and the size of an address, by which the unit's bytes are read.
     pub fn encoding(&self) -> Encoding
         ensures { result ≡ (unit_view self.now).encoding }
     {
         self.encoding
     }
 
-    /// The type of the unit.
+    /// The type of the unit, with what the header has for it: a signature and an offset, or an id.
     pub fn type_(&self) -> UnitType<R::Offset>
         ensures { map_type R.Offset.number result ≡ (unit_view self.now).kind }
     {
@@ -187,7 +189,7 @@ impl<R: Reader> UnitHeader<R> {
         encoding.format
     }
 
-    /// Where the unit begins in `.debug_info`, if it lies there.
+    /// Where the unit begins in `.debug_info`, if it lies there, else none.
     pub fn debug_info_offset(&self) -> Option<DebugInfoOffset<R::Offset>>
         ensures { option_map (λ o. R.Offset.number o.0) result
             ≡ debug_info_offset (unit_view self.now) }
@@ -198,7 +200,7 @@ impl<R: Reader> UnitHeader<R> {
         }
     }
 
-    /// Where the unit begins in `.debug_types`, if it lies there.
+    /// Where the unit begins in `.debug_types`, if it lies there, else none.
     pub fn debug_types_offset(&self) -> Option<DebugTypesOffset<R::Offset>>
         ensures { option_map (λ o. R.Offset.number o.0) result
             ≡ debug_types_offset (unit_view self.now) }
@@ -209,7 +211,9 @@ impl<R: Reader> UnitHeader<R> {
         }
     }
 
-    /// The number of bytes of the header by its format, version and type.
+    /// The number of bytes of the header, the length field included, as its format, version and
+    /// type make it (DWARF 5, 7.5.1). Where the entries begin is not looked at: `header_size`
+    /// answers that.
     pub fn size_of_header(&self) -> usize
         ensures { result ≡ size_of_header (unit_view self.now) }
     {
@@ -225,8 +229,9 @@ impl<R: Reader> UnitHeader<R> {
         field + 2 + word + 1 + type_code + added
     }
 
-    /// Whether an address stands for none: it is all ones in the unit's size of addresses, or one
-    /// less. The size has to be 1, 2, 4 or 8.
+    /// Whether an address stands for none, as linkers write it where code was dropped: it is all
+    /// ones in the unit's size of addresses, one less, or greater than all ones. The size has to be
+    /// 1, 2, 4 or 8.
     pub fn is_tombstone_address(&self, address: u64) -> bool
         requires { IsTrue (is_size (unit_view self.now).encoding.address_size) }
         ensures { IsTrue result
@@ -251,8 +256,8 @@ impl<R: Reader> UnitHeader<R> {
             .unwrap()
     }
 
-    /// The number of bytes before the entries, the length field among them; `size_of_header` tells
-    /// the same by format, version and type.
+    /// The number of bytes before the entries, the length field included: the whole length less the
+    /// bytes of the entries. Of a header that was parsed, `size_of_header` answers the same.
     pub fn header_size(&self) -> R::Offset
         ensures { R.Offset.number result ≡ header_size (unit_view self.now) }
     {
@@ -261,15 +266,16 @@ impl<R: Reader> UnitHeader<R> {
             .unwrap()
     }
 
-    /// The offset of the first entry.
+    /// The offset of the first entry in the unit; the unit's end where it has no bytes of entries.
     pub fn root_offset(&self) -> UnitOffset<R::Offset>
         ensures { R.Offset.number result.0 ≡ header_size (unit_view self.now) }
     {
         UnitOffset(self.header_size())
     }
 
-    /// The table of the unit's abbreviations (DWARF 5, 7.5.3). Memory is taken only where its first
-    /// declaration is read as far as its attributes.
+    /// The table of the unit's abbreviations: the declarations in `.debug_abbrev` from the header's
+    /// offset on (DWARF 5, 7.5.3). Memory is taken only where the first declaration is read as far
+    /// as its attributes.
     ///
     /// Refusals: those of `DebugAbbrev::abbreviations`.
     pub fn abbreviations<A: Allocator + Copy>(
@@ -288,7 +294,8 @@ impl<R: Reader> UnitHeader<R> {
         debug_abbrev.abbreviations(alloc, self.debug_abbrev_offset)
     }
 
-    // Whether an offset is that of an entry's byte: not before the first, and before the end.
+    /// Whether an offset in the unit is that of a byte of its entries: not before the first, and
+    /// before the unit's end, which itself is out of bounds.
     pub(crate) fn is_in_bounds(&self, offset: UnitOffset<R::Offset>) -> bool
         ensures { result ≡ in_bounds (unit_view self.now) (R.Offset.number offset.0) }
     {
@@ -298,7 +305,8 @@ impl<R: Reader> UnitHeader<R> {
         start <= number && number < end
     }
 
-    /// The bytes from an offset to the unit's end. Refusal: `OffsetOutOfBounds`.
+    /// A reader of the bytes from an offset in the unit to the unit's end. Refusal:
+    /// `OffsetOutOfBounds`, where the offset is not that of a byte of the entries.
     #[tactic(auto, unfolding(crate::specs::Unit::range_from, gimli_base::specs::Reading::skip_at))]
     pub fn range_from(&self, idx: RangeFrom<UnitOffset<R::Offset>>) -> Result<R>
         ensures { answer_of R.view result
@@ -313,9 +321,9 @@ impl<R: Reader> UnitHeader<R> {
         Ok(range)
     }
 
-    /// The bytes from an offset to the one before another, which must not be before it. Refusal:
-    /// `OffsetOutOfBounds` of the first offset, or else of the second; so the unit's end is none
-    /// that can be named.
+    /// A reader of the bytes from an offset in the unit to the one before another, which must not
+    /// be before it. Refusal: `OffsetOutOfBounds` of the first offset, or else of the second, where
+    /// it is not that of a byte of the entries; so the unit's end is none that can be named.
     #[tactic(auto, unfolding(crate::specs::Unit::range_of, crate::specs::Unit::range_from, gimli_base::specs::Reading::truncate_at))]
     pub fn range(&self, idx: Range<UnitOffset<R::Offset>>) -> Result<R>
         requires { R.Offset.number idx.start.0 ≤ R.Offset.number idx.end.0 }
@@ -333,7 +341,9 @@ impl<R: Reader> UnitHeader<R> {
         Ok(range)
     }
 
-    /// The bytes from the first entry to the one before an offset. Refusal: `OffsetOutOfBounds`.
+    /// A reader of the bytes from the first entry to the one before an offset in the unit. Refusal:
+    /// `OffsetOutOfBounds`, where the offset is not that of a byte of the entries; the unit's end
+    /// is none.
     #[tactic(auto, unfolding(crate::specs::Unit::range_to, gimli_base::specs::Reading::truncate_at))]
     pub fn range_to(&self, idx: RangeTo<UnitOffset<R::Offset>>) -> Result<R>
         ensures { answer_of R.view result
@@ -348,10 +358,12 @@ impl<R: Reader> UnitHeader<R> {
         Ok(range)
     }
 
-    /// The entry at an offset, at depth 0.
+    /// The entry that decoding at an offset in the unit gives, at depth 0. Whether the entries
+    /// before it end there is not looked at.
     ///
-    /// Refusals: `OffsetOutOfBounds`, then those of reading the entry, and `NoEntryAtGivenOffset`
-    /// at a null. Memory is taken only where the entry's declaration has attributes.
+    /// Refusals: `OffsetOutOfBounds`, then those of `EntriesRaw::read_entry`, and
+    /// `NoEntryAtGivenOffset` at a null. Memory is taken only where the entry's declaration has
+    /// attributes.
     #[tactic(auto, unfolding(crate::specs::Unit::unit_entry_at, crate::specs::Unit::entries_from))]
     pub fn entry<A: Allocator + Copy>(
         &self,
@@ -380,8 +392,9 @@ impl<R: Reader> UnitHeader<R> {
         }
     }
 
-    /// A reader of the entries from an offset on, or from the first. Refusal: `OffsetOutOfBounds`,
-    /// also without an offset where the unit has no bytes of entries.
+    /// A reader of the entries from `offset` on, an offset in the unit, or from the first without
+    /// one; what is read first has depth 0. Refusal: `OffsetOutOfBounds`, also without an offset
+    /// where the unit has no bytes of entries.
     #[tactic(auto, unfolding(crate::specs::Unit::entries_from, crate::specs::Unit::range_from))]
     pub fn entries_raw<'abbrev, A: Allocator>(
         &self,
@@ -396,8 +409,8 @@ impl<R: Reader> UnitHeader<R> {
         Ok(EntriesRaw::new(input, self.encoding, abbreviations, start))
     }
 
-    /// A cursor over all the entries, which follows sibling references. It never refuses: where the
-    /// unit has no bytes of entries, it ends at once.
+    /// A cursor before the first entry of the unit, whose `next_sibling` follows sibling
+    /// references. It never refuses: where the unit has no bytes of entries, it ends at once.
     pub fn entries<'abbrev, A: Allocator + Copy>(
         &self,
         alloc: A,
@@ -408,8 +421,8 @@ impl<R: Reader> UnitHeader<R> {
         EntriesCursor::new(alloc, self.all_entries(abbreviations), true)
     }
 
-    /// A cursor over the entries from an offset on, which follows sibling references. Refusal:
-    /// `OffsetOutOfBounds`.
+    /// A cursor before the entry at an offset in the unit, which has depth 0; its `next_sibling`
+    /// follows sibling references. Refusal: `OffsetOutOfBounds`.
     pub fn entries_at_offset<'abbrev, A: Allocator + Copy>(
         &self,
         alloc: A,
@@ -423,7 +436,8 @@ impl<R: Reader> UnitHeader<R> {
         Ok(EntriesCursor::new(alloc, raw, true))
     }
 
-    /// A cursor over all the entries, which follows no reference. It never refuses.
+    /// A cursor before the first entry of the unit, which follows no sibling reference, and reads
+    /// every entry. It never refuses: where the unit has no bytes of entries, it ends at once.
     pub fn entries_plain<'abbrev, A: Allocator + Copy>(
         &self,
         alloc: A,
@@ -434,8 +448,8 @@ impl<R: Reader> UnitHeader<R> {
         EntriesCursor::new(alloc, self.all_entries(abbreviations), false)
     }
 
-    /// A cursor over the entries from an offset on, which follows no reference. Refusal:
-    /// `OffsetOutOfBounds`.
+    /// A cursor before the entry at an offset in the unit, which has depth 0; it follows no sibling
+    /// reference, and reads every entry. Refusal: `OffsetOutOfBounds`.
     pub fn entries_plain_at_offset<'abbrev, A: Allocator + Copy>(
         &self,
         alloc: A,
@@ -449,7 +463,8 @@ impl<R: Reader> UnitHeader<R> {
         Ok(EntriesCursor::new(alloc, raw, false))
     }
 
-    // A reader of all the entries.
+    // A reader of all the entries of the unit, from depth 0; where there are none, it has nothing
+    // to read.
     fn all_entries<'abbrev, A: Allocator>(
         &self,
         abbreviations: &'abbrev Abbreviations<A>,

@@ -11,8 +11,8 @@ use gimli_base::{Reader, Result};
 use std::alloc::Allocator;
 
 impl<'abbrev, R: Reader, A: Allocator> EntriesCursor<'abbrev, R, A> {
-    /// Reads on to the next entry that is no null, and lends it. Answers `None` at the end, and
-    /// then there is no current entry.
+    /// Reads on to the next entry that is no null, of whatever depth, and lends it. No reference is
+    /// followed. Answers `None` at the end, and then there is no current entry.
     ///
     /// Refusals: those of `next_entry`.
     pub fn next_dfs(&mut self) -> Result<Option<&DebuggingInformationEntry<R, A>>>

@@ -22,7 +22,7 @@ use gimli_base::{
 };
 use std::alloc::Allocator;
 
-// Passes so many bytes, which are there.
+// Passes `size` bytes, which are there.
 #[inline(always)]
 fn pass_bytes<R: Reader>(input: &mut R, size: u64)
     requires { size ≤ length (R.view input.old).bytes }
@@ -35,7 +35,7 @@ fn pass_bytes<R: Reader>(input: &mut R, size: u64)
     }
 }
 
-// Whether addresses of so many bytes can be read.
+// Whether addresses of so many bytes can be read: 1, 2, 4 or 8.
 #[inline(always)]
 fn is_valid_address_size(address_size: u8) -> bool
     ensures { result ≡ is_size address_size }
@@ -43,7 +43,8 @@ fn is_valid_address_size(address_size: u8) -> bool
     address_size == 1 || address_size == 2 || address_size == 4 || address_size == 8
 }
 
-// Whether no offset in the values of a step has more than four bytes.
+// True: no offset in the values of a step has more than four bytes. False: by the format, by a
+// reference of 8 bytes, or by the size of an address in version 2, one may have.
 #[inline(always)]
 fn has_short_offsets(step: &Step, encoding: Encoding) -> bool
     ensures { result ≡ has_short_offsets encoding step.now }
@@ -53,7 +54,8 @@ fn has_short_offsets(step: &Step, encoding: Encoding) -> bool
         && (encoding.version != 2 || encoding.address_size <= 4)
 }
 
-// Whether reading refuses no value of a step whose bytes are there.
+// True: reading refuses no value of a step whose bytes are there. False: by the size of an address,
+// or as an offset may not fit the reader's offsets, it may refuse one.
 #[inline(always)]
 fn reads_all<R: Reader>(step: &Step, encoding: Encoding) -> bool
     ensures { result ≡ reads_all R.Offset.limit encoding step.now }
@@ -63,8 +65,8 @@ fn reads_all<R: Reader>(step: &Step, encoding: Encoding) -> bool
             || (R::Offset::from_u64(0xffff_ffff).is_ok() && has_short_offsets(step, encoding)))
 }
 
-/// Passes the values of a step, if reading refuses none of them and all their bytes are left;
-/// answers whether it does, and else the input stays.
+/// Passes the values of a step together, if all their bytes are left, and if reading refuses none
+/// of them, as `reads_all` says. Answers whether it does; else the input stays.
 #[inline(always)]
 pub(crate) fn pass_step<R: Reader>(input: &mut R, encoding: Encoding, step: &Step) -> bool
     ensures decides { result ≡ (reads_all R.Offset.limit encoding step.now
@@ -84,7 +86,8 @@ pub(crate) fn pass_step<R: Reader>(input: &mut R, encoding: Encoding, step: &Ste
     true
 }
 
-// Passes a value as it is read; where it is refused, the input is left anywhere.
+// Passes the value of an attribute: leaves the input where reading it would. Refusals: those of
+// `EntriesRaw::read_attribute`; the input is then left anywhere.
 #[inline(always)]
 #[tactic(auto, using(crate::proofs::AttributeTurns::passed_as))]
 fn pass_value<R: Reader>(
@@ -98,8 +101,8 @@ fn pass_value<R: Reader>(
     read_of_variable_size::<R, Ignore, 1>(input, encoding, specification, &mut Ignore)
 }
 
-// Where the reference of this specification leads in its unit, if it is one; where it is refused,
-// the input is left anywhere.
+// Reads the attribute of a specification, and answers where it leads, if its value is a `UnitRef`,
+// else none. Refusals: those of `EntriesRaw::read_attribute`; the input is then left anywhere.
 #[inline(never)]
 #[tactic(auto, using(crate::proofs::AttributeTurns::as_it_is))]
 fn read_reference<R: Reader>(
@@ -116,8 +119,9 @@ fn read_reference<R: Reader>(
     Ok(attribute.reference())
 }
 
-// The same by a call that gets a reader of its own, so that the caller's stays in registers. (It is
-// a function of its own, as the place of that reader is cleared where its body begins.)
+// As `read_reference`, by a call that gets a reader of its own, so that the caller's stays in
+// registers. (It is a function of its own, as the place of that reader is cleared where its body
+// begins.)
 #[inline(always)]
 fn read_reference_on_copy<R: Reader>(
     input: &mut R,
@@ -135,11 +139,13 @@ fn read_reference_on_copy<R: Reader>(
     Ok(reference)
 }
 
-// Where the first reference to a sibling leads, if there is one; or none before it is found.
+// None before a `DW_AT_sibling` is found; then where the first leads, or none where its value is no
+// `UnitRef`.
 type Sibling<O> = Option<Option<UnitOffset<O>>>;
 
-// Passes a value, or reads it, if it is the reference to a sibling that is not found yet; where it
-// is refused, the input is left anywhere.
+// Passes the value of an attribute; where it is a `DW_AT_sibling` and none is found yet, it is
+// read. Answers what is found then: the same as before, or where it leads. Refusals: those of
+// `EntriesRaw::read_attribute`; the input is then left anywhere.
 #[inline(always)]
 fn pass_one<R: Reader>(
     input: &mut R,
@@ -159,7 +165,9 @@ fn pass_one<R: Reader>(
     Ok(Some(reference))
 }
 
-// Passes values one by one; where one is refused, the input is left anywhere.
+// Passes the values of these specifications one by one. Answers where the first `DW_AT_sibling`
+// leads: by `found`, if that has one, else by these; none without one, and where its value is no
+// `UnitRef`. Refusals: those of `EntriesRaw::read_attribute`; the input is then left anywhere.
 #[inline(never)]
 fn pass_each<R: Reader>(
     input: &mut R,
@@ -181,7 +189,7 @@ fn pass_each<R: Reader>(
     Ok(found.flatten())
 }
 
-// The same by a call that gets a reader of its own, as above.
+// As `pass_each`, by a call that gets a reader of its own, as in `read_reference_on_copy`.
 #[inline(always)]
 fn pass_each_on_copy<R: Reader>(
     input: &mut R,
@@ -200,9 +208,10 @@ fn pass_each_on_copy<R: Reader>(
     Ok(sibling)
 }
 
-// Passes the values of a declaration by its steps; where one is refused, the input is left
-// anywhere. From a step on whose bytes are not there, or which reading may refuse, they are passed
-// one by one.
+// Passes all values of an entry of this declaration by its steps, and answers as `pass_each`; where
+// `found` is some, no reference is read. From a step on whose bytes are not there, or which reading
+// may refuse, they are passed one by one. Refusals: those of `EntriesRaw::read_attribute`; the
+// input is then left anywhere.
 #[inline(always)]
 fn pass_steps<R: Reader, A: Allocator>(
     input: &mut R,
@@ -232,8 +241,9 @@ fn pass_steps<R: Reader, A: Allocator>(
     pass_each_on_copy(input, encoding, left, found)
 }
 
-/// Passes what reading the attributes of a declaration's entry reads, with the same refusals; where
-/// one is refused, the input is left anywhere.
+/// Passes all values of an entry of this declaration: leaves the input where reading its attributes
+/// would, without taking memory. Refusals: those of `EntriesRaw::read_attribute`, the same as
+/// reading; the input is then left anywhere.
 #[inline(always)]
 pub(crate) fn pass_declared<R: Reader, A: Allocator>(
     input: &mut R,
@@ -253,7 +263,8 @@ pub(crate) fn pass_declared<R: Reader, A: Allocator>(
     Ok(())
 }
 
-/// The same, and answers where the first reference to a sibling leads.
+/// As `pass_declared`, and answers where the first `DW_AT_sibling` leads, if its value is a
+/// `UnitRef`, else none. Whether the entry has children is not looked at.
 #[inline(always)]
 pub(crate) fn pass_and_find_sibling<R: Reader, A: Allocator>(
     input: &mut R,

@@ -35,7 +35,8 @@ use gimli_base::{
 use std::alloc::Allocator;
 use std::marker::Model;
 
-/// A reader of entries that is told what to read next.
+/// A reader of entries, of which each call says what is read next: an entry, or its code and its
+/// attributes.
 ///
 /// A refused call leaves it as it was.
 #[derive(Drop)]
@@ -66,8 +67,9 @@ impl<'abbrev, R: Reader, A: Allocator> Model for EntriesRaw<'abbrev, R, A> {
 }
 
 impl<'abbrev, R: Reader, A: Allocator> EntriesRaw<'abbrev, R, A> {
-    /// A reader of the entries in `input`, which begins at `offset` of its unit, at depth 0; the
-    /// offset of its end fits the reader's offsets.
+    /// A reader of the entries in `input`, whose first byte has the offset `offset` in its unit;
+    /// what is read first has depth 0. The offset of the input's end has to fit the reader's
+    /// offsets.
     pub fn new(
         input: R,
         encoding: Encoding,
@@ -116,7 +118,7 @@ impl<'abbrev, R: Reader, A: Allocator> EntriesRaw<'abbrev, R, A> {
         self.input.is_empty()
     }
 
-    /// The offset of what is read next.
+    /// The offset in the unit of what is read next, or of the input's end where no byte is left.
     #[inline]
     pub fn next_offset(&self) -> UnitOffset<R::Offset>
         ensures { R.Offset.number result.0 ≡ next_offset_of self.now }
@@ -133,7 +135,8 @@ impl<'abbrev, R: Reader, A: Allocator> EntriesRaw<'abbrev, R, A> {
         self.depth
     }
 
-    // Whether there is something to read, and it has another depth.
+    /// Whether something is left to read, an entry or a null, and its depth is not `depth`. False
+    /// where nothing is left.
     #[inline(always)]
     pub(crate) fn is_at_other_depth(&self, depth: isize) -> bool
         ensures left { result ≡ true → length self.now.rest.bytes ≡ 0 → ⊥ }
@@ -144,7 +147,8 @@ impl<'abbrev, R: Reader, A: Allocator> EntriesRaw<'abbrev, R, A> {
         !self.is_empty() && self.depth != depth
     }
 
-    // Leaves nothing to read.
+    /// Passes all that is left, as `Reader::empty`: `next_offset` is then the end, and the depth
+    /// stays.
     #[inline(always)]
     pub(crate) fn empty(&mut self)
         ensures { self.new ≡ stands_at self.old (end_of_view self.old.rest) self.old.depth }
@@ -152,8 +156,9 @@ impl<'abbrev, R: Reader, A: Allocator> EntriesRaw<'abbrev, R, A> {
         self.input.empty();
     }
 
-    // Goes to an offset at a depth, where the offset is not before what is read next, and not past
-    // the end.
+    /// Goes on to an offset in the unit, if it is not before `next_offset`, and not past the end of
+    /// the input; `new_depth` is then the depth of what is read next. Else the reader stays as it
+    /// was, its depth too.
     #[inline(always)]
     pub(crate) fn go_to(&mut self, offset: UnitOffset<R::Offset>, new_depth: isize)
         requires { unsigned_abs new_depth + length self.old.rest.bytes < 2 ^ 63 }
@@ -170,9 +175,12 @@ impl<'abbrev, R: Reader, A: Allocator> EntriesRaw<'abbrev, R, A> {
         }
     }
 
-    /// Reads the code of an entry: its declaration, or none for a null.
+    /// Reads the code of an entry alone: its declaration, or `None` for a null. The entry's
+    /// attributes are then next, and `next_depth` is already that after the entry: one more where
+    /// it has children, one less after a null.
     ///
-    /// Refusals: `UnexpectedEof`, `BadUnsignedLeb128`, `InvalidAbbreviationCode`.
+    /// Refusals: `UnexpectedEof`, also where no byte is left, `BadUnsignedLeb128`,
+    /// `InvalidAbbreviationCode`.
     #[inline(always)]
     pub fn read_abbreviation(&mut self) -> Result<Option<&'abbrev Abbreviation<A>>>
         ensures value { read_of (answer_of option_copied result) self.new.rest
@@ -189,7 +197,7 @@ impl<'abbrev, R: Reader, A: Allocator> EntriesRaw<'abbrev, R, A> {
         Ok(Some(abbreviation))
     }
 
-    // Goes past a null that was read.
+    // Goes on to `rest`, which stands after a null that was read: the depth is then one less.
     #[inline(always)]
     fn go_past_null(&mut self, rest: R)
         requires { length (R.view rest).bytes < length self.old.rest.bytes }
@@ -199,7 +207,8 @@ impl<'abbrev, R: Reader, A: Allocator> EntriesRaw<'abbrev, R, A> {
         self.depth -= 1;
     }
 
-    // Goes past an entry that was read, to its children where it has some.
+    // Goes on to `rest`, which stands after an entry that was read, or after its code: the depth is
+    // then one more where the entry has children.
     #[inline(always)]
     fn go_past_entry(&mut self, rest: R, has_children: bool)
         requires { length (R.view rest).bytes < length self.old.rest.bytes }
@@ -212,12 +221,13 @@ impl<'abbrev, R: Reader, A: Allocator> EntriesRaw<'abbrev, R, A> {
         }
     }
 
-    /// Reads an entry, in place of the one in `entry`: its code, and its attributes. Answers
-    /// whether it is one, and not a null.
+    /// Reads an entry, in place of the one in `entry`: its code, and its attributes. Answers true
+    /// for an entry, and false for a null. `entry` then has the offset and the depth of what was
+    /// read, a null's too.
     ///
-    /// Refusals: those of `read_abbreviation` and `read_attributes`; `entry` is then a null with
-    /// the offset and the depth of what was refused. Memory is taken only where the declaration has
-    /// attributes.
+    /// Refusals: those of `read_abbreviation`, then those of `read_attributes`; `entry` is then a
+    /// null with the offset and the depth of what was refused. Memory is taken only where the
+    /// declaration has attributes.
     #[inline(always)]
     #[tactic(auto, unfolding(crate::specs::Entry::entry_at))]
     pub fn read_entry(&mut self, entry: &mut DebuggingInformationEntry<R, A>) -> Result<bool>
@@ -261,8 +271,9 @@ impl<'abbrev, R: Reader, A: Allocator> EntriesRaw<'abbrev, R, A> {
     }
 
     // Reads the attributes of these specifications, which begin at `start`, into an empty list, and
-    // goes past their entry; where they are refused, the list is left anywhere. They are read on
-    // a reader whose address no call gets, so that it stays in registers.
+    // goes past their entry. Refusals: those of `read_attributes`; the reader then stays as it was,
+    // and the list is left with any attributes. They are read on a reader whose address no call
+    // gets, so that it stays in registers.
     #[inline(never)]
     fn read_values(
         &mut self,
@@ -288,7 +299,7 @@ impl<'abbrev, R: Reader, A: Allocator> EntriesRaw<'abbrev, R, A> {
     }
 
     /// Reads what `read_entry` reads, but keeps no attribute. Answers the declaration of the entry,
-    /// or none for a null.
+    /// or `None` for a null.
     ///
     /// Refusals: those of `read_entry`, at the same bytes the same; no memory is taken.
     #[inline(always)]
@@ -315,7 +326,8 @@ impl<'abbrev, R: Reader, A: Allocator> EntriesRaw<'abbrev, R, A> {
     }
 
     /// The same as `read_head`, and beside it where an entry with children has its sibling: where
-    /// its first DW_AT_sibling leads, if that is a reference in the unit.
+    /// its first `DW_AT_sibling` leads, if its value is a `UnitRef`, else none. The reference is
+    /// not followed, and where it leads is not looked at.
     ///
     /// Refusals: those of `read_entry`, at the same bytes the same; no memory is taken.
     #[inline(always)]
@@ -349,8 +361,9 @@ impl<'abbrev, R: Reader, A: Allocator> EntriesRaw<'abbrev, R, A> {
         Ok((Some(declared), sibling))
     }
 
-    // Passes the attributes of an entry, which begin in `rest`, and goes past it. Answers where its
-    // sibling is, if it has children and says so.
+    // Passes the attributes of an entry of this abbreviation, which begin in `rest`, and goes past
+    // the entry. Answers where its sibling is, as `read_head_and_sibling`. Refusals: those of
+    // `read_attribute`; the reader then stays as it was.
     #[inline(always)]
     fn pass_values(
         &mut self,
@@ -376,10 +389,11 @@ impl<'abbrev, R: Reader, A: Allocator> EntriesRaw<'abbrev, R, A> {
         Ok(None)
     }
 
-    /// Reads the attribute of a specification.
+    /// Reads the attribute of a specification, whose value is next.
     ///
     /// Refusals: `UnexpectedEof`, `BadUnsignedLeb128`, `BadSignedLeb128`, `UnsupportedAddressSize`,
-    /// `UnsupportedOffset`, `UnsupportedOffsetSize`, `UnknownForm`, `InvalidImplicitConst`.
+    /// `UnsupportedOffset`, `UnsupportedOffsetSize`, `UnknownForm`, and `InvalidImplicitConst`
+    /// where an indirect form leads to implicit_const.
     #[inline(never)]
     pub fn read_attribute(&mut self, specification: AttributeSpecification) -> Result<Attribute<R>>
         ensures value { let answer = answer_of (map_attribute R.view R.Offset.number) result in
@@ -412,8 +426,9 @@ impl<'abbrev, R: Reader, A: Allocator> EntriesRaw<'abbrev, R, A> {
         Ok(read)
     }
 
-    /// Reads the attribute of a specification and hands it to a sink, which has room for it; put in
-    /// place where it is called, as `read_attribute_inline`.
+    /// Reads the attribute of a specification and hands it to a sink, which has room for it;
+    /// answers what the sink answers. It is put in place where it is called, as
+    /// `read_attribute_inline`.
     ///
     /// Refusals: those of `read_attribute`; the sink then stays too.
     #[inline(always)]
@@ -434,7 +449,9 @@ impl<'abbrev, R: Reader, A: Allocator> EntriesRaw<'abbrev, R, A> {
         Ok(taken)
     }
 
-    /// Passes the attributes of these specifications; those of known sizes are passed together.
+    /// Passes the attributes of these specifications; those of known sizes are passed together. It
+    /// leaves what `read_attributes` leaves where that is not refused, and may pass what that
+    /// refuses.
     ///
     /// Refusals, of the first that can't be passed: `UnexpectedEof`, whose place lies between the
     /// call's start and the input's end, `BadUnsignedLeb128`, `UnsupportedOffset`, `UnknownForm`.
@@ -457,7 +474,8 @@ impl<'abbrev, R: Reader, A: Allocator> EntriesRaw<'abbrev, R, A> {
     /// Reads the attributes of these specifications, in their order, in place of those in `attrs`;
     /// room for all is made first.
     ///
-    /// Refusals: those of `read_attribute`, and `OutOfMemory`; `attrs` is then empty.
+    /// Refusals: those of `read_attribute`, and `OutOfMemory`; `attrs` is then empty. Without
+    /// specifications nothing is refused.
     pub fn read_attributes(
         &mut self,
         specifications: &[AttributeSpecification],
@@ -485,8 +503,9 @@ impl<'abbrev, R: Reader, A: Allocator> EntriesRaw<'abbrev, R, A> {
     }
 }
 
-// The declaration of the entry that is next, or none for a null; where it is refused, the input is
-// left anywhere.
+// Reads the code of an entry: its declaration, or `None` for the code 0, that of a null. Refusals:
+// `UnexpectedEof`, `BadUnsignedLeb128`, then `InvalidAbbreviationCode`; the input is then left
+// anywhere.
 #[inline(always)]
 #[tactic(auto, unfolding(crate::specs::Entry::abbreviation_at))]
 fn parse_abbreviation<'abbrev, R: Reader, A: Allocator>(
@@ -506,8 +525,9 @@ fn parse_abbreviation<'abbrev, R: Reader, A: Allocator>(
     Ok(Some(abbreviation))
 }
 
-// The attributes of these specifications, in an empty list; where they are refused, the input and
-// the list are left anywhere.
+// Reads the attributes of these specifications, in their order, into an empty list; room for all is
+// made first. Refusals: `OutOfMemory`, and those of `read_attribute`, none without specifications;
+// the input and the list are then left anywhere.
 #[inline(always)]
 fn parse_attributes<R: Reader, A: Allocator>(
     input: &mut R,

@@ -1,4 +1,5 @@
-//! Passing attributes without reading them.
+//! Passing the values of attributes by their lengths alone. What reading refuses for another reason
+//! is passed here, and refused in the module `pass`.
 
 ghost use Rattle.std.specs.Prelude.{◌≡◌, IfErr, Ok, None, false};
 ghost use Rattle.gimli_base.specs.Reading.{read_of};
@@ -15,7 +16,9 @@ use gimli_base::{
     Result,
 };
 
-// Passes a form that is not indirect; where it is refused, the input is left anywhere.
+// Passes a value of `form`. Refusals: `UnexpectedEof`; `BadUnsignedLeb128` and `UnsupportedOffset`
+// of the length of a block; `UnknownForm` of a form that is not known, and of an indirect one. The
+// input is then left anywhere.
 fn skip_direct<R: Reader>(input: &mut R, encoding: Encoding, form: DwForm) -> Result<()>
     ensures { read_of result (R.view input.new)
         ≡ pass_direct R.Offset.limit encoding form.0 (R.view input.old) }
@@ -29,8 +32,9 @@ fn skip_direct<R: Reader>(input: &mut R, encoding: Encoding, form: DwForm) -> Re
     }
 }
 
-// Passes a form of variable size, whose bytes tell how many they are; with any other it answers
-// none. Where it is refused, the input is left anywhere.
+// Passes a value of a form of variable size, whose bytes tell how many they are. `None`: the form
+// is not one of these, and nothing is passed. Refusals: `UnexpectedEof`; `BadUnsignedLeb128` and
+// `UnsupportedOffset` of the length of a block. The input is then left anywhere.
 #[tactic(auto, unfolding(crate::specs::Passing::pass_direct, crate::specs::Taking::has_variable_size, gimli_base::specs::Reading::sized_offset_at))]
 fn skip_variable<R: Reader>(input: &mut R, encoding: Encoding, form: DwForm) -> Result<Option<()>>
     ensures value { IfRead result (λ answer. read_of answer (R.view input.new)
@@ -75,7 +79,8 @@ fn skip_variable<R: Reader>(input: &mut R, encoding: Encoding, form: DwForm) -> 
     Ok(Some(()))
 }
 
-// Passes a value on a reader of its own; where it is refused, the input is left anywhere.
+// As `skip_rare`, by a call that gets a copy of the input, so that the caller's reader stays in
+// registers.
 #[inline(always)]
 fn skip_value<R: Reader>(input: &mut R, encoding: Encoding, form: DwForm) -> Result<()>
     ensures { read_of result (R.view input.new)
@@ -87,7 +92,8 @@ fn skip_value<R: Reader>(input: &mut R, encoding: Encoding, form: DwForm) -> Res
     Ok(())
 }
 
-// Passes a value; where it is refused, the input is left anywhere.
+// Passes a value of `form`, which may be indirect. Refusals: those of `direct_form`, then those of
+// `skip_direct`. The input is then left anywhere.
 #[inline(never)]
 #[tactic(auto, unfolding(crate::specs::Passing::pass_at))]
 fn skip_rare<R: Reader>(input: &mut R, encoding: Encoding, form: DwForm) -> Result<()>
@@ -98,8 +104,12 @@ fn skip_rare<R: Reader>(input: &mut R, encoding: Encoding, form: DwForm) -> Resu
     skip_direct(input, encoding, form)
 }
 
-/// Passes the values of these specifications, those of known sizes together; where one is refused,
-/// the input is left anywhere.
+/// Passes the values of these specifications, in their order; those of known sizes are passed
+/// together.
+///
+/// Refusals, of the first value that can't be passed: `UnexpectedEof`, whose place lies between the
+/// input's first byte and its end, `BadUnsignedLeb128`, `UnsupportedOffset`, `UnknownForm`. The
+/// input is then left anywhere.
 #[inline(always)]
 pub(crate) fn skip_all<R: Reader>(
     input: &mut R,

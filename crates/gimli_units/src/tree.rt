@@ -50,9 +50,9 @@ impl<'abbrev, R: Reader, A: Allocator> Model for EntriesTree<'abbrev, R, A> {
 impl<R: Reader> UnitHeader<R> {
     ghost use Rattle.gimli_units.specs.Unit.{UnitView};
 
-    /// The entries from an offset on as a tree, or those from the first; sibling references are
-    /// followed. Refusal: `OffsetOutOfBounds`, also without an offset where the unit has no bytes
-    /// of entries.
+    /// The entries from an offset in the unit on as a tree, or those from the first; what stands
+    /// there is the root, at depth 0. Sibling references are followed. Refusal:
+    /// `OffsetOutOfBounds`, also without an offset where the unit has no bytes of entries.
     pub fn entries_tree<'abbrev, A: Allocator + Copy>(
         &self,
         alloc: A,
@@ -68,7 +68,8 @@ impl<R: Reader> UnitHeader<R> {
 }
 
 impl<'abbrev, R: Reader, A: Allocator + Copy> EntriesTree<'abbrev, R, A> {
-    // A tree of the entries that `start` reads.
+    // A tree of the entries that `start` reads, of which the first is the root. Nothing is read
+    // yet.
     fn new(alloc: A, start: EntriesRaw<'abbrev, R, A>) -> Self
         requires some { 0 < length start.rest.bytes }
         requires small { length start.rest.bytes < 2 ^ 63 }
@@ -147,8 +148,9 @@ impl<'abbrev, R: Reader, A: Allocator> EntriesTree<'abbrev, R, A> {
     }
 
     /// Goes to the next entry of a depth, as `EntriesTreeIter::next` does, without lending the
-    /// tree; the depth is not the least of its type. Answers false at a null of that depth, and at
-    /// the end of the bytes.
+    /// tree; entries of other depths are passed, shallower ones too. The depth is not the least of
+    /// its type. Answers false at a null of that depth, and at the end of the bytes; `entry` is
+    /// then a null.
     ///
     /// Refusals: those of `EntriesRaw::read_entry`, with `OutOfMemory` only where the declaration
     /// has attributes. Nothing is then left to read until the root is asked for, and `entry` is a
@@ -225,7 +227,7 @@ impl<'abbrev, 'tree, R: Reader, A: Allocator> EntriesTreeNode<'abbrev, 'tree, R,
         self.tree.entry()
     }
 
-    /// How many entries were read since the root was asked for last.
+    /// How many entries were read since the root was asked for last, as `EntriesTree::reads`.
     #[inline]
     pub fn reads(&self) -> usize
         ensures count { result ≡ self.now.tree.now.cursor.reads }
@@ -234,7 +236,8 @@ impl<'abbrev, 'tree, R: Reader, A: Allocator> EntriesTreeNode<'abbrev, 'tree, R,
         self.tree.reads()
     }
 
-    /// The children of the entry; where none follow, the list is closed at once.
+    /// The list of the entry's children, before the first; nothing is read. Where no children
+    /// follow, the list is closed at once.
     pub fn children(self) -> EntriesTreeIter<'abbrev, 'tree, R, A>
         ensures same_reference { result.tree.ghost_name ≡ self.entry.tree.ghost_name }
         ensures same_tree { result.tree.now ≡ self.entry.tree.now }
@@ -257,7 +260,7 @@ impl<'abbrev, 'tree, R: Reader, A: Allocator> EntriesTreeNode<'abbrev, 'tree, R,
 }
 
 impl<'abbrev, 'tree, R: Reader, A: Allocator> EntriesTreeIter<'abbrev, 'tree, R, A> {
-    /// How many entries were read since the root was asked for last.
+    /// How many entries were read since the root was asked for last, as `EntriesTree::reads`.
     #[inline]
     pub fn reads(&self) -> usize
         ensures count { result ≡ self.now.tree.now.cursor.reads }
@@ -314,7 +317,8 @@ impl<'abbrev, 'tree, R: Reader, A: Allocator> EntriesTreeIter<'abbrev, 'tree, R,
         tree.entry()
     }
 
-    /// The node that the tree stands on: after an `advance` that answered true, the child.
+    /// The node that the tree stands on, whose entry is the one that was read last: after an
+    /// `advance` that answered true, the child.
     pub fn node<'me>(&'me mut self) -> EntriesTreeNode<'abbrev, 'me, R, A>
         ensures tree { result.tree.now ≡ self.old.tree.now }
     {
@@ -329,8 +333,8 @@ impl<'abbrev, 'tree, R: Reader, A: Allocator> EntriesTreeIter<'abbrev, 'tree, R,
     ///
     /// An entry whose `DW_AT_sibling` leads on in the unit is left for where it leads, with what is
     /// below it unread. So the children are those of plain walking where these references are
-    /// honest; where they are not, a child is still what decoding at its offset gives, told with
-    /// the list's depth.
+    /// honest; where they are not, a child is still what decoding at its offset gives, with the
+    /// list's depth.
     ///
     /// Refusals: those of `EntriesRaw::read_entry`. Every list of the tree is then at its end,
     /// until `root` is asked for.

@@ -48,6 +48,7 @@ impl<'abbrev, R: Reader, A: Allocator> Model for EntriesTreeWalker<'abbrev, R, A
 
 impl<'abbrev, R: Reader, A: Allocator> EntriesTree<'abbrev, R, A> {
     /// A walk over the tree, which stands on no node and in no list until the root is asked for.
+    /// `alloc` is for the lists; no memory is taken yet.
     pub fn walk(self, alloc: A) -> EntriesTreeWalker<'abbrev, R, A>
         ensures { result ≡ at_none self.entry [] }
     {
@@ -59,7 +60,9 @@ impl<'abbrev, R: Reader, A: Allocator> EntriesTree<'abbrev, R, A> {
         }
     }
 
-    // Goes to the next node of a list, of which this is the depth while it is open.
+    // Goes to the next node of a list of children, whose depth `list` is while it is open; it is
+    // none when the list is closed. True: the tree stands on the node. False: the list is at its
+    // end, or it is closed, and then nothing moves. Refusals: those of `EntriesTree::go_to_next`.
     fn go_on(&mut self, list: Option<isize>) -> Result<bool>
         requires shallow { IsShallow list }
         requires tree { IsTree self.old }
@@ -106,7 +109,7 @@ impl<'abbrev, R: Reader, A: Allocator> EntriesTreeWalker<'abbrev, R, A> {
     /// Goes to the root, the first entry, at depth 0, and drops all lists.
     ///
     /// Refusals: those of `EntriesRaw::read_entry`, and `NoEntryAtGivenOffset` at a null. The walk
-    /// is then ready for another `root`.
+    /// then stands on no node and in no list, and is ready for another `root`.
     pub fn root(&mut self) -> Result<()>
         ensures begun { HasBegun R.Offset.limit self.old.tree result self.new.tree }
         ensures stands { self.new ≡ after_begun result self.new.tree }
@@ -122,7 +125,9 @@ impl<'abbrev, R: Reader, A: Allocator> EntriesTreeWalker<'abbrev, R, A> {
         Ok(())
     }
 
-    // Asks the innermost list for its next node, if there is a list.
+    // Asks the innermost list for its next node. True: the walk stands on it. False: it stands on
+    // no node, and the list is closed; where there is no list, nothing moves. Refusals: those of
+    // `EntriesTree::go_to_next`; the walk then stands on no node, and no list is dropped.
     fn ask(&mut self) -> Result<bool>
         ensures asked { HasAskedOne R.Offset.limit self.old.lists self.old result self.new }
         ensures sound { IsWalker self.new }
@@ -155,7 +160,7 @@ impl<'abbrev, R: Reader, A: Allocator> EntriesTreeWalker<'abbrev, R, A> {
     ///
     /// An entry whose `DW_AT_sibling` leads on in the unit is left for where it leads, with what is
     /// below it unread. So the nodes are those of plain walking where these references are honest;
-    /// where they are not, a node is still what decoding at its offset gives, told with the list's
+    /// where they are not, a node is still what decoding at its offset gives, with the list's
     /// depth.
     ///
     /// Refusals: those of `EntriesRaw::read_entry`. Every list is then at its end, until `root` is
@@ -172,8 +177,9 @@ impl<'abbrev, R: Reader, A: Allocator> EntriesTreeWalker<'abbrev, R, A> {
         self.ask()
     }
 
-    // Puts the list of the node's children onto the others, if there is a node. Refusal:
-    // `OutOfMemory`.
+    // Makes the list of the node's children the innermost, a closed one where no children follow;
+    // the walk stands on no node then. Answers whether there was a node; without one nothing moves.
+    // Refusal: `OutOfMemory`; the walk is then as it was.
     fn open(&mut self) -> Result<bool>
         ensures opened { IfOk result (λ b. (b ≡ self.old.is_on)
             × (self.new ≡ entered_from self.old)) }
@@ -211,7 +217,8 @@ impl<'abbrev, R: Reader, A: Allocator> EntriesTreeWalker<'abbrev, R, A> {
         self.open()
     }
 
-    // Drops the innermost list, if there is one.
+    // Drops the innermost list; the walk stands on no node then. Answers whether there was a list;
+    // without one nothing moves.
     fn close(&mut self) -> bool
         ensures left { (result ≡ are_some self.old.lists)
             × (self.new ≡ left_from self.old.lists self.old) }
@@ -224,8 +231,8 @@ impl<'abbrev, R: Reader, A: Allocator> EntriesTreeWalker<'abbrev, R, A> {
         true
     }
 
-    /// Leaves the innermost list; the walk stands on no node then. Answers whether there was a list
-    /// to leave.
+    /// Leaves the innermost list; the walk stands on no node then. Nothing is read. Answers whether
+    /// there was a list to leave; without one nothing moves.
     pub fn leave(&mut self) -> bool
         ensures left { (result ≡ are_some self.old.lists)
             × (self.new ≡ left_from self.old.lists self.old) }

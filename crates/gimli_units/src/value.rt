@@ -117,7 +117,8 @@ impl<R: Reader> AttributeValue<R> {
     ghost use Rattle.gimli_units.specs.Value.{map_value};
     ghost use Rattle.gimli_units.specs.Kind.{unit_reference};
 
-    // Where it leads in its unit, if it is a reference there.
+    /// The offset of a `UnitRef`, in the unit. None for any other value, a reference into a section
+    /// too.
     pub(crate) fn reference(&self) -> Option<UnitOffset<R::Offset>>
         ensures { option_map (λ o. R.Offset.number o.0) result
             ≡ unit_reference (map_value R.view R.Offset.number self.now) }

@@ -27,7 +27,8 @@ use gimli_base::{
 
 impl<R: Reader> Attribute<R> {
     /// The value as the name makes it: the first of the name's conversions that applies, else the
-    /// value as the form shows it (DWARF 5, 7.5.4, table 7.5).
+    /// value as the form shows it (DWARF 5, 7.5.4, table 7.5). A conversion is `udata_value`,
+    /// `u8_value`, `u16_value`, `offset_value` or `exprloc_value`; no section is looked into.
     #[tactic(auto, unfolding(crate::specs::NormalValue::normal_value))]
     pub fn value(&self) -> AttributeValue<R>
         ensures { map_value R.view R.Offset.number result

@@ -27,7 +27,8 @@ pub trait AttributeSink<R: Reader> {
     // whether one more can be taken
     ghost has_room: { Self → Type 0 };
 
-    /// Takes the attribute of a specification that has this value.
+    /// Takes the attribute of a specification, whose value is this one; answers what the sink makes
+    /// of it.
     fn take(
         &mut self,
         specification: &AttributeSpecification,
