@@ -103,13 +103,13 @@ split_default Dwo least = Some least
 
 -- the header of `.debug_addr` and of `.debug_str_offsets`, since version 5: a length, a version, and
 -- two bytes more
-abbrev pub least_base : Encoding → ℕ
-least_base e = if nat_le 5 e.version then initial_length_size_of e.format + 2 + 2 else 0
+abbrev pub table_header_size : Encoding → ℕ
+table_header_size e = if nat_le 5 e.version then initial_length_size_of e.format + 2 + 2 else 0
 
 -- the table of addresses: by DW_AT_addr_base, or else by DW_AT_GNU_addr_base, whose section has no
 -- header
 abbrev pub addr_base_of : Encoding → List Attr → Result (Option ℕ) DwarfError
-addr_base_of e attributes = and_then (table_base 0x73 (least_base e) None attributes) (λ o. elim o [
+addr_base_of e attributes = and_then (table_base 0x73 (table_header_size e) None attributes) (λ o. elim o [
   | None ↦ offset_named 0x2133 attributes
   | Some base ↦ Ok (Some base)
 ])
@@ -117,7 +117,7 @@ addr_base_of e attributes = and_then (table_base 0x73 (least_base e) None attrib
 -- the table of offsets of texts, by DW_AT_str_offsets_base
 abbrev pub str_offsets_base_of : Encoding → DwarfFileType → List Attr
     → Result (Option ℕ) DwarfError
-str_offsets_base_of e file = table_base 0x72 (least_base e) (split_default file (least_base e))
+str_offsets_base_of e file = table_base 0x72 (table_header_size e) (split_default file (table_header_size e))
 
 -- a table of offsets of lists, by the attribute of a name; before version 5 there is none
 abbrev pub lists_base_of : ℕ → Encoding → DwarfFileType → List Attr

@@ -3,3 +3,4 @@ pub mod Bases
 pub mod Values
 pub mod Lists
 pub mod Holding
+pub mod Addresses

@@ -1,13 +1,14 @@
 //! What the values of a unit count from.
 
-ghost use Rattle.std.specs.Prelude.{◌≡◌};
+ghost use Rattle.std.specs.Prelude.{◌≡◌, false};
 ghost use Rattle.std.specs.Option.{option_map};
 ghost use Rattle.gimli_base.specs.Sections.{addr_content};
 ghost use Rattle.gimli_base.specs.Table.{codes_of};
 ghost use Rattle.gimli_units.specs.Entry.{entry_of};
+ghost use Rattle.gimli_units.specs.Unit.{header_size, range_from, takes_memory_in};
 ghost use Rattle.gimli_units.specs.UnitHeld.{unit_view};
 ghost use Rattle.gimli_dwarf.specs.Bases.{bases_view, shared_view, resolved_as, offset_named};
-ghost use Rattle.gimli_dwarf.specs.Bases.{table_base, split_default, least_base, addr_base_of};
+ghost use Rattle.gimli_dwarf.specs.Bases.{table_base, split_default, table_header_size, addr_base_of};
 ghost use Rattle.gimli_dwarf.specs.Bases.{str_offsets_base_of, lists_base_of, low_pc_named};
 ghost use Rattle.gimli_dwarf.specs.Bases.{default_low_pc, own_bases, skeleton_bases, bases_with};
 ghost use Rattle.gimli_dwarf.specs.Bases.{bases_of, unit_bases, UnlessMemoryRead};
@@ -57,13 +58,20 @@ pub(crate) struct SharedBases<Offset> {
 }
 
 impl<Offset: ReaderOffset> UnitBases<Offset> {
-    /// The bases of a unit, of which the root is read. Of a split unit the table of addresses,
-    /// `low_pc` and what range lists count from are its skeleton's. In a file of the kind `Dwo` a
-    /// table begins after its section's header where the root does not say where.
+    /// The bases of a unit, of which the root is read. `skeleton` is for a split unit: the table of
+    /// addresses, `low_pc` and what range lists count from are then the skeleton's, and the root's
+    /// attributes of these are not looked at. In a file of the kind `Dwo` a table of offsets of
+    /// texts or lists begins after its section's header where the root does not say where. Before
+    /// version 5 there is no table of offsets of lists.
     ///
-    /// Refusals: those of `UnitHeader::entry`, of the root; `InvalidBase`; without a skeleton, where
-    /// `DW_AT_low_pc` is an index, `MissingBase` and those of `DebugAddr::get_address`. Memory is
-    /// taken for the attributes of the root alone.
+    /// Refusals, in this order: those of `UnitHeader::entry`, of the root; without a skeleton those
+    /// of `DW_AT_addr_base`, `DW_AT_GNU_addr_base`, `DW_AT_low_pc` and `DW_AT_GNU_ranges_base`;
+    /// those of `DW_AT_str_offsets_base`, `DW_AT_rnglists_base` and `DW_AT_loclists_base`. An
+    /// attribute is refused as `InvalidBase`; a `DW_AT_low_pc` that is an index as `MissingBase` of
+    /// `DW_AT_addr_base`, or as `DebugAddr::get_address` refuses it.
+    ///
+    /// Memory is taken for the attributes of the root alone, and only where its declaration has
+    /// attributes.
     pub fn of<R: Reader<Offset = Offset>, A: Allocator + Copy>(
         alloc: A,
         unit: &UnitHeader<R>,
@@ -72,17 +80,24 @@ impl<Offset: ReaderOffset> UnitBases<Offset> {
         file_type: DwarfFileType,
         skeleton: Option<&UnitBases<Offset>>,
     ) -> DwarfResult<UnitBases<Offset>>
-        ensures { let skeleton = option_map (λ s. bases_view Offset.number s.now) skeleton.entry in
+        ensures value { let skeleton = option_map (λ s. bases_view Offset.number s.now) skeleton.entry in
             UnlessMemoryRead result (resolved_as (bases_view Offset.number) result
             ≡ unit_bases Offset.limit (addr_content R.view debug_addr.now) file_type skeleton
             (unit_view unit.now) (codes_of abbreviations.now)) }
+        ensures without_memory { let u = unit_view unit.now in
+            let skeleton = option_map (λ s. bases_view Offset.number s.now) skeleton.entry in
+            takes_memory_in (codes_of abbreviations.now) (range_from u (header_size u)) ≡ false
+            → resolved_as (bases_view Offset.number) result
+            ≡ unit_bases Offset.limit (addr_content R.view debug_addr.now) file_type skeleton u
+            (codes_of abbreviations.now) }
     {
         let root = unit.entry(alloc, abbreviations, unit.root_offset())?;
         bases_of(&root, unit.encoding(), debug_addr, file_type, skeleton)
     }
 }
 
-// The bases of a unit by its root, and by its skeleton's, if it has one.
+// The bases of a unit by its root; the shared ones are those of its skeleton, if it has one.
+// Refusals: without a skeleton those of `own_bases`; then those of `bases_with`.
 fn bases_of<R: Reader, A: Allocator>(
     root: &DebuggingInformationEntry<R, A>,
     encoding: Encoding,
@@ -103,7 +118,8 @@ fn bases_of<R: Reader, A: Allocator>(
     bases_with(root, encoding, file_type, &shared)
 }
 
-// What a skeleton shares with its split unit.
+// The shared bases of a split unit, which are its skeleton's. Where the skeleton has no
+// `DW_AT_GNU_ranges_base`, range lists count from 0.
 fn skeleton_bases<Offset: ReaderOffset>(skeleton: &UnitBases<Offset>) -> SharedBases<Offset>
     ensures { shared_view Offset.number result
         ≡ skeleton_bases (bases_view Offset.number skeleton.now) }
@@ -116,7 +132,10 @@ fn skeleton_bases<Offset: ReaderOffset>(skeleton: &UnitBases<Offset>) -> SharedB
     }
 }
 
-// What the root of a unit gives of that.
+// The shared bases of a unit without a skeleton, by its own root: `DW_AT_addr_base` (or
+// `DW_AT_GNU_addr_base`), `DW_AT_low_pc` (without one, 0 in a file of the kind `Main`) and
+// `DW_AT_GNU_ranges_base`. Refusals, in this order of attributes: `InvalidBase`; where
+// `DW_AT_low_pc` is an index, `MissingBase` and those of `DebugAddr::get_address`.
 fn own_bases<R: Reader, A: Allocator>(
     root: &DebuggingInformationEntry<R, A>,
     encoding: Encoding,
@@ -138,7 +157,9 @@ fn own_bases<R: Reader, A: Allocator>(
     })
 }
 
-// The bases of a unit by its root, beside those that may be its skeleton's.
+// The bases of a unit: those of `shared`, and by its root where its tables of offsets begin.
+// Refusals: `InvalidBase` of `DW_AT_str_offsets_base`, `DW_AT_rnglists_base` and
+// `DW_AT_loclists_base`, in this order.
 fn bases_with<R: Reader, A: Allocator>(
     root: &DebuggingInformationEntry<R, A>,
     encoding: Encoding,
@@ -164,7 +185,9 @@ fn bases_with<R: Reader, A: Allocator>(
     })
 }
 
-// The offset that the first attribute of a name has as its value, if there is one.
+// The offset into a section that the root's first attribute of a name has as its value; none
+// without such an attribute. Refusal: `InvalidBase` of the name, where the value is no offset into
+// a section.
 fn offset_named<R: Reader, A: Allocator>(
     root: &DebuggingInformationEntry<R, A>,
     name: DwAt,
@@ -181,7 +204,9 @@ fn offset_named<R: Reader, A: Allocator>(
     }
 }
 
-// Where a table begins, by the attribute of a name, or by default; not before `least`.
+// Where a table begins in its section: at the offset of the attribute `name`, or without one at
+// `default`, which may be none. `least` is the size of the section's header. Refusals: those of
+// `offset_named`; `InvalidBase` of the name, where its offset is less than `least`.
 fn table_base<R: Reader, A: Allocator>(
     root: &DebuggingInformationEntry<R, A>,
     name: DwAt,
@@ -202,7 +227,8 @@ fn table_base<R: Reader, A: Allocator>(
     }
 }
 
-// Where a table begins in a split file by default.
+// Where a table begins without an attribute: at `least`, the size of its section's header, in a
+// file of the kind `Dwo`; none in one of the kind `Main`.
 fn split_default(file_type: DwarfFileType, least: u8) -> Option<u8>
     ensures { result ≡ split_default file_type least }
 {
@@ -212,9 +238,11 @@ fn split_default(file_type: DwarfFileType, least: u8) -> Option<u8>
     }
 }
 
-// The bytes of the header of `.debug_addr` and of `.debug_str_offsets`.
-fn least_base(encoding: Encoding) -> u8
-    ensures { result ≡ least_base encoding }
+/// The number of bytes of the header that a table of `.debug_addr` or of `.debug_str_offsets` has
+/// from version 5 on (DWARF 5, 7.26 and 7.27): 8, or 16 in the format of 64 bits; 0 before. A base
+/// that is less lies in the first header.
+pub fn table_header_size(encoding: Encoding) -> u8
+    ensures { result ≡ table_header_size encoding }
 {
     if encoding.version < 5 {
         return 0;
@@ -222,7 +250,9 @@ fn least_base(encoding: Encoding) -> u8
     encoding.format.initial_length_size() + 2 + 2
 }
 
-// Where the unit's addresses begin.
+// Where the unit's addresses begin in `.debug_addr`: at the root's `DW_AT_addr_base`, or without
+// one at its `DW_AT_GNU_addr_base`, or none. Refusal: `InvalidBase`, where one of them is no offset
+// into a section, or the first is less than `table_header_size`.
 fn addr_base_of<R: Reader, A: Allocator>(
     root: &DebuggingInformationEntry<R, A>,
     encoding: Encoding,
@@ -231,14 +261,16 @@ fn addr_base_of<R: Reader, A: Allocator>(
         resolved_as (option_map (λ o. R.Offset.number o.0)) result
         ≡ addr_base_of encoding attributes }
 {
-    let base = match table_base(root, DW_AT_addr_base, least_base(encoding), None)? {
+    let base = match table_base(root, DW_AT_addr_base, table_header_size(encoding), None)? {
         Some(base) => Some(base),
         None => offset_named(root, DW_AT_GNU_addr_base)?,
     };
     Ok(base.map(DebugAddrBase))
 }
 
-// Where the unit's table of offsets of texts begins.
+// Where the unit's table begins in `.debug_str_offsets`: at the root's `DW_AT_str_offsets_base`, or
+// without one as `split_default` says. Refusal: `InvalidBase`, where it is no offset into a
+// section, or less than `table_header_size`.
 fn str_offsets_base_of<R: Reader, A: Allocator>(
     root: &DebuggingInformationEntry<R, A>,
     encoding: Encoding,
@@ -248,7 +280,7 @@ fn str_offsets_base_of<R: Reader, A: Allocator>(
         resolved_as (option_map R.Offset.number) result
         ≡ str_offsets_base_of encoding file_type attributes }
 {
-    let least = least_base(encoding);
+    let least = table_header_size(encoding);
     table_base(
         root,
         DW_AT_str_offsets_base,
@@ -257,7 +289,10 @@ fn str_offsets_base_of<R: Reader, A: Allocator>(
     )
 }
 
-// Where a table of offsets of lists begins, by the attribute of a name.
+// Where the unit's table of offsets of lists begins in `.debug_rnglists` or `.debug_loclists`: at
+// the attribute `name`, or without one as `split_default` says. Before version 5 there is none, and
+// the attribute is not looked at. Refusal: `InvalidBase`, where it is no offset into a section, or
+// lies in the section's header.
 fn lists_base_of<R: Reader, A: Allocator>(
     root: &DebuggingInformationEntry<R, A>,
     name: DwAt,
@@ -275,7 +310,9 @@ fn lists_base_of<R: Reader, A: Allocator>(
     table_base(root, name, least, split_default(file_type, least))
 }
 
-// The low_pc that a root gives, if it gives one.
+// The address of the root's `DW_AT_low_pc`, in place or by its index in the table at `addr_base`;
+// none without the attribute. Refusals: those of `address_at`; `InvalidBase` of `DW_AT_low_pc`,
+// where its value is no address.
 fn low_pc_named<R: Reader, A: Allocator>(
     root: &DebuggingInformationEntry<R, A>,
     address_size: u8,
@@ -297,7 +334,8 @@ fn low_pc_named<R: Reader, A: Allocator>(
     }
 }
 
-// The low_pc of a unit whose root may give one.
+// The address from which a unit's lists count: `low_pc`, if its root gives one, or else 0 in a file
+// of the kind `Main`, and none in one of the kind `Dwo`.
 fn default_low_pc(file_type: DwarfFileType, low_pc: Option<u64>) -> Option<u64>
     ensures { result ≡ default_low_pc file_type low_pc }
 {

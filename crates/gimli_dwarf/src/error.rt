@@ -9,13 +9,13 @@ use gimli_base::{DwAt, Error};
 pub enum DwarfError {
     /// What is read was refused.
     Read(Error),
-    /// A value counts from a base that no attribute gives, neither one of the unit's root nor one of
-    /// its skeleton's. The name is that of the attribute.
+    /// A value counts from a base that no attribute gives, neither one of the unit's root nor one
+    /// of its skeleton's. The name is that of the attribute.
     MissingBase(DwAt),
     /// The attribute of this name is there, but its value is none that it can have: it is no offset
     /// or no address, or lies in the header of its section.
     InvalidBase(DwAt),
-    /// The value is no text, or one in the supplementary file.
+    /// The value is no text.
     ExpectedStringAttributeValue,
 }
 

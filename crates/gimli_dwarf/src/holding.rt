@@ -12,9 +12,9 @@ use gimli_base::{Reader, ReaderOffset, Result};
 use gimli_headers::DebugInfo;
 use gimli_units::{DebugInfoOffset, UnitHeader};
 
-/// The unit of `.debug_info` that holds an offset of the section, its header included, as that of
-/// a reference of the form `DW_FORM_ref_addr`. The headers up to that unit are read; none where the
-/// offset lies after the last unit.
+/// The unit of `.debug_info` that holds an offset of the section, its header included, as that of a
+/// reference of the form `DW_FORM_ref_addr`. None where the offset lies at the section's end or
+/// after it. The headers from the section's beginning up to that unit are read.
 ///
 /// Refusals: those of `DebugInfoUnitHeadersIter::next`, of a header before the offset.
 pub fn unit_holding<R: Reader>(
@@ -36,7 +36,8 @@ pub fn unit_holding<R: Reader>(
     }
 }
 
-// Whether a unit holds an offset of its section.
+// Whether an offset of its section lies in a unit: from the first byte of the header up to the
+// unit's end, which is no part of it.
 fn holds<R: Reader>(unit: &UnitHeader<R>, offset: DebugInfoOffset<R::Offset>) -> bool
     ensures { result ≡ holds (R.Offset.number offset.0) (unit_view unit.now) }
 {

@@ -2,6 +2,7 @@
 //! value, where lists begin, and the unit that holds an offset.
 #![tactic(auto)]
 
+mod address;
 mod bases;
 mod error;
 mod holding;
@@ -10,7 +11,7 @@ mod sections;
 mod strings;
 mod values;
 
-pub use bases::UnitBases;
+pub use bases::{UnitBases, table_header_size};
 pub use error::{DwarfError, DwarfResult};
 pub use holding::unit_holding;
 pub use sections::DwarfSections;

@@ -23,11 +23,15 @@ use gimli_lists::{HasLists, LocListIter, LocationLists, RangeLists, RngListIter}
 use gimli_units::AttributeValue;
 
 impl<Offset: ReaderOffset> UnitBases<Offset> {
-    /// Where the range list begins that a value of the unit names, as `Attribute::value` gives it:
-    /// an offset, or an index in `.debug_rnglists`; none of any other value.
+    /// Where the range list begins in its section that a value of the unit names, as
+    /// `Attribute::value` gives it: an offset, or an index in the unit's table of
+    /// `.debug_rnglists`; none of any other value. An offset counts from the section's beginning,
+    /// or in a split unit before version 5 from `gnu_ranges_base`. It may lie after the section's
+    /// end.
     ///
-    /// Refusals: `MissingBase`, of `DW_AT_rnglists_base` or `DW_AT_GNU_ranges_base`; those of
-    /// `RangeLists::get_offset`; `UnsupportedOffset` of a sum that does not fit.
+    /// Refusals, of an index: `MissingBase` of `DW_AT_rnglists_base`, then those of
+    /// `RangeLists::get_offset`; of an offset: `MissingBase` of `DW_AT_GNU_ranges_base`, then
+    /// `UnsupportedOffset` of a sum that does not fit.
     pub fn ranges_offset<R: Reader<Offset = Offset>>(
         &self,
         value: &AttributeValue<R>,
@@ -50,7 +54,9 @@ impl<Offset: ReaderOffset> UnitBases<Offset> {
         }
     }
 
-    // The offset of a range list in its section.
+    // The offset in its section of the range list at an offset that a value has, which counts from
+    // `ranges_start`. Refusals: `MissingBase` of `DW_AT_GNU_ranges_base`, where there is no such
+    // start; `UnsupportedOffset` of a sum that does not fit.
     fn range_list_at(
         &self,
         offset: RawRangeListsOffset<Offset>,
@@ -68,7 +74,8 @@ impl<Offset: ReaderOffset> UnitBases<Offset> {
         }
     }
 
-    // What the offsets of range lists count from.
+    // What the offsets of range lists count from: `gnu_ranges_base`, which may be none, in a file
+    // of the kind `Dwo` before version 5; or else 0, the section's beginning.
     fn ranges_start(&self) -> Option<Offset>
         ensures { let b = bases_view Offset.number self.now in
             option_map Offset.number result
@@ -89,10 +96,13 @@ impl<Offset: ReaderOffset> UnitBases<Offset> {
         }
     }
 
-    /// Where the location list begins that a value of the unit names, as `Attribute::value` gives
-    /// it: an offset, or an index in `.debug_loclists`; none of any other value.
+    /// Where the location list begins in its section that a value of the unit names, as
+    /// `Attribute::value` gives it: an offset, or an index in the unit's table of
+    /// `.debug_loclists`; none of any other value. An offset counts from the section's beginning,
+    /// and may lie after its end.
     ///
-    /// Refusals: `MissingBase` of `DW_AT_loclists_base`; those of `LocationLists::get_offset`.
+    /// Refusals, of an index alone: `MissingBase` of `DW_AT_loclists_base`; then those of
+    /// `LocationLists::get_offset`.
     pub fn locations_offset<R: Reader<Offset = Offset>>(
         &self,
         value: &AttributeValue<R>,
@@ -118,9 +128,10 @@ impl<Offset: ReaderOffset> UnitBases<Offset> {
     /// The ranges of the list that a value of the unit names, as `ranges_offset` finds it; none of
     /// a value that names no list.
     ///
-    /// Refusals: those of `ranges_offset` and of `RangeLists::ranges`, `MissingBase` of
-    /// `DW_AT_low_pc`, `UnsupportedAddressSize`. Where the unit has no table of addresses, the list
-    /// refuses each address that is named by its index, as one after the end of `.debug_addr`.
+    /// Refusals, in this order: those of `ranges_offset`; `MissingBase` of `DW_AT_low_pc`;
+    /// `UnsupportedAddressSize`, where the unit's addresses have not 1, 2, 4 or 8 bytes; those of
+    /// `RangeLists::ranges`. Where the unit has no table of addresses, the list refuses each
+    /// address that is named by its index, as one after the end of `.debug_addr`.
     pub fn ranges<R: Reader<Offset = Offset>>(
         &self,
         value: &AttributeValue<R>,
@@ -138,7 +149,8 @@ impl<Offset: ReaderOffset> UnitBases<Offset> {
         Ok(Some(self.ranges_from(offset, sections)?))
     }
 
-    // The ranges of the list at an offset of its section.
+    // The ranges of the list at an offset of the section in which the unit has its range lists.
+    // Refusals: those of `list_base`; then those of `RangeLists::ranges`.
     fn ranges_from<R: Reader<Offset = Offset>>(
         &self,
         offset: RangeListsOffset<Offset>,
@@ -162,8 +174,9 @@ impl<Offset: ReaderOffset> UnitBases<Offset> {
     /// The locations of the list that a value of the unit names, as `locations_offset` finds it;
     /// none of a value that names no list.
     ///
-    /// Refusals: those of `locations_offset` and of `LocationLists::locations`, and otherwise as
-    /// `ranges`.
+    /// Refusals, in this order: those of `locations_offset`; `MissingBase` of `DW_AT_low_pc`;
+    /// `UnsupportedAddressSize`, where the unit's addresses have not 1, 2, 4 or 8 bytes; those of
+    /// `LocationLists::locations`. Addresses that are named by their index are as in `ranges`.
     pub fn locations<R: Reader<Offset = Offset>>(
         &self,
         value: &AttributeValue<R>,
@@ -181,7 +194,9 @@ impl<Offset: ReaderOffset> UnitBases<Offset> {
         Ok(Some(self.locations_from(offset, sections)?))
     }
 
-    // The locations of the list at an offset of its section.
+    // The locations of the list at an offset of the section in which the unit has its location
+    // lists; in a file of the kind `Dwo` the list is read as one of a split file. Refusals: those
+    // of `list_base`; then those of `LocationLists::locations`.
     fn locations_from<R: Reader<Offset = Offset>>(
         &self,
         offset: LocationListsOffset<Offset>,
@@ -206,7 +221,9 @@ impl<Offset: ReaderOffset> UnitBases<Offset> {
         Ok(list)
     }
 
-    // The address from which the unit's lists count.
+    // The address from which the unit's lists count, its `low_pc`. Refusals: `MissingBase` of
+    // `DW_AT_low_pc`, where it has none; `UnsupportedAddressSize`, where its addresses have not 1,
+    // 2, 4 or 8 bytes.
     fn list_base(&self) -> DwarfResult<u64>
         ensures value { let b = bases_view Offset.number self.now in
             result ≡ list_base b.encoding.address_size b.low_pc }
@@ -223,7 +240,8 @@ impl<Offset: ReaderOffset> UnitBases<Offset> {
         }
     }
 
-    // Where the unit's addresses are looked up.
+    // The section in which the unit's addresses are looked up by their index: `debug_addr`, or
+    // where the unit has no `addr_base` one without bytes, which refuses each index.
     fn addresses_of<R: Reader<Offset = Offset>>(&self, debug_addr: &DebugAddr<R>) -> DebugAddr<R>
         ensures { addr_content R.view result
             ≡ addresses_of (bases_view Offset.number self.now)
@@ -237,7 +255,8 @@ impl<Offset: ReaderOffset> UnitBases<Offset> {
         DebugAddr::from(none)
     }
 
-    // Where the unit's table of addresses begins, if it has one.
+    // Where the unit's table of addresses begins in the section of `addresses_of`: at its
+    // `addr_base`, or at 0 where it has none.
     fn table_of(&self) -> DebugAddrBase<Offset>
         ensures { Offset.number result.0
             ≡ unwrap_or (bases_view Offset.number self.now).addr_base 0 }
@@ -249,7 +268,7 @@ impl<Offset: ReaderOffset> UnitBases<Offset> {
     }
 }
 
-// Whether addresses may have so many bytes.
+// Whether addresses may have so many bytes: 1, 2, 4 or 8.
 fn is_size(address_size: u8) -> bool
     ensures { result ≡ is_size address_size }
 {

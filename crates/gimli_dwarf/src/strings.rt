@@ -58,9 +58,11 @@ impl<R: Reader> DebugStrOffsets<R> {
     /// The offset in `.debug_str` at an index of the table that begins at `base`, which is a unit's
     /// `DW_AT_str_offsets_base`.
     ///
-    /// Refusals: `UnexpectedEof`, where the base, the number of bytes before the index or the
-    /// offset lies after the section's end; `UnsupportedOffset`, where that number or the offset
-    /// does not fit the reader's offsets.
+    /// Refusals, of the first step that has one: `UnexpectedEof`, where the base lies after the
+    /// section's end; `UnsupportedOffset`, where the number of bytes before the index does not fit
+    /// the reader's offsets; `UnexpectedEof`, where the offset would not end in the section;
+    /// `UnsupportedOffset`, where the offset does not fit. Whether it lies in `.debug_str` is not
+    /// looked at.
     #[tactic(auto, unfolding(crate::specs::Texts::text_offset))]
     pub fn get_str_offset(
         &self,

@@ -14,7 +14,11 @@ use gimli_base::{
 };
 use gimli_units::AttributeValue;
 
-/// The address that a value is, in place or by its index; none of any other value.
+/// The address that a value is, in place or by its index in the table of `.debug_addr` that begins
+/// at `addr_base`, with addresses of `address_size` bytes; none of any other value.
+///
+/// Refusals, of an index alone: `MissingBase` of `DW_AT_addr_base`, where `addr_base` is none; then
+/// those of `DebugAddr::get_address`.
 pub(crate) fn address_at<R: Reader>(
     value: &AttributeValue<R>,
     address_size: u8,
@@ -43,7 +47,8 @@ impl<Offset: ReaderOffset> UnitBases<Offset> {
     /// The address that a value of the unit is, in place or by its index in `.debug_addr`; none of
     /// any other value.
     ///
-    /// Refusals: `MissingBase` of `DW_AT_addr_base`, and those of `DebugAddr::get_address`.
+    /// Refusals, of an index alone: `MissingBase` of `DW_AT_addr_base`, where the unit has no
+    /// `addr_base`; then those of `DebugAddr::get_address`.
     pub fn address_of<R: Reader<Offset = Offset>>(
         &self,
         value: &AttributeValue<R>,
@@ -58,12 +63,14 @@ impl<Offset: ReaderOffset> UnitBases<Offset> {
         address_at(value, encoding.address_size, self.addr_base, debug_addr)
     }
 
-    /// The bytes of the text that a value of the unit is: in the attribute, in `.debug_str`, in
-    /// `.debug_line_str`, in `.debug_str` by an index in `.debug_str_offsets`, or in `.debug_str` of
-    /// the supplementary file.
+    /// The bytes of the text that a value of the unit is, without the zero after them: in the
+    /// attribute, in `.debug_str`, in `.debug_line_str`, in `.debug_str` by an index in
+    /// `.debug_str_offsets`, or in `.debug_str` of the supplementary file.
     ///
-    /// Refusals: `ExpectedStringAttributeValue`, `MissingBase` of `DW_AT_str_offsets_base`, and
-    /// those of `DebugStr::get_str`, `DebugLineStr::get_str` and `DebugStrOffsets::get_str_offset`.
+    /// Refusals: `ExpectedStringAttributeValue` of any other value; of an offset those of
+    /// `DebugStr::get_str` or `DebugLineStr::get_str`; of an index `MissingBase` of
+    /// `DW_AT_str_offsets_base`, then those of `DebugStrOffsets::get_str_offset`, then those of
+    /// `DebugStr::get_str`.
     pub fn text_of<R: Reader<Offset = Offset>>(
         &self,
         value: &AttributeValue<R>,
@@ -86,7 +93,10 @@ impl<Offset: ReaderOffset> UnitBases<Offset> {
         }
     }
 
-    // The text at an index.
+    // The bytes of the text in `.debug_str` whose offset stands at an index of the unit's table in
+    // `.debug_str_offsets`. Refusals: `MissingBase` of `DW_AT_str_offsets_base`, where the unit has
+    // no such table; then those of `DebugStrOffsets::get_str_offset`; then those of
+    // `DebugStr::get_str`.
     fn text_at<R: Reader<Offset = Offset>>(
         &self,
         index: DebugStrOffsetsIndex<Offset>,

@@ -8,3 +8,4 @@ pub mod ArangeSteps
 pub mod SecondCall
 pub mod ListSteps
 pub mod PayloadSteps
+pub mod Held

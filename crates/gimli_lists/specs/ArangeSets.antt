@@ -1,7 +1,8 @@
 -- The sets of ranges of addresses in a section, and the header of each (DWARF 5, 6.1.2 and 7.21).
 use Rattle.std.specs.Prelude.{◌≡◌, ℕ, ◌+◌, ◌-◌, ◌*◌, ◌%◌, ◌==◌, ◌||◌, if◌then◌else◌}
 use Rattle.std.specs.Prelude.{List, [], ◌∷◌, length, Option, Some, None, Result, Ok, Err}
-use Rattle.std.specs.Prelude.{MatchOption}
+use Rattle.std.specs.Prelude.{MatchOption, Bool}
+use Rattle.std.specs.List.{list_any}
 use Rattle.gimli_base.specs.declared.common.Encoding.{Encoding}
 use Rattle.gimli_base.specs.declared.common.Format.{Format}
 use Rattle.gimli_base.specs.declared.error.Error.{Error}
@@ -13,6 +14,7 @@ use Rattle.gimli_base.specs.View.{View, cut, end_of_view}
 use Rattle.gimli_base.specs.Reading.{Reads, ◌>>=◌, map_read, byte_at, uint_at, offset_at}
 use Rattle.gimli_base.specs.Reading.{address_size_at, initial_length_at, initial_length_size_of}
 use Rattle.gimli_base.specs.Reading.{word_size_of, skip_at, split_at}
+use Rattle.gimli_lists.specs.Aranges.{range_holds, aranges_of}
 
 -- a set: where it begins in its section, how its bytes are read, the number in its length field,
 -- the offset of its unit in `.debug_info`, and the bytes of its tuples
@@ -22,6 +24,11 @@ pub record ArangeSet : Type 0 where
   pub length_field : ℕ
   pub info_offset : ℕ
   pub tuples : View
+
+-- whether a set has a range that holds an address
+abbrev pub set_holds : ℕ → ArangeSet → Bool
+set_holds address s =
+    list_any (range_holds address) (aranges_of s.encoding.address_size s.tuples)
 
 -- the number of bytes before the padding: the length field, the version, the offset of the unit,
 -- and the sizes of an address and of a segment selector

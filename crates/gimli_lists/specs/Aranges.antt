@@ -2,6 +2,7 @@
 use Rattle.std.specs.Prelude.{◌≡◌, ℕ, zero, suc, ◌+◌, ◌*◌, ◌/◌, ◌==◌, ◌&&◌, nat_lt, nat_le}
 use Rattle.std.specs.Prelude.{if◌then◌else◌, is_some, List, [], ◌∷◌, length, take, drop, slice_get}
 use Rattle.std.specs.Prelude.{Option, Some, None, option_and_then, MatchOption, Result, Ok}
+use Rattle.std.specs.Prelude.{Err, Bool, false}
 use Rattle.std.specs.List.{filter_map, position_or_len}
 use Rattle.std.specs.Result.{result_transpose}
 use Rattle.gimli_base.specs.declared.common.Encoding.{Encoding}
@@ -70,6 +71,11 @@ first_of_tuples f size v =
       option_and_then f (slice_get ts n),
       if nat_lt n (length ts) then cut ((n + 1) * (2 * size)) v else end_of_view v,
     )
+
+-- whether a range holds an address; one that is refused holds none
+abbrev pub range_holds : ℕ → Result ArangeEntry Error → Bool
+range_holds address (Ok e) = nat_le e.range.begin address && nat_lt address e.range.end
+range_holds address (Err x) = false
 
 -- where the reading of a set's tuples stands: what is left, and how it is read
 pub record ArangesPlace : Type 0 where

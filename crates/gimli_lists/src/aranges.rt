@@ -11,7 +11,7 @@ ghost use Rattle.gimli_base.specs.Offset.{answer_of};
 ghost use Rattle.gimli_base.specs.Reading.{read_of, is_size};
 ghost use Rattle.gimli_lists.specs.ArangeSets.{ArangeSet, SetsPlace, fields_size, padding_size};
 ghost use Rattle.gimli_lists.specs.ArangeSets.{set_fields_at, set_at, set_from, next_set};
-ghost use Rattle.gimli_lists.specs.ArangeSets.{sets_ahead, sets_of, IsNextSet};
+ghost use Rattle.gimli_lists.specs.ArangeSets.{sets_ahead, sets_of, IsNextSet, set_holds};
 ghost use Rattle.gimli_lists.specs.Aranges.{ArangesPlace};
 ghost use Rattle.gimli_lists.specs.Sections.{aranges_content};
 
@@ -95,10 +95,11 @@ impl<R: Reader> DebugAranges<R> {
         }
     }
 
-    /// The header of the set at an offset of the section.
+    /// The header of the set that begins at an offset of the section; whatever stands there is read
+    /// as one.
     ///
-    /// Refusals: `UnexpectedEof`, also where the offset lies after the section's end, and those of
-    /// `next` of the headers.
+    /// Refusals: `UnexpectedEof`, where the offset lies after the section's end; then those of
+    /// `ArangeHeaderIter::next`.
     #[tactic(auto, unfolding(crate::specs::ArangeSets::set_from))]
     pub fn header(&self, offset: DebugArangesOffset<R::Offset>) -> Result<ArangeHeader<R>>
         ensures { answer_of ⟦<ArangeHeader<R> as HasArangeSet>⟧.set result
@@ -139,11 +140,13 @@ impl<R: Reader> ArangeHeaderIter<R> {
         }
     }
 
-    /// The header of the next set, or none at the end of the section.
+    /// The header of the next set, or none at the end of the section. Of the set's tuples nothing
+    /// is read.
     ///
-    /// Refusals: `UnexpectedEof`, `UnknownReservedLength`, `UnsupportedOffset`, `UnknownVersion` of
-    /// a version other than 2 and 3, `UnsupportedAddressSize`, `UnsupportedSegmentSize` of segment
-    /// selectors that take bytes; nothing is left then.
+    /// Refusals, of the first field that has one: `UnexpectedEof`, also where the section ends
+    /// before the set, `UnknownReservedLength`, `UnsupportedOffset`, `UnknownVersion` of a version
+    /// other than 2 and 3, `UnsupportedAddressSize`, `UnsupportedSegmentSize` of segment selectors
+    /// that take bytes. Nothing is left then, and the next call answers none.
     pub fn next(&mut self) -> Result<Option<ArangeHeader<R>>>
         ensures value { answer_of (option_map ⟦<ArangeHeader<R> as HasArangeSet>⟧.set) result
             ≡ option_transpose (next_set R.Offset.limit self.old).0 }
@@ -261,10 +264,31 @@ impl<R: Reader> ArangeHeader<R> {
     {
         ArangeEntryIter::new(self.entries.copy(), self.encoding)
     }
+
+    /// Whether a range of the set holds an address. Tuples whose end does not fit are passed over,
+    /// and two zeros do not end the set.
+    pub fn holds(&self, address: u64) -> bool
+        ensures { result ≡ set_holds address (⟦<ArangeHeader<R> as HasArangeSet>⟧.set self.now) }
+    {
+        let mut entries = self.entries();
+        'entries: loop {
+            match entries.next() {
+                Ok(Some(entry)) => {
+                    let range = entry.range();
+                    if range.begin <= address && address < range.end {
+                        return true;
+                    }
+                }
+                Ok(None) => return false,
+                Err(_) => {}
+            }
+        }
+    }
 }
 
-// The number of bytes between the fields of a header and the first tuple, which begins at a
-// multiple of its size.
+// The number of bytes between the fields of a header and the first tuple, which begins, counted
+// from the set's first byte, at a multiple of its size. That is two addresses, whose size has to be
+// 1, 2, 4 or 8.
 fn padding_size(format: Format, address_size: u8) -> u8
     requires { IsTrue (is_size address_size) }
     ensures value { result ≡ padding_size format address_size }
@@ -276,8 +300,9 @@ fn padding_size(format: Format, address_size: u8) -> u8
     (tuple_size - fields_size % tuple_size) % tuple_size
 }
 
-// The fields after the length, with the padding; where they are refused, the input is left
-// anywhere.
+// The fields after the length: the version, the offset of the unit, the size of an address and that
+// of a segment selector, and then the padding, in this order; the first that is refused is the
+// refusal. The input is then left anywhere.
 #[tactic(auto, unfolding(crate::specs::ArangeSets::set_fields_at))]
 fn parse_fields<R: Reader>(
     input: &mut R,
@@ -307,8 +332,11 @@ fn parse_fields<R: Reader>(
     Ok((encoding, debug_info_offset))
 }
 
-// The next header, which begins at an offset of its section; where it is refused, the input is left
-// anywhere.
+// The next header, which begins at `offset` of its section. The input is left at the end of the
+// whole set, and the header keeps the bytes of the tuples.
+//
+// Refusals: those of `Reader::read_initial_length`; `UnexpectedEof`, where the input ends before
+// the set; then those of `parse_fields`. The input is then left anywhere.
 #[tactic(auto, unfolding(crate::specs::ArangeSets::set_at))]
 fn parse_header<R: Reader>(
     input: &mut R,
@@ -329,8 +357,10 @@ fn parse_header<R: Reader>(
     })
 }
 
-// The next header of a section, of which `input` is left and begins at `offset`: none where nothing
-// is left. After a refusal nothing is left.
+// Takes the next header of a section, or none where nothing is left. `input` is what is left of the
+// section, and `offset` is where that begins in it; both go past the whole set.
+//
+// Refusals: those of `parse_header`; nothing is left of `input` then, and `offset` stays.
 #[tactic(auto, unfolding(crate::specs::ArangeSets::next_set))]
 fn next_header<R: Reader>(
     input: &mut R,

@@ -23,6 +23,7 @@ pub struct ListsHeader {
 impl Default for ListsHeader {
     ghost is_default = { λ h. h ≡ header_of Dwarf32 5 0 0 };
 
+    // A header of the format of 32 bits and version 5, with addresses of 0 bytes and no offsets.
     fn default() -> Self {
         ListsHeader {
             encoding: Encoding {
@@ -46,9 +47,10 @@ impl ListsHeader {
     /// Reads the next header, and leaves the bytes after it up to the end that its length field
     /// gives.
     ///
-    /// Refusals, which leave the input: `UnexpectedEof`, `UnknownReservedLength`,
-    /// `UnsupportedOffset`, `UnknownVersion` of a version other than 5, `UnsupportedAddressSize`,
-    /// `UnsupportedSegmentSize` of segment selectors that take bytes.
+    /// Refusals, of the first field that has one: `UnexpectedEof` of each, also where the input
+    /// ends before that end, `UnknownReservedLength`, `UnsupportedOffset`, `UnknownVersion` of a
+    /// version other than 5, `UnsupportedAddressSize`, `UnsupportedSegmentSize` of segment
+    /// selectors that take bytes. The input is then as it was.
     #[tactic(auto, unfolding(crate::specs::ListsHeader::lists_header_at))]
     pub fn parse<R: Reader>(input: &mut R) -> Result<ListsHeader>
         ensures value { read_of result (R.view input.new)
@@ -64,7 +66,8 @@ impl ListsHeader {
     }
 }
 
-// The fields after the length; where they are refused, the input is left anywhere.
+// The version, the size of an address, the size of a segment selector and the number of offsets, in
+// this order; the first that is refused is the refusal. The input is then left anywhere.
 #[tactic(auto, unfolding(crate::specs::ListsHeader::lists_fields_at))]
 fn parse_fields<R: Reader>(input: &mut R, format: Format) -> Result<ListsHeader>
     ensures { read_of result (R.view input.new) ≡ lists_fields_at format (R.view input.old) }
@@ -106,6 +109,13 @@ pub(crate) enum ListsFormat {
 }
 
 /// The offset in its section of the list at an index of the table of offsets that begins at `base`.
+/// The offsets in the table count from `base`. Whether the list lies in the section is not looked
+/// at.
+///
+/// Refusals, of the first step that has one: `UnexpectedEof`, where the base lies after the
+/// section's end; `UnsupportedOffset`, where the number of bytes before the index does not fit the
+/// reader's offsets; `UnexpectedEof`, where the offset in the table would not end in the section;
+/// `UnsupportedOffset`, where that offset, or its sum with the base, does not fit.
 #[tactic(auto, unfolding(crate::specs::Places::list_offset))]
 pub(crate) fn offset_of_list<R: Reader>(
     section: &R,

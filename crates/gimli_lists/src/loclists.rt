@@ -86,8 +86,10 @@ impl<R: Reader> LocationLists<R> {
         }
     }
 
-    // The entries of the list at an offset of the section in which a unit with this encoding has
-    // its lists.
+    // The entries, as they are written in `format`, of the list at an offset of the section in
+    // which a unit with this encoding has its lists: `.debug_loc` up to version 4, and
+    // `.debug_loclists` since version 5. Refusal: `UnexpectedEof`, where the offset lies after the
+    // section's end.
     #[tactic(auto, unfolding(crate::specs::Places::raw_list_at))]
     fn raw_list(
         &self,
@@ -108,8 +110,10 @@ impl<R: Reader> LocationLists<R> {
     }
 
     /// The entries, as they are written, of the list at an offset of the section in which a unit
-    /// with this encoding has its lists. Refusal: `UnexpectedEof`, where the offset lies after the
-    /// section's end, with the section's first place.
+    /// with this encoding has its lists: `.debug_loc` up to version 4, in pairs of addresses, and
+    /// `.debug_loclists` since version 5, with codes. No entry is read yet. Refusal:
+    /// `UnexpectedEof`, where the offset lies after the section's end, with the section's first
+    /// place.
     pub fn raw_locations(
         &self,
         offset: LocationListsOffset<R::Offset>,
@@ -127,11 +131,11 @@ impl<R: Reader> LocationLists<R> {
         self.raw_list(offset, unit_encoding, format)
     }
 
-    /// The same of sections of a split file, whose lists have codes in every version: up to version
-    /// 4 they lie in `.debug_loc` with the codes of version 5, but the length of an expression has
-    /// 2 bytes, and that of a range from an indexed address 4. That is a GNU extension, which no
-    /// version of DWARF defines. Refusal: `UnexpectedEof`, where the offset lies after the
-    /// section's end, with the section's first place.
+    /// As `raw_locations`, of sections of a split file, whose lists have codes in every version: up
+    /// to version 4 they lie in `.debug_loc` with the codes of version 5, but the length of an
+    /// expression has 2 bytes, and that of a range from an indexed address 4. That is a GNU
+    /// extension, which no version of DWARF defines. Refusal: `UnexpectedEof`, where the offset
+    /// lies after the section's end, with the section's first place.
     pub fn raw_locations_dwo(
         &self,
         offset: LocationListsOffset<R::Offset>,
@@ -145,7 +149,7 @@ impl<R: Reader> LocationLists<R> {
     }
 
     /// The locations of the list at an offset of the section in which a unit with this encoding has
-    /// its lists.
+    /// its lists, as for `raw_locations`. No entry is read yet.
     ///
     /// Offsets count from `base_address` on, which is the unit's `DW_AT_low_pc`, until an entry
     /// gives another base. Addresses that are named by their index are those of the table that
@@ -171,7 +175,7 @@ impl<R: Reader> LocationLists<R> {
         Ok(LocListIter::new(raw, base_address, debug_addr.copy(), debug_addr_base))
     }
 
-    /// The same of sections of a split file, whose lists have codes in every version, as
+    /// As `locations`, of sections of a split file, whose lists have codes in every version, as
     /// `raw_locations_dwo` says. Refusal: `UnexpectedEof`, where the offset lies after the
     /// section's end, with the section's first place.
     #[tactic(auto, unfolding(crate::specs::Places::list_place_at))]
@@ -196,9 +200,13 @@ impl<R: Reader> LocationLists<R> {
     /// The offset in `.debug_loclists` of the list at an index of the table of offsets that begins
     /// at `base`, which is a unit's `DW_AT_loclists_base`.
     ///
-    /// Refusals: `UnexpectedEof`, where the base, the bytes before the index or the offset in the
-    /// table lies after the section's end; `UnsupportedOffset`, where the number of bytes before
-    /// the index, the offset or its sum with the base does not fit the reader's offsets.
+    /// The offsets in the table count from `base`. Whether the list lies in the section is not
+    /// looked at.
+    ///
+    /// Refusals, of the first step that has one: `UnexpectedEof`, where the base lies after the
+    /// section's end; `UnsupportedOffset`, where the number of bytes before the index does not fit
+    /// the reader's offsets; `UnexpectedEof`, where the offset in the table would not end in the
+    /// section; `UnsupportedOffset`, where that offset, or its sum with the base, does not fit.
     pub fn get_offset(
         &self,
         unit_encoding: Encoding,
@@ -215,7 +223,7 @@ impl<R: Reader> LocationLists<R> {
     }
 
     /// The section, and the number of its bytes before a place, where the place is one of its bytes
-    /// or its end; `.debug_loc` is asked first.
+    /// or its end; `.debug_loc` is asked first. None where the place lies in neither section.
     pub fn lookup_offset_id(&self, id: ReaderOffsetId) -> Option<(SectionId, R::Offset)>
         ensures { option_map (λ p. (p.0, R.Offset.number p.1)) result
             ≡ lookup_in LocSection LocListsSection id.0

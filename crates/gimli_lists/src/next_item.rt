@@ -40,7 +40,8 @@ pub(crate) trait EntryWalk {
     // what code holds of an entry's meaning
     ghost resolved: { Self.Item → Resolved Payload };
 
-    /// The next entry, or none after the last; nothing is left after a refusal.
+    /// Takes the next entry, or none after the last. The base address stays, also where an entry
+    /// gives one. Nothing is left after the last entry, and after a refusal.
     fn take_raw(&mut self) -> Result<Option<Self::Entry>>
         ensures value { (answer_of (option_map written) result, (place self.new).raw)
             ≡ next_raw grammar (place self.old).raw }
@@ -51,7 +52,10 @@ pub(crate) trait EntryWalk {
             (λ _. length (place self.new).raw.rest.bytes
             < length (place self.old).raw.rest.bytes) };
 
-    /// What an entry stands for, or none.
+    /// What an entry stands for with the base address at hand, or none where it stands for nothing.
+    /// An entry that gives a base address stands for nothing, and its base is at hand then. What is
+    /// left of the list stays. Refusals are those of the look-up of an address by its index; the
+    /// base stays then.
     fn convert(&mut self, raw: Self::Entry) -> Result<Option<Self::Item>>
         ensures { (answer_of (option_map resolved) result, place self.new)
             ≡ entry_conversion limit (written raw) (place self.old) };
@@ -59,7 +63,11 @@ pub(crate) trait EntryWalk {
     ghost takes_bytes: { TakesBytes grammar };
 }
 
-/// What the next entry stands for that stands for something, or none after the last entry.
+/// What the next entry stands for that stands for something, or none after the last entry. The
+/// entries before it are taken too, and the base address that they give is at hand.
+///
+/// Refusals: those of `EntryWalk::take_raw`, after which nothing is left, and those of
+/// `EntryWalk::convert`, after which the entries after the refused one are left.
 ///
 /// The answer is put together where the call stands: one that comes as a whole through memory is
 /// written in pieces and read as a word, which has to wait for them.
@@ -97,7 +105,7 @@ pub(crate) fn next_item<W: EntryWalk>(walk: &mut W) -> Result<Option<W::Item>>
     whole_answer(item, refusal)
 }
 
-// The answer whose two parts these are.
+// The answer whose two parts these are: the item, or without one the refusal, or without both none.
 #[inline(always)]
 fn whole_answer<T>(item: Option<T>, refusal: Option<Error>) -> Result<Option<T>>
     ensures { result ≡ in_parts item refusal }
@@ -111,8 +119,8 @@ fn whole_answer<T>(item: Option<T>, refusal: Option<Error>) -> Result<Option<T>>
     }
 }
 
-// The same answer in two parts: what the entry stands for, and a refusal in its own place, which
-// has to be empty before.
+// The answer of `first_item` in two parts: what the entry stands for is answered, and a refusal is
+// put into `refusal`, which has to be none before. After the last entry both are none.
 fn item_in_parts<W: EntryWalk>(walk: &mut W, refusal: &mut Option<Error>) -> Option<W::Item>
     requires { refusal.old ≡ None }
     ensures ahead { answers_ahead W.grammar W.limit (W.place walk.old)
@@ -142,7 +150,8 @@ fn item_in_parts<W: EntryWalk>(walk: &mut W, refusal: &mut Option<Error>) -> Opt
     }
 }
 
-// The same answer, by the loop over the entries.
+// The answer of `next_item`, by the loop over the entries: each is taken and converted, up to the
+// first that stands for something or is refused.
 #[inline]
 fn first_item<W: EntryWalk>(walk: &mut W) -> Result<Option<W::Item>>
     ensures ahead { answers_ahead W.grammar W.limit (W.place walk.old)

@@ -114,8 +114,9 @@ impl<R: Reader> RangeLists<R> {
     }
 
     /// The entries, as they are written, of the list at an offset of the section in which a unit
-    /// with this encoding has its lists. Refusal: `UnexpectedEof`, where the offset lies after the
-    /// section's end, with the section's first place.
+    /// with this encoding has its lists: `.debug_ranges` up to version 4, and `.debug_rnglists`
+    /// since version 5. No entry is read yet. Refusal: `UnexpectedEof`, where the offset lies after
+    /// the section's end, with the section's first place.
     #[tactic(auto, unfolding(crate::specs::Places::raw_list_at))]
     pub fn raw_ranges(
         &self,
@@ -135,7 +136,7 @@ impl<R: Reader> RangeLists<R> {
     }
 
     /// The ranges of the list at an offset of the section in which a unit with this encoding has
-    /// its lists.
+    /// its lists, as for `raw_ranges`. No entry is read yet.
     ///
     /// Offsets count from `base_address` on, which is the unit's `DW_AT_low_pc`, until an entry
     /// gives another base. Addresses that are named by their index are those of the table that
@@ -164,9 +165,13 @@ impl<R: Reader> RangeLists<R> {
     /// The offset in `.debug_rnglists` of the list at an index of the table of offsets that begins
     /// at `base`, which is a unit's `DW_AT_rnglists_base`.
     ///
-    /// Refusals: `UnexpectedEof`, where the base, the bytes before the index or the offset in the
-    /// table lies after the section's end; `UnsupportedOffset`, where the number of bytes before
-    /// the index, the offset or its sum with the base does not fit the reader's offsets.
+    /// The offsets in the table count from `base`. Whether the list lies in the section is not
+    /// looked at.
+    ///
+    /// Refusals, of the first step that has one: `UnexpectedEof`, where the base lies after the
+    /// section's end; `UnsupportedOffset`, where the number of bytes before the index does not fit
+    /// the reader's offsets; `UnexpectedEof`, where the offset in the table would not end in the
+    /// section; `UnsupportedOffset`, where that offset, or its sum with the base, does not fit.
     pub fn get_offset(
         &self,
         unit_encoding: Encoding,
@@ -183,7 +188,7 @@ impl<R: Reader> RangeLists<R> {
     }
 
     /// The section, and the number of its bytes before a place, where the place is one of its bytes
-    /// or its end; `.debug_ranges` is asked first.
+    /// or its end; `.debug_ranges` is asked first. None where the place lies in neither section.
     pub fn lookup_offset_id(&self, id: ReaderOffsetId) -> Option<(SectionId, R::Offset)>
         ensures { option_map (λ p. (p.0, R.Offset.number p.1)) result
             ≡ lookup_in RangesSection RngListsSection id.0
@@ -209,7 +214,8 @@ pub struct Range {
 }
 
 impl Range {
-    // The range of these offsets from a base address on. The size has to be 1, 2, 4 or 8.
+    // Makes the range of two offsets one of addresses, by adding the base address to both. Each sum
+    // keeps its lowest `address_size` bytes. The size has to be 1, 2, 4 or 8.
     #[inline]
     fn add_base_address(&mut self, base_address: u64, address_size: u8)
         requires { IsTrue (is_size address_size) }
@@ -223,8 +229,8 @@ impl Range {
         self.end = base_address.wrapping_add_sized(self.end, address_size);
     }
 
-    // The range, if it begins below the least address that stands for none, and below its end. The
-    // size has to be 1, 2, 4 or 8.
+    // The range of addresses, if it begins below the least address that stands for none, which is
+    // all ones less one, and below its end; else none. The size has to be 1, 2, 4 or 8.
     #[inline]
     fn if_kept(self, address_size: u8) -> Option<Range>
         requires { IsTrue (is_size address_size) }
@@ -238,8 +244,9 @@ impl Range {
         }
     }
 
-    // The same of the range of these offsets from a base address on; there is none where the base
-    // stands for none.
+    // The range of two offsets from a base address on, as `add_base_address` makes it and if
+    // `if_kept` keeps it; none where the base address itself stands for none. The size has to be 1,
+    // 2, 4 or 8.
     #[inline]
     fn kept_from(self, base_address: u64, address_size: u8) -> Option<Range>
         requires { IsTrue (is_size address_size) }

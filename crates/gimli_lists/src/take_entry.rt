@@ -22,8 +22,9 @@ pub(crate) trait RawEntry<R: Reader>: Drop {
     // the entry that code holds
     ghost written: { Self → ListEntry Payload };
 
-    /// The next entry, or none where the list ends; where it is refused, the input is left
-    /// anywhere.
+    /// The next entry, in a format and of the version and size of addresses of `encoding`, or none
+    /// where the entry that ends the list stands, which is passed too. Each takes a byte at least,
+    /// so that an input without bytes is refused. After a refusal the input is left anywhere.
     fn parse(input: &mut R, encoding: Encoding, format: ListsFormat) -> Result<Option<Self>>
         ensures { read_of (answer_of (option_map written) result) (R.view input.new)
             ≡ grammar format encoding (R.view input.old) };
@@ -31,8 +32,9 @@ pub(crate) trait RawEntry<R: Reader>: Drop {
     ghost takes_bytes: { TakesBytes grammar };
 }
 
-/// Takes the next entry of a list, or none where it ends. Nothing is left after the end, and
-/// after a refusal.
+/// Takes the next entry of a list, or none where it ends: at the entry that ends it, or where no
+/// byte is left. Nothing is left after the end, and after a refusal. Refusals: those of
+/// `RawEntry::parse`.
 #[inline(always)]
 #[tactic(auto, unfolding(crate::specs::RawList::next_entry, crate::specs::Places::next_raw))]
 pub(crate) fn take_entry<R: Reader, E: RawEntry<R>>(

@@ -6,7 +6,6 @@ pub mod CursorTruth
 pub mod Declared
 mod DigitsOnto
 pub mod Dumps
-pub mod Found
 pub mod Roots
 pub mod RowLines
 mod RowText

@@ -1,24 +1,12 @@
 -- The unit to which an address belongs (DWARF 5, 6.1.2).
-use Rattle.std.specs.Prelude.{ℕ, ◌^◌, nat_le, nat_lt, ◌&&◌, ◌++◌, codes, Bool, false, if◌then◌else◌}
+use Rattle.std.specs.Prelude.{ℕ, ◌^◌, ◌++◌, codes, if◌then◌else◌}
 use Rattle.std.specs.Prelude.{List, [], ◌∷◌, Option, Some, None, Result, Ok, Err}
-use Rattle.std.specs.List.{list_any}
 use Rattle.gimli_base.specs.declared.error.Error.{Error}
 use Rattle.gimli_base.specs.Refusal.{number_of}
 use Rattle.gimli_base.specs.View.{View}
-use Rattle.gimli_lists.specs.declared.aranges.entries.ArangeEntry.{ArangeEntry}
-use Rattle.gimli_lists.specs.Aranges.{aranges_of}
-use Rattle.gimli_lists.specs.ArangeSets.{ArangeSet, sets_of}
+use Rattle.gimli_lists.specs.ArangeSets.{ArangeSet, set_holds, sets_of}
 use Rattle.gimli_walk.specs.Lines.{Text, one_line, hexadecimal, error_line}
 use Rattle.gimli_walk.specs.Text.{little_view}
-
--- whether a resolved tuple holds an address; a refused one holds none
-abbrev pub holds : ℕ → Result ArangeEntry Error → Bool
-holds address (Ok e) = nat_le e.range.begin address && nat_lt address e.range.end
-holds address (Err x) = false
-
--- whether a set has a tuple that holds it
-abbrev pub set_holds : ℕ → ArangeSet → Bool
-set_holds address s = list_any (holds address) (aranges_of s.encoding.address_size s.tuples)
 
 -- the unit of the first of these sets that has one; a refused header counts where no set before it
 -- has

@@ -21,7 +21,8 @@ use gimli_units::{EntriesCursor, UnitHeader};
 use std::alloc::Allocator;
 use std::io::Write;
 
-// Writes what a step answered, before the row that it ended on.
+// Writes how a step ended, as its line begins: `yes` for true, `no` for false, or `error` and the
+// number of the refusal, and a blank. The line goes on after it.
 #[tactic(auto, unfolding(crate::specs::Cursors::outcome_text))]
 fn write_outcome<W: Write>(out: &mut W, outcome: &AnswerResult<bool>) -> Result<(), WriteFault>
     ensures { OnOk result
@@ -37,7 +38,8 @@ fn write_outcome<W: Write>(out: &mut W, outcome: &AnswerResult<bool>) -> Result<
     }
 }
 
-// Writes the line of what a step answered, after which the cursor stands where it does.
+// Writes the line of a step's answer: how it ended, then the cursor's offset and depth, and the tag
+// and `has_children` of its current entry, both 0 where it stands on none.
 fn write_answer<R: Reader, A: Allocator, W: Write>(
     out: &mut W,
     outcome: &AnswerResult<bool>,
@@ -60,7 +62,7 @@ fn write_answer<R: Reader, A: Allocator, W: Write>(
     }
 }
 
-/// The lines of answers, which are written as they are told.
+/// A sink that writes the line of each answer as soon as it takes it.
 pub(crate) struct AnswerLines<'a, W> {
     out: &'a mut W,
     // whether an answer was a refusal
@@ -89,8 +91,9 @@ impl<R: Reader, A: Allocator, W: Write> Sink<R, A> for AnswerLines<'_, W> {
     ghost more = { λ s t u xs ys h k. (k.0 ∙ h.0, lined_more _ _ _ _ _ _ _ _ xs ys h.1 k.1) };
 }
 
-// Writes the lines of a cursor's answers to these steps. Answers 1 if one of them was a refusal, else
-// 0.
+// Takes these steps, and writes the line of each answer. Answers the exit status: 1 where one of
+// them was a refusal, else 0. `Stop::Memory`: the lines before the step for which memory was
+// refused are written. `Stop::Write`: `out` refused a write.
 fn write_answers<R: Reader, A: Allocator + Copy, W: Write>(
     cursor: &mut EntriesCursor<'_, R, A>,
     steps: &[CursorStep],
@@ -114,8 +117,12 @@ fn write_answers<R: Reader, A: Allocator + Copy, W: Write>(
     }
 }
 
-/// Writes the lines of a cursor's answers to these steps, from the first entry of a unit on, and
-/// answers the status of their text.
+/// Writes a line for the answer of each of these steps of a cursor, which stands before the first
+/// entry of the unit; `follows` says whether it follows sibling references. Answers the exit
+/// status: 1 where an answer was a refusal, else 0. Where memory is refused, the lines of the
+/// answers before and then `error 24` are written, and the status is 1.
+///
+/// Refusal: `WriteFault`, where `out` refuses a write.
 pub(crate) fn write_steps<R: Reader, A: Allocator + Copy, W: Write>(
     alloc: A,
     unit: &UnitHeader<R>,

@@ -12,7 +12,12 @@ use gimli_units::UnitHeader;
 use std::alloc::Allocator;
 use std::io::Write;
 
-/// Writes whether the sibling references of a unit are honest, and answers the status of that text.
+/// Writes the line `honest` where each sibling reference of the unit that can be followed leads
+/// just past the null that closes the children of its entry. Else it writes `false` and the offset
+/// in the unit of the first entry whose reference does not. Answers the exit status, 0 for both
+/// lines.
+///
+/// `Stop::Memory`: nothing is written. `Stop::Write`: `out` refused a write.
 pub(crate) fn write_check<R: Reader, A: Allocator + Copy, W: Write>(
     alloc: A,
     unit: &UnitHeader<R>,

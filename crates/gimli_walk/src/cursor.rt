@@ -62,7 +62,10 @@ pub struct CursorAnswer<R, A: Allocator, Offset = <R as Reader>::Offset> {
     pub next_depth: isize,
 }
 
-// Takes a step.
+// Takes a step. Answers true where there is an entry, for `NextEntry` also a null. False: nothing
+// is left, or, for `NextSibling`, a null closes the list first, or there is no current entry.
+// Refusals: those of `EntriesRaw::read_entry`; nothing is left to read then, and there is no
+// current entry.
 fn take<R: Reader, A: Allocator>(
     cursor: &mut EntriesCursor<'_, R, A>,
     step: CursorStep,
@@ -102,7 +105,7 @@ fn take<R: Reader, A: Allocator>(
     }
 }
 
-// Whether memory was refused.
+// Whether a step was refused for memory: it answered `OutOfMemory`.
 fn wants_memory(outcome: &Result<bool>) -> bool
     ensures { result ≡ false → outcome.now ≡ Err OutOfMemory → ⊥ }
 {
@@ -112,7 +115,7 @@ fn wants_memory(outcome: &Result<bool>) -> bool
     }
 }
 
-// A copy of the current entry, if there is one. Refusal: `OutOfMemory`.
+// A copy of the current entry, or none where the cursor stands on no entry. Refusal: `OutOfMemory`.
 fn current_of<R: Reader, A: Allocator + Copy>(
     alloc: A,
     cursor: &EntriesCursor<'_, R, A>,
@@ -133,7 +136,9 @@ fn current_of<R: Reader, A: Allocator + Copy>(
     }
 }
 
-// Takes these steps, and tells each answer.
+/// Takes these steps in order, and hands the answer of each to the sink, a refusal too.
+/// `Stop::Memory`: memory was refused for a step or for its answer, and the sink has the answers
+/// before. `Stop::Write`, only of a sink that writes: it is left anywhere.
 pub(crate) fn run_steps<R: Reader, A: Allocator + Copy, S: Sink<R, A>>(
     cursor: &mut EntriesCursor<'_, R, A>,
     steps: &[CursorStep],
@@ -153,7 +158,7 @@ pub(crate) fn run_steps<R: Reader, A: Allocator + Copy, S: Sink<R, A>>(
     Ok(())
 }
 
-// Answers in memory.
+// A sink that holds the answers in memory.
 #[derive(Drop)]
 struct Collected<R: Reader, A: Allocator> {
     alloc: A,
@@ -195,7 +200,8 @@ impl<R: Reader, A: Allocator + Copy> Sink<R, A> for Collected<R, A> {
     ghost more = { λ s t u xs ys h k. collected_more _ _ _ _ _ xs ys h k };
 }
 
-// The answers of these steps, as far as there is memory for them.
+// The answers to these steps. Where memory is refused, for a step or for its answer, the run is
+// stopped, and holds the answers before.
 fn collect_steps<R: Reader, A: Allocator + Copy>(
     alloc: A,
     cursor: &mut EntriesCursor<'_, R, A>,
@@ -218,7 +224,8 @@ fn collect_steps<R: Reader, A: Allocator + Copy>(
     }
 }
 
-// A cursor before the first entry.
+/// A cursor before the first entry of a unit; `follows` says whether it follows sibling references.
+/// It ends at once where the unit has no bytes of entries.
 pub(crate) fn first_cursor<'abbrev, R: Reader, A: Allocator + Copy>(
     alloc: A,
     unit: &UnitHeader<R>,
@@ -234,7 +241,9 @@ pub(crate) fn first_cursor<'abbrev, R: Reader, A: Allocator + Copy>(
     }
 }
 
-// A cursor at a start, or at the first entry. Refusal: `OffsetOutOfBounds` of the start.
+// A cursor before what stands at the offset `start` of the unit, at depth 0, or before the first
+// entry where `start` is none; `follows` says whether it follows sibling references. Refusal:
+// `OffsetOutOfBounds` of the start.
 fn start_cursor<'abbrev, R: Reader, A: Allocator + Copy>(
     alloc: A,
     unit: &UnitHeader<R>,
@@ -257,16 +266,17 @@ fn start_cursor<'abbrev, R: Reader, A: Allocator + Copy>(
     }
 }
 
-/// The answers of a cursor from a start, or from the first entry, to these steps; the cursor
-/// follows sibling references.
+/// The answers of a cursor to these steps, from the offset `start` of the unit, or from the first
+/// entry; the cursor follows sibling references.
 ///
 /// Where the rows from the start are honest, or no step looks for a sibling, they are the
-/// definition's answers. Whatever the references, each is true: its entry is what the unit has at
-/// its offset, and what is read next stands after it. And each is that of its step from the place
-/// after the answer before, but for a sibling that is sought by references that are not honest,
-/// which stands ahead all the same. A `NextSibling` straight after an entry follows its reference
-/// where it can be followed. Refusal: `OffsetOutOfBounds` of the start. Where memory is refused the
-/// run is stopped, and holds the answers before.
+/// definition's answers, as those of `run_cursor_plain` always are. Whatever the references, each
+/// is true: its entry is what the unit has at its offset, and what is read next stands after it.
+/// And each is that of its step from the place after the answer before, but for a sibling that is
+/// sought by references that are not honest, which stands ahead all the same. A `NextSibling`
+/// straight after an entry follows its reference where it can be followed. Refusal:
+/// `OffsetOutOfBounds` of the start. Where memory is refused the run is stopped, and holds the
+/// answers before.
 pub fn run_cursor<R: Reader, A: Allocator + Copy>(
     alloc: A,
     unit: &UnitHeader<R>,
@@ -284,8 +294,8 @@ pub fn run_cursor<R: Reader, A: Allocator + Copy>(
     Ok(collect_steps(alloc, &mut cursor, steps))
 }
 
-/// The answers of a cursor that follows no reference, from a start, or from the first entry, to
-/// these steps. They are the definition's, whatever the references.
+/// The answers of a cursor that follows no reference to these steps, from the offset `start` of the
+/// unit, or from the first entry. They are the definition's, whatever the references.
 ///
 /// Refusal: `OffsetOutOfBounds` of the start. Where memory is refused the run is stopped, and holds
 /// the answers before.

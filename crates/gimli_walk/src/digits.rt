@@ -12,7 +12,8 @@ fn hex_digit(digit: u64) -> u8
     b"0123456789abcdef"[digit as usize]
 }
 
-/// Writes a byte just before `end`, and answers where it stands.
+/// Writes a byte just before the index `end`, and answers its index. What stands from `end` on
+/// stays, as in each function here.
 #[inline(always)]
 pub(crate) fn put_byte(byte: u8, end: usize, line: &mut [u8; 48]) -> usize
     requires room { 1 ≤ end }
@@ -24,7 +25,8 @@ pub(crate) fn put_byte(byte: u8, end: usize, line: &mut [u8; 48]) -> usize
     end - 1
 }
 
-// Writes the last two hexadecimal digits of a number, also where they are zeros.
+// Writes the last two hexadecimal digits of a number, in lower case and also where they are zeros,
+// just before `end`, and answers where the first stands.
 #[inline(always)]
 fn put_two(number: u64, end: usize, line: &mut [u8; 48]) -> usize
     requires room { 2 ≤ end }
@@ -37,8 +39,8 @@ fn put_two(number: u64, end: usize, line: &mut [u8; 48]) -> usize
     put_byte(hex_digit(number / 16 % 16), low, line)
 }
 
-// Writes a number below 256 in hexadecimal. Both digits are written, and the number begins after
-// the first one where that is a zero.
+// Writes a number below 256 in hexadecimal, in lower case, just before `end`, and answers where it
+// begins: a leading zero is written too, but the number begins after it.
 #[inline(always)]
 fn put_pair(number: u64, end: usize, line: &mut [u8; 48]) -> usize
     requires small { number < 256 }
@@ -52,8 +54,8 @@ fn put_pair(number: u64, end: usize, line: &mut [u8; 48]) -> usize
     if number < 16 { at + 1 } else { at }
 }
 
-/// Writes a number in hexadecimal so that its last digit stands just before `end`, and answers
-/// where its first one stands.
+/// Writes a number in hexadecimal, in lower case and without leading zeros, so that its last digit
+/// stands just before `end`, and answers where its first one stands. `end` is 17 or more.
 #[inline(always)]
 pub(crate) fn put_hexadecimal(number: u64, end: usize, line: &mut [u8; 48]) -> usize
     requires room { 17 ≤ end }
@@ -70,7 +72,8 @@ pub(crate) fn put_hexadecimal(number: u64, end: usize, line: &mut [u8; 48]) -> u
     put_pair(rest, at, line)
 }
 
-/// Writes a number of 16 bits in the same way, in at most four digits.
+/// Writes a number in hexadecimal as `put_hexadecimal` does, in at most four digits. `end` is 4 or
+/// more.
 #[inline(always)]
 pub(crate) fn put_short(number: u16, end: usize, line: &mut [u8; 48]) -> usize
     requires room { 4 ≤ end }
@@ -88,7 +91,8 @@ pub(crate) fn put_short(number: u16, end: usize, line: &mut [u8; 48]) -> usize
     }
 }
 
-// Writes a number in decimal.
+// Writes a number in decimal, without leading zeros, just before `end`, in at most 20 digits, and
+// answers where its first one stands.
 fn put_decimal(number: u64, end: usize, line: &mut [u8; 48]) -> usize
     requires room { 20 ≤ end }
     requires within { end ≤ 48 }
@@ -105,7 +109,8 @@ fn put_decimal(number: u64, end: usize, line: &mut [u8; 48]) -> usize
     put_byte(b'0' + rest as u8, at, line)
 }
 
-// Writes a number of any length with its sign, in decimal.
+// As `put_signed`, of a number of any length: in decimal just before `end`, with `-` before the
+// digits of a negative one.
 #[inline(never)]
 fn put_long_signed(number: isize, end: usize, line: &mut [u8; 48]) -> usize
     requires room { 21 ≤ end }
@@ -123,8 +128,9 @@ fn put_long_signed(number: isize, end: usize, line: &mut [u8; 48]) -> usize
     }
 }
 
-/// Writes a number in decimal with its sign just before `end`, and answers where it begins. One of a
-/// single digit takes no loop.
+/// Writes a number in decimal just before `end`, with `-` before the digits of a negative one and
+/// no sign before others, and answers where it begins. One of a single digit takes no loop. `end`
+/// is 21 or more.
 #[inline(always)]
 pub(crate) fn put_signed(number: isize, end: usize, line: &mut [u8; 48]) -> usize
     requires room { 21 ≤ end }

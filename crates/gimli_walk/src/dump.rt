@@ -59,7 +59,9 @@ pub fn dump_text<A: Allocator + Copy, W: Write>(
     end_lines(written, out)
 }
 
-// Writes the units of a section, and answers the status of their text.
+// Writes the units of a section as `dump_text` says, and answers the exit status: 1 where a refusal
+// was met, else 0. `Stop::Memory`, where memory for a table is refused: lines from the front, but
+// not all, are written. `Stop::Write`: `out` refused a write.
 fn dump_units<R: Reader, A: Allocator + Copy, W: Write>(
     alloc: A,
     debug_info: &DebugInfo<R>,
@@ -101,8 +103,9 @@ struct CachedTable<A: Allocator> {
     table: Abbreviations<A>,
 }
 
-// The table of a unit: that of the unit before, where it begins at the same offset, or else it is
-// read. Refusals: those of `UnitHeader::abbreviations`.
+// The table of a unit: `before`, that of the unit before, where it begins at the same offset, or
+// else it is read in `debug_abbrev`, in which `before` was read too. Refusals: those of
+// `UnitHeader::abbreviations`.
 fn table_of<R: Reader, A: Allocator + Copy>(
     alloc: A,
     unit: &UnitHeader<R>,
@@ -130,8 +133,10 @@ fn table_of<R: Reader, A: Allocator + Copy>(
     Ok(CachedTable { offset, table })
 }
 
-// Writes a unit, and answers the status of its text. The table of the unit before is held, and
-// then that of this unit, or none where it is refused.
+// Writes the line of a unit and those of its rows, or a line `error` where its table is refused,
+// and answers their exit status. `held` is the table of the unit before, if there is one, and then
+// that of this unit, or none where it is refused. `Stop::Memory`, where memory for the table is
+// refused: the unit's own line is written. `Stop::Write`: `out` refused a write.
 fn dump_unit<R: Reader, A: Allocator + Copy, W: Write>(
     alloc: A,
     unit: &UnitHeader<R>,
@@ -166,7 +171,8 @@ fn dump_unit<R: Reader, A: Allocator + Copy, W: Write>(
     }
 }
 
-// The number of a unit's type.
+// The number of a unit's type in its line: 1 to 6, as DWARF 5 numbers the types (7.5.1), or the
+// code of a vendor's.
 fn number_of<O: ReaderOffset>(unit_type: UnitType<O>) -> u8
     ensures { result ≡ number_of_type (map_type O.number unit_type) }
 {

@@ -36,8 +36,8 @@ impl<A: Allocator> Write for Bytes<A> {
     }
 }
 
-/// Puts what `dump_text` writes of these sections onto `text`, and answers the exit status: 1 where
-/// a refusal was met, else 0.
+/// Puts what `dump_text` writes of these sections onto the end of `text`, and answers the exit
+/// status: 1 where a refusal was met, else 0.
 ///
 /// Where memory is refused for a table of abbreviations, whole lines from the front and then
 /// `error 24` are put onto `text`, and the status is 1; which tables take some, `dump_text` says.
@@ -71,7 +71,8 @@ pub fn dump_to_vec<A: Allocator + Copy>(
     Ok(status)
 }
 
-// The same, onto an empty list, whose room is used.
+// As `dump_to_vec`, for an empty `text`, whose room is used. Refusal: `OutOfMemory`, where memory
+// is refused for the lines; `text` is then empty.
 fn fill<A: Allocator + Copy>(
     alloc: A,
     info: &[u8],

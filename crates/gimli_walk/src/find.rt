@@ -4,21 +4,20 @@ ghost use Rattle.std.specs.Prelude.{◌≡◌, OnOk, IfOk};
 ghost use Rattle.std.specs.Io.KnownBytes.{Appends};
 ghost use Rattle.std.specs.Option.{option_map};
 ghost use Rattle.gimli_base.specs.Offset.{answer_of};
-ghost use Rattle.gimli_walk.specs.UnitOfAddress.{set_holds, unit_holding, found_line, none_line};
-ghost use Rattle.gimli_walk.specs.UnitOfAddress.{find_of};
+ghost use Rattle.gimli_walk.specs.UnitOfAddress.{unit_holding, found_line, none_line, find_of};
 ghost use Rattle.gimli_walk.specs.Text.{WroteAll};
 ghost use Rattle.gimli_lists.specs.Sections.{aranges_content};
 
 use crate::lines::{WriteFault, write_error};
 use gimli_base::{LittleEndian, Reader, ReaderOffset, Result, Section};
-use gimli_lists::{ArangeHeader, DebugAranges, HasArangeSet};
+use gimli_lists::DebugAranges;
 use gimli_units::DebugInfoOffset;
 use std::io::Write;
 use std::result::Result as StdResult;
 
 /// Where the unit begins in `.debug_info` to which an address belongs: that of the first set, in
-/// order, with a range that holds the address. Tuples whose end does not fit are passed over. No
-/// memory is asked for.
+/// order, with a range that holds the address; none where no set has one. Tuples whose end does not
+/// fit are passed over. No memory is asked for.
 ///
 /// Refusals: those of the header of a set, where no set before it holds the address.
 pub fn unit_of_address<R: Reader>(
@@ -33,7 +32,7 @@ pub fn unit_of_address<R: Reader>(
     'sets: loop {
         match headers.next() {
             Ok(Some(header)) => {
-                if has_address(&header, address) {
+                if header.holds(address) {
                     return Ok(Some(header.debug_info_offset()));
                 }
             }
@@ -43,26 +42,7 @@ pub fn unit_of_address<R: Reader>(
     }
 }
 
-// Whether a set has a range that holds an address.
-fn has_address<R: Reader>(header: &ArangeHeader<R>, address: u64) -> bool
-    ensures { result ≡ set_holds address (⟦<ArangeHeader<R> as HasArangeSet>⟧.set header.now) }
-{
-    let mut entries = header.entries();
-    'entries: loop {
-        match entries.next() {
-            Ok(Some(entry)) => {
-                let range = entry.range();
-                if range.begin <= address && address < range.end {
-                    return true;
-                }
-            }
-            Ok(None) => return false,
-            Err(_) => {}
-        }
-    }
-}
-
-// Writes the line of a unit that was found.
+// Writes the line of a unit that was found: `unit`, and in hexadecimal its offset in `.debug_info`.
 #[tactic(auto, unfolding(crate::specs::UnitOfAddress::found_line))]
 fn write_found<W: Write>(out: &mut W, offset: u64) -> StdResult<(), WriteFault>
     ensures { OnOk result (Appends (W.contents out.old) (W.contents out.new) (found_line offset)) }
@@ -70,16 +50,16 @@ fn write_found<W: Write>(out: &mut W, offset: u64) -> StdResult<(), WriteFault>
     write!(out, "unit {offset:x}\n").map_err(|_| WriteFault)
 }
 
-// Writes the line that no unit was found.
+// Writes the line `none`, where no unit was found.
 fn write_none<W: Write>(out: &mut W) -> StdResult<(), WriteFault>
     ensures { OnOk result (Appends (W.contents out.old) (W.contents out.new) none_line) }
 {
     out.write_all(b"none\n").map_err(|_| WriteFault)
 }
 
-/// Writes where the unit begins to which an address belongs, as `unit OFFSET`, or `none`, or
-/// `error` and the number of the refusal, and answers the exit status: 1 where a refusal was met,
-/// else 0. The section is little endian. The search takes no memory.
+/// Writes where the unit begins to which an address belongs, as `unit OFFSET` in hexadecimal, or
+/// `none`, or `error` and the number of the refusal, and answers the exit status: 1 where a refusal
+/// was met, else 0. The section is little endian. The search takes no memory.
 ///
 /// Refusal: `WriteFault`, where `out` refuses a write. Nothing more is written then, and nothing is
 /// said of what was written before.

@@ -9,11 +9,12 @@ ghost use Rattle.gimli_walk.specs.Words.{IsAddress};
 use crate::{CursorStep, TreeStep};
 use std::alloc::{AllocError, Allocator};
 
-/// A step that a letter names.
+/// A kind of steps that letters name.
 pub(crate) trait Lettered: Copy {
     ghost names: { ℕ → Option Self };
 
-    /// The step that a letter names.
+    /// The step that a letter names, or none. The steps of a cursor are `e`, `d` and `s`, those of
+    /// a tree `r`, `n`, `i` and `o`.
     fn of_letter(letter: u8) -> Option<Self>
         ensures { result ≡ names letter };
 }
@@ -45,7 +46,7 @@ impl Lettered for TreeStep {
     }
 }
 
-/// Whether each of these letters names a step.
+/// Whether each of these letters names a step; true of no letters.
 pub(crate) fn are_steps<S: Lettered>(letters: &str) -> bool
     ensures { IsTrue result ↔ AreSteps S.names letters.now }
 {
@@ -55,7 +56,8 @@ pub(crate) fn are_steps<S: Lettered>(letters: &str) -> bool
         .all(|&letter| S::of_letter(letter).is_some())
 }
 
-/// The steps that these letters name.
+/// The steps that these letters name, in order; a letter that names none is passed. Refusal:
+/// `AllocError`, where memory is refused.
 pub(crate) fn steps_in<S: Lettered, A: Allocator>(
     alloc: A,
     letters: &str,
@@ -69,7 +71,8 @@ pub(crate) fn steps_in<S: Lettered, A: Allocator>(
         .collect(alloc)
 }
 
-/// The number that 1 to 16 digits in lower-case hexadecimal write.
+/// The number that 1 to 16 hexadecimal digits write. None of any other letters: capitals, a sign
+/// and a prefix are not taken.
 pub(crate) fn address_in(letters: &str) -> Option<u64>
     ensures value { IfSome result (λ n. IsAddress letters.now × (n ≡ digits_value 16 letters.now)) }
     ensures none { result ≡ None → IsAddress letters.now → ⊥ }
@@ -80,7 +83,7 @@ pub(crate) fn address_in(letters: &str) -> Option<u64>
     u64::from_str_radix(letters, 16).ok()
 }
 
-// Whether each of these letters is a digit in hexadecimal that is no capital.
+// Whether each of these letters is a digit in hexadecimal that is no capital; true of no letters.
 fn are_digits(letters: &str) -> bool
     ensures { IsTrue result ↔ AllPass is_lower_digit letters.now }
 {

@@ -32,8 +32,9 @@ impl From<WriteFault> for Stop {
     }
 }
 
-// Puts the line of a row at the end of a buffer, and answers where it begins. It has at most 45
-// bytes: 16 digits, a sign and 19 digits, 4 digits, the flag, three spaces and the end.
+// Puts the line of a row, as `write_row` says, at the end of a buffer, and answers where it begins.
+// It has at most 45 bytes: 16 digits, a sign and 19 digits, 4 digits, the flag, three spaces and
+// the end.
 #[inline(always)]
 fn put_row(offset: u64, depth: isize, tag: u16, has_children: bool, line: &mut [u8; 48]) -> usize
     ensures within { result ≤ 48 }
@@ -50,8 +51,9 @@ fn put_row(offset: u64, depth: isize, tag: u16, has_children: bool, line: &mut [
     put_hexadecimal(offset, gap, line)
 }
 
-/// Writes the line of a row: its offset and tag in hexadecimal, its depth, and whether children
-/// follow. It is put together in `line`, whatever stands there, and written at once.
+/// Writes the line of a row: its offset in hexadecimal, its depth in decimal, its tag in
+/// hexadecimal, and `has_children` as 1 or 0. It is put together in `line`, whatever stands there,
+/// and written at once.
 pub(crate) fn write_row<W: Write>(
     out: &mut W,
     line: &mut [u8; 48],
@@ -69,21 +71,22 @@ pub(crate) fn write_row<W: Write>(
     out.write_all(&text[begin..]).map_err(|_| WriteFault)
 }
 
-/// Writes the line after the last row.
+/// Writes the line `end`: after the last row of a unit, or for a list of children that is at its
+/// end.
 pub(crate) fn write_end<W: Write>(out: &mut W) -> Result<(), WriteFault>
     ensures { OnOk result (Appends (W.contents out.old) (W.contents out.new) end_line) }
 {
     out.write_all(b"end\n").map_err(|_| WriteFault)
 }
 
-/// Writes the line of a section without units.
+/// Writes the line `no unit`, of a section without units.
 pub(crate) fn write_no_unit<W: Write>(out: &mut W) -> Result<(), WriteFault>
     ensures { OnOk result (Appends (W.contents out.old) (W.contents out.new) no_unit_line) }
 {
     out.write_all(b"no unit\n").map_err(|_| WriteFault)
 }
 
-/// Writes the line of a refusal.
+/// Writes the line of a refusal: `error` and its number.
 #[tactic(auto, unfolding(crate::specs::Lines::error_line))]
 pub(crate) fn write_error<W: Write>(out: &mut W, error: Error) -> Result<(), WriteFault>
     ensures { OnOk result
@@ -93,7 +96,8 @@ pub(crate) fn write_error<W: Write>(out: &mut W, error: Error) -> Result<(), Wri
     write!(out, "error {number}\n").map_err(|_| WriteFault)
 }
 
-/// Writes the line of a refusal at an offset of the unit.
+/// Writes the line of a refusal at an offset of the unit: `error`, its number, and the offset in
+/// hexadecimal.
 #[tactic(auto, unfolding(crate::specs::Lines::error_line_at))]
 pub(crate) fn write_error_at<W: Write>(
     out: &mut W,
@@ -108,8 +112,8 @@ pub(crate) fn write_error_at<W: Write>(
     write!(out, "error {number} {offset:x}\n").map_err(|_| WriteFault)
 }
 
-/// Writes the line of a unit: its offset and the number of its type in hexadecimal, and between
-/// them its version.
+/// Writes the line of a unit: `unit`, its offset and the number of its type in hexadecimal, and
+/// between them its version in decimal.
 #[tactic(auto, unfolding(crate::specs::Lines::unit_line))]
 pub(crate) fn write_unit_line<W: Write>(
     out: &mut W,
@@ -123,14 +127,15 @@ pub(crate) fn write_unit_line<W: Write>(
     write!(out, "unit {offset:x} {version} {type_number:x}\n").map_err(|_| WriteFault)
 }
 
-/// Writes the line of a unit whose sibling references are honest.
+/// Writes the line `honest`, of a unit whose sibling references are.
 pub(crate) fn write_honest<W: Write>(out: &mut W) -> Result<(), WriteFault>
     ensures { OnOk result (Appends (W.contents out.old) (W.contents out.new) honest_line) }
 {
     out.write_all(b"honest\n").map_err(|_| WriteFault)
 }
 
-/// Writes the line of an entry whose sibling reference is false, by its offset in the unit.
+/// Writes the line of an entry whose sibling reference is false: `false`, and in hexadecimal the
+/// entry's offset in the unit.
 #[tactic(auto, unfolding(crate::specs::Lines::false_line))]
 pub(crate) fn write_false<W: Write>(out: &mut W, offset: u64) -> Result<(), WriteFault>
     ensures { OnOk result (Appends (W.contents out.old) (W.contents out.new) (false_line offset)) }

@@ -46,7 +46,8 @@ pub fn run_locations<R: Reader, A: Allocator + Copy>(
     Ok(run_all(alloc, locations))
 }
 
-// The locations of the list at an offset.
+// The locations of the list at an offset, from the first on; the parameters are those of
+// `run_locations`. Refusal: `UnexpectedEof`, where the offset lies after the section's end.
 fn begin<R: Reader>(
     lists: &LocationLists<R>,
     offset: LocationListsOffset<R::Offset>,

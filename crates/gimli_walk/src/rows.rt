@@ -18,7 +18,8 @@ use gimli_units::{EntriesRaw, UnitHeader};
 use std::alloc::Allocator;
 use std::io::Write;
 
-// The tag and the children flag of the entries of a declaration, or of a null.
+// The tag and `has_children` of the entries of a declaration; 0 and false of a null, which has
+// none.
 #[inline(always)]
 fn head_parts<A: Allocator>(declared: Option<&Abbreviation<A>>) -> (u16, bool)
     ensures tag { result.0 ≡ (head_of (option_copied declared.entry)).tag.0 }
@@ -33,8 +34,10 @@ fn head_parts<A: Allocator>(declared: Option<&Abbreviation<A>>) -> (u16, bool)
     }
 }
 
-// Writes the lines of the rows that are left, and answers the status of their text. Of an entry only
-// the head is read, so that no memory is taken.
+// Writes a line for each row that is left, nulls too, and then `end`, and answers the exit status
+// 0. A row that is refused ends them: `error`, the number of the refusal and the row's offset stand
+// in place of `end`, and the status is 1. Attributes are passed and not kept, so that no memory is
+// taken: of `Stop` only `Write` comes.
 fn write_rows_left<R: Reader, A: Allocator, W: Write>(
     entries: &mut EntriesRaw<'_, R, A>,
     out: &mut W,
@@ -64,7 +67,10 @@ fn write_rows_left<R: Reader, A: Allocator, W: Write>(
     Ok(0)
 }
 
-/// Writes the lines of a unit's rows, and answers the status of their text.
+/// Writes a line for each row of a unit, nulls too, and then `end`, and answers the exit status 0.
+/// A row that is refused ends them: `error`, the number of the refusal and the row's offset stand
+/// in place of `end`, and the status is 1. A unit without bytes of entries has the line `end`
+/// alone. No memory is taken: of `Stop` only `Write` comes.
 pub(crate) fn write_rows<R: Reader, A: Allocator, W: Write>(
     unit: &UnitHeader<R>,
     abbreviations: &Abbreviations<A>,
@@ -84,8 +90,9 @@ pub(crate) fn write_rows<R: Reader, A: Allocator, W: Write>(
     }
 }
 
-/// Writes the line that tells that memory was refused, after lines that were stopped for it, and
-/// answers their status.
+/// Ends lines that may have been stopped, and answers the exit status: where memory was refused, it
+/// writes `error 24`, of status 1; else it writes nothing, and the status is the one that the lines
+/// have. Refusal: `WriteFault`, where a write was refused, then or now.
 pub(crate) fn end_lines<W: Write>(written: Result<u8, Stop>, out: &mut W) -> Result<u8, WriteFault>
     ensures lines { (start : _) (text : Text) → WroteUntil start (W.contents out.old) text written →
         IfOk result (λ status. Wrote start (W.contents out.new) text status) }

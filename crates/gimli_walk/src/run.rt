@@ -25,7 +25,8 @@ pub struct Run<T, A: Allocator> {
     pub stopped: bool,
 }
 
-// Every item of an iterator, which ends.
+/// The items of an iterator that comes to an end, in order. Where memory for one is refused the run
+/// is stopped, and holds the items before it.
 pub(crate) fn run_all<T: Drop, I: Iterator<Item = T>, A: Allocator>(alloc: A, items: I) -> Run<T, A>
     requires can { I.can_next items }
     requires ends { IsFinite (I.remaining items) }

@@ -16,14 +16,15 @@ use std::alloc::Allocator;
 
 /// What takes the answers of a cursor's run.
 pub(crate) trait Sink<R: Reader, A: Allocator> {
-    // one was told these answers, and is then the other
+    // the first has taken these answers, and is then the second
     ghost has_received: { Self → List Answer → Self → Type 0 };
 
     // whether it writes
     ghost writes: { Bool };
 
-    /// Takes what a step answered, after which the cursor stands where it does. Where memory is
-    /// refused nothing is taken.
+    /// Takes what a step answered, and of the cursor the place where it then stands.
+    /// `Stop::Memory`: nothing is taken. `Stop::Write`, only of a sink that writes: it is left
+    /// anywhere.
     fn tell(
         &mut self,
         outcome: AnswerResult<bool>,
@@ -42,20 +43,22 @@ pub(crate) trait Sink<R: Reader, A: Allocator> {
 
 /// What takes the answers of a tree's run.
 pub(crate) trait TreeSink<R: Reader, A: Allocator> {
-    // one was told these answers, and is then the other
+    // the first has taken these answers, and is then the second
     ghost has_received: { Self → List StepAnswer → Self → Type 0 };
 
     // whether it writes
     ghost writes: { Bool };
 
-    /// Takes a node, by its entry. Where memory is refused nothing is taken.
+    /// Takes a node, by its entry. `Stop::Memory`: nothing is taken. `Stop::Write`, only of a sink
+    /// that writes: it is left anywhere.
     fn tell_node(&mut self, entry: &DebuggingInformationEntry<R, A>) -> Result<(), Stop>
         ensures answer { OnOk result (has_received self.old
             (a_node (node_held R.view R.Offset.number entry.now) ∷ []) self.new) }
         ensures kept { result ≡ Err Memory → has_received self.old [] self.new }
         ensures fault { result ≡ Err WriteStop → writes ≡ true };
 
-    /// Takes an answer that is no node. Where memory is refused nothing is taken.
+    /// Takes an answer that is no node. `Stop::Memory`: nothing is taken. `Stop::Write`, only of a
+    /// sink that writes: it is left anywhere.
     fn tell(&mut self, word: Word) -> Result<(), Stop>
         ensures answer { OnOk result (has_received self.old (word_answer word ∷ []) self.new) }
         ensures kept { result ≡ Err Memory → has_received self.old [] self.new }

@@ -28,6 +28,10 @@ use std::io::Write;
 /// Writes what a walk over the first unit of `.debug_info` answers, and answers the exit status: 1
 /// where there is no unit or a refusal was met, else 0. The sections are little endian.
 ///
+/// Where `Mode::Cursor` looks for a sibling, and in each walk of `Mode::Tree`, sibling references
+/// are followed: the lines are those of the unit's entries where the references are honest. Where
+/// they are not, each line is true all the same, as `run_cursor` and `run_tree` say.
+///
 /// Where memory is refused, whole lines from the front are written and then `error 24`, and the
 /// status is 1. Memory is taken only where the header of the unit is read: for its table, as
 /// `UnitHeader::abbreviations` takes some, and after that in any mode but that of rows.
@@ -58,7 +62,9 @@ pub fn walk_text<A: Allocator + Copy, W: Write>(
     walk_sections(alloc, mode, &debug_info, &debug_abbrev, out)
 }
 
-// The lines of the first unit of a section.
+// Writes the lines of the first unit of a section, and answers their exit status. A section without
+// units has the line `no unit`, and a refused header a line `error`; their status is 1. Refusal:
+// `WriteFault`.
 #[tactic(auto, unfolding(crate::specs::Text::sections_text, gimli_headers::specs::Units::next_unit))]
 fn walk_sections<R: Reader, A: Allocator + Copy, W: Write>(
     alloc: A,
@@ -99,7 +105,9 @@ fn walk_sections<R: Reader, A: Allocator + Copy, W: Write>(
     }
 }
 
-// The lines of a unit.
+// Writes the lines of a unit, whose table is read in `debug_abbrev`, and answers their exit status.
+// Where the table is refused, for memory too, that is one line `error`, of status 1. Refusal:
+// `WriteFault`.
 fn walk_unit<R: Reader, A: Allocator + Copy, W: Write>(
     alloc: A,
     mode: Mode<'_>,
@@ -136,7 +144,9 @@ fn walk_unit<R: Reader, A: Allocator + Copy, W: Write>(
     }
 }
 
-// The lines of a unit with its abbreviations.
+// Writes the lines of a unit with its abbreviations, and answers their exit status. Where memory is
+// refused, lines from the front and then `error 24` are written, and the status is 1. Refusal:
+// `WriteFault`.
 fn walk_declared<R: Reader, A: Allocator + Copy, W: Write>(
     alloc: A,
     mode: Mode<'_>,

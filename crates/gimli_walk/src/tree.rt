@@ -71,14 +71,15 @@ pub(crate) enum Word {
     Fault(Error),
 }
 
-// Whether a refusal is that of memory.
+// Whether a refusal is `OutOfMemory`.
 fn is_memory(error: Error) -> bool
     ensures { result ≡ false → error ≡ OutOfMemory → ⊥ }
 {
     matches!(error, Error::OutOfMemory)
 }
 
-// Tells what was refused, unless that is memory.
+// Hands to the sink what was refused. Refused memory is not handed on, but stops the run:
+// `Stop::Memory`.
 fn tell_fault<R: Reader, A: Allocator, S: TreeSink<R, A>>(
     error: Error,
     sink: &mut S,
@@ -94,7 +95,8 @@ fn tell_fault<R: Reader, A: Allocator, S: TreeSink<R, A>>(
     sink.tell(Word::Fault(error))
 }
 
-// Tells the node that a walker stands on, or the end of a list where it stands on none.
+// Hands to the sink the node that a walker stands on, or the end of the list where it stands on
+// none.
 fn tell_found<R: Reader, A: Allocator, S: TreeSink<R, A>>(
     walker: &EntriesTreeWalker<'_, R, A>,
     sink: &mut S,
@@ -110,7 +112,8 @@ fn tell_found<R: Reader, A: Allocator, S: TreeSink<R, A>>(
     }
 }
 
-// The step to the root, which drops all lists.
+// The step to the tree's root, which is the entry at its start; all lists are dropped. Hands on the
+// node or what was refused; refused memory is not handed on, but stops the run.
 fn turn_root<R: Reader, A: Allocator, S: TreeSink<R, A>>(
     walker: &mut EntriesTreeWalker<'_, R, A>,
     sink: &mut S,
@@ -127,7 +130,9 @@ fn turn_root<R: Reader, A: Allocator, S: TreeSink<R, A>>(
     }
 }
 
-// The step to the next node of the innermost list, if there is one.
+// The step to the next node of the innermost list of children. Hands on the node, the list's end,
+// or what was refused, and `NoNode` where there is no list; refused memory is not handed on, but
+// stops the run.
 fn turn_next<R: Reader, A: Allocator, S: TreeSink<R, A>>(
     walker: &mut EntriesTreeWalker<'_, R, A>,
     sink: &mut S,
@@ -147,7 +152,8 @@ fn turn_next<R: Reader, A: Allocator, S: TreeSink<R, A>>(
     }
 }
 
-// The step into the list of the node, if there is one.
+// The step into the list of the node, also of one without children. Hands on `Entered`, or `NoNode`
+// where the walk stands on no node; refused memory stops the run.
 fn turn_enter<R: Reader, A: Allocator, S: TreeSink<R, A>>(
     walker: &mut EntriesTreeWalker<'_, R, A>,
     sink: &mut S,
@@ -165,7 +171,8 @@ fn turn_enter<R: Reader, A: Allocator, S: TreeSink<R, A>>(
     }
 }
 
-// The step out of the innermost list, if there is one.
+// The step out of the innermost list. Hands on `Left`, and the walk stands on no node then; or
+// `NoNode` where there is no list, and nothing moves.
 fn turn_leave<R: Reader, A: Allocator, S: TreeSink<R, A>>(
     walker: &mut EntriesTreeWalker<'_, R, A>,
     sink: &mut S,
@@ -183,7 +190,9 @@ fn turn_leave<R: Reader, A: Allocator, S: TreeSink<R, A>>(
     }
 }
 
-// One step.
+// Takes one step, and hands its answer to the sink. `Stop::Memory`: memory was refused for the step
+// or for its answer, and nothing is handed on. `Stop::Write`, only of a sink that writes: it is
+// left anywhere.
 fn turn<R: Reader, A: Allocator, S: TreeSink<R, A>>(
     walker: &mut EntriesTreeWalker<'_, R, A>,
     step: TreeStep,
@@ -203,7 +212,9 @@ fn turn<R: Reader, A: Allocator, S: TreeSink<R, A>>(
     }
 }
 
-// Takes these steps, and tells each answer.
+/// Takes these steps in order, and hands the answer of each to the sink, a refusal too.
+/// `Stop::Memory`: memory was refused for a step or for its answer, and the sink has the answers
+/// before. `Stop::Write`, only of a sink that writes: it is left anywhere.
 pub(crate) fn run_steps<R: Reader, A: Allocator, S: TreeSink<R, A>>(
     walker: &mut EntriesTreeWalker<'_, R, A>,
     steps: &[TreeStep],
@@ -219,7 +230,7 @@ pub(crate) fn run_steps<R: Reader, A: Allocator, S: TreeSink<R, A>>(
     Ok(())
 }
 
-// The answer of a word.
+// The answer that a word is.
 fn answer_of_word<R: Reader, A: Allocator>(word: Word) -> TreeAnswer<R, A>
     ensures { step_answer_by R.view R.Offset.number result ≡ word_answer word }
 {
@@ -232,7 +243,7 @@ fn answer_of_word<R: Reader, A: Allocator>(word: Word) -> TreeAnswer<R, A>
     }
 }
 
-// Answers in memory.
+// A sink that holds the answers in memory.
 #[derive(Drop)]
 struct Collected<R: Reader, A: Allocator> {
     alloc: A,
@@ -270,7 +281,8 @@ impl<R: Reader, A: Allocator + Copy> TreeSink<R, A> for Collected<R, A> {
     ghost more = { λ s t u xs ys h k. collected_more _ _ _ _ _ xs ys h k };
 }
 
-// The answers to these steps, as far as there is memory for them.
+// The answers to these steps. Where memory is refused, for a step or for its answer, the run is
+// stopped, and holds the answers before.
 fn collect_steps<R: Reader, A: Allocator + Copy>(
     alloc: A,
     walker: &mut EntriesTreeWalker<'_, R, A>,
@@ -291,8 +303,8 @@ fn collect_steps<R: Reader, A: Allocator + Copy>(
     }
 }
 
-/// The answers of a tree from a start, or from the first entry, to these steps; sibling references
-/// are followed.
+/// The answers of a tree to these steps, whose entries are those from the offset `start` of the
+/// unit on, or from the first; sibling references are followed.
 ///
 /// Where the rows from the start are honest they are the definition's answers. Whatever the
 /// references, each is one that its step can give, and true: a node's entry is what the unit has at

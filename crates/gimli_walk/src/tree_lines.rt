@@ -25,7 +25,7 @@ use gimli_units::{DebuggingInformationEntry, EntriesTreeWalker, UnitHeader};
 use std::alloc::Allocator;
 use std::io::Write;
 
-// Writes the line of a node.
+// Writes the line of a node: `node`, and its row as `write_row` writes it.
 #[tactic(auto, unfolding(crate::specs::Trees::step_answer_line, crate::specs::Trees::node_line))]
 fn write_node<R: Reader, A: Allocator, W: Write>(
     out: &mut W,
@@ -48,7 +48,8 @@ fn write_node<R: Reader, A: Allocator, W: Write>(
     )
 }
 
-// Writes the line of an answer that is no node.
+// Writes the line of an answer that is no node: `end`, `entered`, `left`, `nonode`, or `error` and
+// the number of the refusal.
 #[tactic(auto, unfolding(crate::specs::Trees::step_answer_line))]
 fn write_word<W: Write>(out: &mut W, word: Word) -> Result<(), WriteFault>
     ensures { OnOk result
@@ -63,14 +64,14 @@ fn write_word<W: Write>(out: &mut W, word: Word) -> Result<(), WriteFault>
     }
 }
 
-// Whether an answer is a refusal.
+// Whether a word is `Word::Fault`, the answer where something was refused.
 fn is_refusal(word: Word) -> bool
     ensures { result ≡ is_fault (word_answer word) }
 {
     matches!(word, Word::Fault(_))
 }
 
-// The lines of answers, which are written as they are told.
+// A sink that writes the line of each answer as soon as it takes it.
 struct NodeLines<'a, W> {
     out: &'a mut W,
     // whether an answer was a refusal
@@ -100,8 +101,9 @@ impl<R: Reader, A: Allocator, W: Write> TreeSink<R, A> for NodeLines<'_, W> {
     ghost more = { λ s t u xs ys h k. (k.0 ∙ h.0, lined_more _ _ _ _ _ _ _ _ xs ys h.1 k.1) };
 }
 
-// Writes the lines of a walker's answers to these steps. Answers 1 if one of them was a refusal,
-// else 0.
+// Takes these steps, and writes the line of each answer. Answers the exit status: 1 where one of
+// them was a refusal, else 0. `Stop::Memory`: the lines before the step for which memory was
+// refused are written. `Stop::Write`: `out` refused a write.
 fn write_answers<R: Reader, A: Allocator, W: Write>(
     walker: &mut EntriesTreeWalker<'_, R, A>,
     steps: &[TreeStep],
@@ -125,8 +127,12 @@ fn write_answers<R: Reader, A: Allocator, W: Write>(
     }
 }
 
-/// Writes the lines of a tree's answers to these steps, from the first entry of a unit on, and
-/// answers the status of their text.
+/// Writes a line for the answer of each of these steps in the tree of all entries of a unit, in
+/// which sibling references are followed. Answers the exit status: 1 where an answer was a refusal,
+/// else 0. A unit without bytes of entries has one line `error` and the status 1. Where memory is
+/// refused, the lines of the answers before and then `error 24` are written, and the status is 1.
+///
+/// Refusal: `WriteFault`, where `out` refuses a write.
 pub(crate) fn write_tree_steps<R: Reader, A: Allocator + Copy, W: Write>(
     alloc: A,
     unit: &UnitHeader<R>,

@@ -22,12 +22,15 @@ const USAGE: &str = "usage: gimli_walk rows|cursor|tree INFO ABBREV [STEPS]\n";
 ///
 /// `rows`, `check` and `dump` stand before the names of two files, those of `.debug_info` and
 /// `.debug_abbrev`; `cursor`, `plain` and `tree` before these and the letters of steps; `find`
-/// before the name of a file, that of `.debug_aranges`, and an address in hexadecimal. `read` gives
-/// the bytes of a file, or none where it can't be read.
+/// before the name of a file, that of `.debug_aranges`, and an address in hexadecimal. The letters
+/// are `e`, `d` and `s` for the steps of a cursor, in the order of `CursorStep`, and `r`, `n`, `i`
+/// and `o` for those of a tree, in the order of `TreeStep`. `read` gives the bytes of a file, or
+/// none where it can't be read.
 ///
-/// Status 2 is that of words, letters or an address that say nothing, 3 that of a file that can't
-/// be read, of a write that failed, or of memory refused for the steps; any other is that of the
-/// text.
+/// Status 2 is that of words, letters or an address that say nothing: no file is read then, nothing
+/// is written to `out`, and the usage to `err`. Status 3 is that of a file that can't be read,
+/// whose name is written to `err`, of a write that failed, or of memory refused for the steps; any
+/// other is that of the text.
 pub fn run_words<A: Allocator + Copy, F: FnMut(&str) -> Option<Vec<u8>>, W: Write, E: Write>(
     alloc: A,
     words: &[&str],
@@ -91,7 +94,11 @@ pub fn run_words<A: Allocator + Copy, F: FnMut(&str) -> Option<Vec<u8>>, W: Writ
     }
 }
 
-// Walks by the steps that letters name, over two files.
+// Walks as `walk_files` does, by the steps of a cursor that letters name; `follows` says whether it
+// follows sibling references. `words` are the names of the files of `.debug_info` and
+// `.debug_abbrev`, and the letters. Answers the exit status: 2 where a letter names no step, 3
+// where memory for the steps is refused, and in both cases no file is read; else that of
+// `walk_files`.
 fn walk_cursor<A: Allocator + Copy, F: FnMut(&str) -> Option<Vec<u8>>, W: Write, E: Write>(
     alloc: A,
     follows: bool,
@@ -124,7 +131,8 @@ fn walk_cursor<A: Allocator + Copy, F: FnMut(&str) -> Option<Vec<u8>>, W: Write,
     walk_files(alloc, mode, info, abbrev, read, out, err)
 }
 
-// Walks over a tree by the steps that letters name, over two files.
+// Walks as `walk_files` does, by the steps of a tree that letters name. `words` and the exit status
+// are as in `walk_cursor`.
 fn walk_tree<A: Allocator + Copy, F: FnMut(&str) -> Option<Vec<u8>>, W: Write, E: Write>(
     alloc: A,
     words: [&str; 3],
@@ -151,7 +159,9 @@ fn walk_tree<A: Allocator + Copy, F: FnMut(&str) -> Option<Vec<u8>>, W: Write, E
     walk_files(alloc, Mode::Tree(&steps), info, abbrev, read, out, err)
 }
 
-// Walks over two files.
+// Reads the files of `.debug_info` and `.debug_abbrev`, in this order, and writes what `walk_text`
+// writes of them. Answers the exit status: 3 where a file can't be read, and then nothing is
+// written to `out`, or where a write failed; else that of `walk_text`.
 fn walk_files<A: Allocator + Copy, F: FnMut(&str) -> Option<Vec<u8>>, W: Write, E: Write>(
     alloc: A,
     mode: Mode<'_>,
@@ -177,7 +187,9 @@ fn walk_files<A: Allocator + Copy, F: FnMut(&str) -> Option<Vec<u8>>, W: Write, 
     flush_status(status, out)
 }
 
-// Writes all units of two files.
+// Reads the files of `.debug_info` and `.debug_abbrev`, in this order, and writes what `dump_text`
+// writes of them. Answers the exit status: 3 where a file can't be read, and then nothing is
+// written to `out`, or where a write failed; else that of `dump_text`.
 fn dump_files<A: Allocator + Copy, F: FnMut(&str) -> Option<Vec<u8>>, W: Write, E: Write>(
     alloc: A,
     info: &str,
@@ -202,7 +214,9 @@ fn dump_files<A: Allocator + Copy, F: FnMut(&str) -> Option<Vec<u8>>, W: Write, 
     flush_status(status, out)
 }
 
-// Seeks the unit of an address in a file.
+// Writes what `find_text` writes of an address, whose digits are `letters`, and of a file of
+// `.debug_aranges`. Answers the exit status: 2 where the letters write no address, and no file is
+// read; 3 where the file can't be read or a write failed; else that of `find_text`.
 fn find_file<F: FnMut(&str) -> Option<Vec<u8>>, W: Write, E: Write>(
     aranges: &str,
     letters: &str,
@@ -227,14 +241,14 @@ fn find_file<F: FnMut(&str) -> Option<Vec<u8>>, W: Write, E: Write>(
     flush_status(status, out)
 }
 
-// The status of what was written, once all of it is out.
+// Flushes `out`, and answers this status, or 3 where that fails.
 fn flush_status<W: Write>(status: u8, out: &mut W) -> u8
     ensures { (result ≡ 3) ⊎ ((result ≡ status) × Keeps (W.contents out.old) (W.contents out.new)) }
 {
     if out.flush().is_err() { 3 } else { status }
 }
 
-// Says how the program is called.
+// Writes to `err` how the program is called, and answers status 2, also where that write fails.
 fn usage<E: Write>(err: &mut E) -> u8
     ensures { result ≡ 2 }
 {
@@ -242,7 +256,7 @@ fn usage<E: Write>(err: &mut E) -> u8
     2
 }
 
-// Says which file can't be read.
+// Writes to `err` which file can't be read, and answers status 3, also where that write fails.
 fn cannot_read<E: Write>(err: &mut E, name: &str) -> u8
     ensures { result ≡ 3 }
 {

@@ -6,7 +6,7 @@ mod shown;
 mod values;
 
 use crate::bases::{write_bases, write_holding};
-use crate::values::{write_lists, write_values};
+use crate::values::{write_holds, write_lists, write_values};
 use gimli_base::Reader;
 use test_tables::{Call, Outcome, Stop, Text};
 
@@ -17,6 +17,7 @@ pub fn write_dwarf<R: Reader>(call: &Call<'_, R>, out: &mut Text) -> Outcome {
         "values" => write_values(call, out),
         "lists" => write_lists(call, out),
         "holding" => write_holding(call, out),
+        "holds" => write_holds(call, out),
         _ => Err(Stop::Lacks("no such call")),
     }
 }

@@ -5,8 +5,8 @@ use crate::shown::{write_address, write_dwarf_error, write_text};
 use gimli_base::{DebugAddr, DebugStr, Reader, Result};
 use gimli_dwarf::{DebugLineStr, DebugStrOffsets, DwarfSections, UnitBases};
 use gimli_lists::{
-    DebugLoc, DebugLocLists, DebugRanges, DebugRngLists, LocationListEntry, LocationLists, Range,
-    RangeLists,
+    DebugAranges, DebugLoc, DebugLocLists, DebugRanges, DebugRngLists, LocationListEntry,
+    LocationLists, Range, RangeLists,
 };
 use gimli_units::{AttributeValue, DebuggingInformationEntry};
 use std::alloc::Global;
@@ -94,6 +94,25 @@ pub(crate) fn write_lists<R: Reader>(call: &Call<'_, R>, out: &mut Text) -> Outc
                 write!(out, "{:x}", attribute.name().0);
                 write_lists_of(bases, &attribute.value(), &sections, out);
                 writeln!(out);
+            }
+        }
+        Err(error) => write_dwarf_error(out, *error),
+    }
+    Ok(())
+}
+
+/// Writes whether the unit holds an address.
+pub(crate) fn write_holds<R: Reader>(call: &Call<'_, R>, out: &mut Text) -> Outcome {
+    let opened = open_unit(call)?;
+    let (unit, table, address) = (&opened.unit, &opened.table, call.number(2)?);
+    let sections = sections_of(call, true)?;
+    let aranges = DebugAranges::from(section_or_none(call, 5)?);
+    match &opened.bases {
+        Ok(bases) => {
+            match bases.unit_holds(call.alloc, unit, table, &aranges, &sections, address) {
+                Ok(true) => write!(out, "true"),
+                Ok(false) => write!(out, "false"),
+                Err(error) => write_dwarf_error(out, error),
             }
         }
         Err(error) => write_dwarf_error(out, *error),

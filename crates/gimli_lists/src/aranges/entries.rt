@@ -32,7 +32,7 @@ impl<R: Reader> Model for ArangeEntryIter<R> {
 }
 
 impl<R: Reader> ArangeEntryIter<R> {
-    // The ranges of a set whose tuples are these.
+    // The ranges of a set whose tuples are these. The size of addresses has to be 1, 2, 4 or 8.
     pub(super) fn new(tuples: R, encoding: Encoding) -> Self
         requires { IsTrue (is_size encoding.address_size) }
         ensures { result ≡ record { rest = R.view tuples; encoding = encoding } }
@@ -54,7 +54,8 @@ impl<R: Reader> ArangeEntryIter<R> {
     }
 
     /// The next range, or none where no tuple is left. Tuples of two zeros, and those whose address
-    /// stands for none, are passed; a range of length 0 is not.
+    /// stands for none, are passed; a range of length 0 is not. A last piece that is shorter than a
+    /// tuple is none.
     ///
     /// Refusal: `AddressOverflow`, where the end does not fit the size of an address; the call
     /// after it goes on after that tuple.
@@ -152,8 +153,9 @@ impl ArangeEntry {
     }
 }
 
-// The next tuple of a set, or none where fewer bytes are left than a tuple has; they are passed
-// then.
+// The address and the length of the next tuple of a set, or none where fewer bytes are left than a
+// tuple has; they are passed then. The call is never refused. The size of an address has to be 1,
+// 2, 4 or 8.
 #[inline(always)]
 fn next_tuple<R: Reader>(input: &mut R, address_size: u8) -> Result<Option<(u64, u64)>>
     requires { IsTrue (is_size address_size) }
@@ -168,7 +170,8 @@ fn next_tuple<R: Reader>(input: &mut R, address_size: u8) -> Result<Option<(u64,
     Ok(Some((pair.begin, pair.end)))
 }
 
-// A tuple as it stands, without its end; two zeros are none.
+// The entry of a tuple as it stands: its end is 0, and its address may be one that stands for none.
+// Two zeros are none.
 #[inline(always)]
 fn raw_entry(address: u64, length: u64) -> Option<ArangeEntry>
     ensures { result ≡ raw_entry (address, length) }
@@ -183,7 +186,8 @@ fn raw_entry(address: u64, length: u64) -> Option<ArangeEntry>
     Some(ArangeEntry { range, length })
 }
 
-// The next tuple of a set that is not two zeros, or none.
+// The next tuple of a set that is not two zeros, as `raw_entry` makes it, or none where none is
+// left. The call is never refused. The size of an address has to be 1, 2, 4 or 8.
 #[inline(always)]
 fn next_entry<R: Reader>(input: &mut R, address_size: u8) -> Result<Option<ArangeEntry>>
     requires { IsTrue (is_size address_size) }
@@ -202,7 +206,9 @@ fn next_entry<R: Reader>(input: &mut R, address_size: u8) -> Result<Option<Arang
     Ok(None)
 }
 
-// The range of a tuple, with its end, or none where its address stands for none.
+// The range of a tuple that `raw_entry` made, with its end, or none where its address stands for
+// none. Refusal: `AddressOverflow`, where the end does not fit the size of an address, which has to
+// be 1, 2, 4 or 8.
 #[inline(always)]
 fn convert(entry: ArangeEntry, address_size: u8) -> Result<Option<ArangeEntry>>
     requires { IsTrue (is_size address_size) }
@@ -218,7 +224,9 @@ fn convert(entry: ArangeEntry, address_size: u8) -> Result<Option<ArangeEntry>>
     Ok(Some(ArangeEntry { range, length }))
 }
 
-// The next range of a set, or none.
+// The next range of a set, or none where no tuple is left; two zeros, and tuples whose address
+// stands for none, are passed. Refusal: that of `convert`; what follows the refused tuple is left
+// then. The size of an address has to be 1, 2, 4 or 8.
 #[inline(always)]
 fn next_range<R: Reader>(input: &mut R, address_size: u8) -> Result<Option<ArangeEntry>>
     requires { IsTrue (is_size address_size) }

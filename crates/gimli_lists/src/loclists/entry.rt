@@ -101,7 +101,7 @@ pub enum RawLocListEntry<R, Offset = <R as Reader>::Offset> {
 }
 
 impl<R: Reader> RawLocListEntry<R> {
-    /// The same entry, its expression copied.
+    /// The same entry, with an expression of the same bytes at the same place.
     pub fn copy(&self) -> RawLocListEntry<R>
         ensures { location_entry_of R.view R.Offset.number result
             ≡ location_entry_of R.view R.Offset.number self.now }
@@ -156,7 +156,8 @@ impl<R: Reader> RawLocListEntry<R> {
     }
 }
 
-// The expression after a length of 2 bytes; where it is refused, the input is left anywhere.
+// A length of 2 bytes, and an expression of that many bytes, which is answered without the length.
+// Refusal: `UnexpectedEof`; the input is then left anywhere.
 #[inline]
 fn read_short_expression<R: Reader>(input: &mut R) -> Result<Expression<R>>
     ensures { read_of (answer_of (λ e. R.view e.0) result) (R.view input.new)
@@ -166,7 +167,10 @@ fn read_short_expression<R: Reader>(input: &mut R) -> Result<Expression<R>>
     Ok(Expression(input.split(R::Offset::from_u16(length))?))
 }
 
-// The expression of an entry of the new encoding; where it is refused, the input is left anywhere.
+// The expression of an entry that has a code, after its length: a LEB128 number since version 5,
+// and a number of 2 bytes in the versions before. Refusals: of the length `UnexpectedEof`, and
+// since version 5 `BadUnsignedLeb128` and `UnsupportedOffset`; then `UnexpectedEof`, where fewer
+// bytes are left. The input is then left anywhere.
 #[inline]
 fn read_expression<R: Reader>(input: &mut R, version: u16) -> Result<Expression<R>>
     ensures { read_of (answer_of (λ e. R.view e.0) result) (R.view input.new)
@@ -179,8 +183,9 @@ fn read_expression<R: Reader>(input: &mut R, version: u16) -> Result<Expression<
     Ok(Expression(input.split(R::Offset::from_u64(length)?)?))
 }
 
-// The number of bytes of a range that begins at an indexed address; where it is refused, the input
-// is left anywhere.
+// The number of bytes of a range that begins at an indexed address: a LEB128 number since version
+// 5, and a number of 4 bytes in the versions before. Refusals: `UnexpectedEof`, and since version 5
+// `BadUnsignedLeb128`. The input is then left anywhere.
 fn read_indexed_length<R: Reader>(input: &mut R, version: u16) -> Result<u64>
     ensures { read_of result (R.view input.new) ≡ indexed_length_at version (R.view input.old) }
 {
@@ -191,9 +196,11 @@ fn read_indexed_length<R: Reader>(input: &mut R, version: u16) -> Result<u64>
     }
 }
 
-// The next address where a range begins or ends, by a call, on a reader of its own: four places that
-// read it would be more than the loop over entries has registers for. Where it is refused, the input
-// is left anywhere.
+// The next address where a range begins or ends, of `address_size` bytes. Refusals:
+// `UnsupportedAddressSize`, `UnexpectedEof`. The input is then left anywhere.
+//
+// It is read by a call, on a reader of its own: four places that read it would be more than the
+// loop over entries has registers for.
 #[inline(always)]
 fn read_address_on_copy<R: Reader>(input: &mut R, address_size: u8) -> Result<u64>
     ensures { read_of result (R.view input.new) ≡ address_at address_size (R.view input.old) }
@@ -204,7 +211,8 @@ fn read_address_on_copy<R: Reader>(input: &mut R, address_size: u8) -> Result<u6
     Ok(address)
 }
 
-// The same by a call.
+// `Reader::read_address`, as a call that is never inlined. After a refusal the input is left
+// anywhere.
 #[inline(never)]
 fn read_address_by_call<R: Reader>(input: &mut R, address_size: u8) -> Result<u64>
     ensures { read_of result (R.view input.new) ≡ address_at address_size (R.view input.old) }
@@ -212,7 +220,9 @@ fn read_address_by_call<R: Reader>(input: &mut R, address_size: u8) -> Result<u6
     input.read_address(address_size)
 }
 
-// The next entry of versions up to 4; where it is refused, the input is left anywhere.
+// The next entry of versions up to 4: a pair of addresses, and an expression unless the pair gives
+// a base address; none where the pair ends the list. Refusals: those of `RawRange::parse`; then
+// those of the expression. The input is then left anywhere.
 #[tactic(auto, unfolding(crate::specs::RawList::old_entry_at))]
 fn parse_bare<R: Reader>(input: &mut R, address_size: u8) -> Result<Option<RawLocListEntry<R>>>
     ensures { read_of (answer_of (option_map (location_entry_of R.view R.Offset.number)) result)
@@ -233,7 +243,10 @@ fn parse_bare<R: Reader>(input: &mut R, address_size: u8) -> Result<Option<RawLo
     }
 }
 
-// The next entry of the new encoding; where it is refused, the input is left anywhere.
+// The next entry with a code, which stands before its operands and its expression; none where the
+// code is `DW_LLE_end_of_list`. Before version 5 it is one of a split file, whose lengths are
+// written otherwise. Refusals: `UnexpectedEof`; `UnknownLocListsEntry` of any other code; those of
+// the first operand that has one, or of the expression. The input is then left anywhere.
 #[tactic(auto, unfolding(crate::specs::LocationEntry::new_location_at))]
 fn parse_coded<R: Reader>(
     input: &mut R,
@@ -340,7 +353,7 @@ impl<R: Reader> Model for RawLocListIter<R> {
 }
 
 impl<R: Reader> RawLocListIter<R> {
-    // The list that begins where the input begins.
+    /// The list that begins where the input begins, in a format, of a unit with this encoding.
     pub(crate) fn new(input: R, encoding: Encoding, format: ListsFormat) -> RawLocListIter<R>
         ensures { result ≡ record { rest = R.view input; encoding = encoding; format = format } }
     {
@@ -358,12 +371,14 @@ impl<R: Reader> RawLocListIter<R> {
         self.encoding.address_size
     }
 
-    /// The next entry, or none after the last, which the end of the list or of the section ends.
+    /// The next entry, or none where the list ends: at the entry that ends it, or at the end of the
+    /// section.
     ///
     /// Its expression is the input's bytes at their place, without the length before them.
-    /// Refusals: `UnexpectedEof`, `BadUnsignedLeb128`, `UnsupportedAddressSize`,
-    /// `UnsupportedOffset` for an index or a length that does not fit, `UnknownLocListsEntry`.
-    /// Nothing is left after the end, and after a refusal.
+    /// Refusals: `UnknownLocListsEntry`, or of the entry's first operand that has one, and then of
+    /// its expression: `UnexpectedEof`, `BadUnsignedLeb128`, `UnsupportedAddressSize`,
+    /// `UnsupportedOffset` for an index or a length that does not fit. Nothing is left after the
+    /// end, and after a refusal.
     pub fn next(&mut self) -> Result<Option<RawLocListEntry<R>>>
         ensures value { (
           answer_of (option_map (location_entry_of R.view R.Offset.number)) result,

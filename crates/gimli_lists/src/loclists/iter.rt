@@ -54,7 +54,9 @@ impl<R: Reader> Model for LocListIter<R> {
 }
 
 impl<R: Reader> LocListIter<R> {
-    // The locations of what is left of a list. The size of addresses has to be 1, 2, 4 or 8.
+    /// The locations of what is left of a list, with a base address at hand. Addresses that are
+    /// named by their index are those of the table that begins at `debug_addr_base` in
+    /// `debug_addr`. The size of addresses has to be 1, 2, 4 or 8.
     pub(crate) fn new(
         raw: RawLocListIter<R>,
         base_address: u64,
@@ -80,7 +82,8 @@ impl<R: Reader> LocListIter<R> {
     }
 
     /// The next entry as it is written, or none after the last. The answer is for `convert_raw`,
-    /// which has to see each entry in turn.
+    /// which has to see each entry in turn: an entry that gives a base address changes the base
+    /// only there.
     ///
     /// Refusals: those of `RawLocListIter::next`; nothing is left then.
     pub fn next_raw(&mut self) -> Result<Option<RawLocListEntry<R>>>
@@ -101,7 +104,9 @@ impl<R: Reader> LocListIter<R> {
         self.raw.next()
     }
 
-    // What an entry of a range list with an expression stands for: a location, or none.
+    // What an entry stands for: `expr` at the range that `entry` stands for, or none where that
+    // stands for none. The base address is changed by an entry that gives one. Refusals: those of
+    // `resolve_entry`; the base and the rest of the list stay then.
     #[inline]
     #[tactic(auto, unfolding(crate::specs::Places::entry_conversion))]
     fn locate(
@@ -133,10 +138,11 @@ impl<R: Reader> LocListIter<R> {
     /// the base for those after it. A default location has the addresses from 0 to the greatest
     /// number of 64 bits, whatever their size.
     ///
-    /// No location is given where it begins at or above the least address that stands for none, or
-    /// not below its end, nor by a pair of offsets from a base that stands for none. Refusals, of
-    /// the look-up of an address by its index: `UnexpectedEof`, `UnsupportedOffset`; the base and
-    /// the rest of the list stay then.
+    /// No location is given where it begins at or above the least address that stands for none (all
+    /// ones less one), or not below its end, nor by a pair of offsets from a base that stands for
+    /// none. Sums keep their lowest bytes, as many as an address has. Refusals, of the look-up of
+    /// an address by its index: `UnexpectedEof`, `UnsupportedOffset`; the base and the rest of the
+    /// list stay then.
     #[tactic(auto, unfolding(crate::specs::Places::entry_conversion))]
     pub fn convert_raw(
         &mut self,
@@ -195,8 +201,8 @@ impl<R: Reader> LocListIter<R> {
     ///
     /// Refusals: those of `RawLocListIter::next`, after which nothing is left, and those of
     /// `convert_raw`, after which the rest of the list is left. Both can be `UnexpectedEof` or
-    /// `UnsupportedOffset`; the next call tells, since a list that is over answers none. Nothing is
-    /// left after the last entry either.
+    /// `UnsupportedOffset`: the next call goes on with what is left, and answers none where that is
+    /// nothing. Nothing is left after the last entry either.
     #[inline(always)]
     pub fn next(&mut self) -> Result<Option<LocationListEntry<R>>>
         ensures ahead { locations_ahead R.Offset.limit self.old

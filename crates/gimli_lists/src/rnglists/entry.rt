@@ -100,7 +100,7 @@ pub(crate) struct RawRange {
 }
 
 impl RawRange {
-    /// Whether the pair ends a list.
+    /// Whether the pair ends a list: both addresses are 0.
     #[inline]
     pub(crate) fn is_end(self) -> bool
         ensures { result ≡ (self.begin == 0 && self.end == 0) }
@@ -108,8 +108,8 @@ impl RawRange {
         self.begin == 0 && self.end == 0
     }
 
-    /// Whether the pair gives a base address, which is then its second. The size has to be 1, 2, 4
-    /// or 8.
+    /// Whether the pair gives a base address, which is then its second: the first is all ones in
+    /// the size of an address. The size has to be 1, 2, 4 or 8.
     #[inline]
     pub(crate) fn is_base_address(self, address_size: u8) -> bool
         requires { IsTrue (is_size address_size) }
@@ -118,7 +118,8 @@ impl RawRange {
         self.begin == u64::ones_sized(address_size)
     }
 
-    /// The next pair; where it is refused, the input is left anywhere.
+    /// The next pair, of addresses of `address_size` bytes. Refusals: `UnsupportedAddressSize`,
+    /// where the size is not 1, 2, 4 or 8; `UnexpectedEof`. The input is then left anywhere.
     #[inline(always)]
     #[tactic(auto, unfolding(crate::specs::RawList::pair_at, gimli_base::specs::Reading::address_at))]
     pub(crate) fn parse<R: Reader>(input: &mut R, address_size: u8) -> Result<RawRange>
@@ -141,9 +142,12 @@ impl RawRange {
     }
 }
 
-// The next address of a size, which comes by a place of its own: out of a result of several widths
-// the compiler takes it in pieces. It is for the entry that most lists are made of; in all of them
-// it makes the loop larger and slower. Where it is refused, the input is left anywhere.
+// Reads the next address of `address_size` bytes into `into`. Refusals: `UnsupportedAddressSize`,
+// `UnexpectedEof`; the input is then left anywhere, and nothing is said of `into`.
+//
+// The address comes by a place of its own: out of a result of several widths the compiler takes it
+// in pieces. That is for the entry that most lists are made of; in all of them it makes the loop
+// larger and slower.
 #[inline(always)]
 #[tactic(auto, unfolding(gimli_base::specs::Reading::address_at))]
 fn read_sized<R: Reader>(input: &mut R, address_size: u8, into: &mut u64) -> Result<()>
@@ -158,7 +162,9 @@ fn read_sized<R: Reader>(input: &mut R, address_size: u8, into: &mut u64) -> Res
     Ok(())
 }
 
-// The next index of an address; where it is refused, the input is left anywhere.
+/// The next index of an address, an unsigned LEB128 number. Refusals: those of
+/// `Reader::read_uleb128`; `UnsupportedOffset`, where it does not fit the reader's offsets. The
+/// input is then left anywhere.
 #[inline]
 pub(crate) fn read_index<R: Reader>(input: &mut R) -> Result<DebugAddrIndex<R::Offset>>
     ensures { read_of (answer_of (λ i. R.Offset.number i.0) result) (R.view input.new)
@@ -169,7 +175,8 @@ pub(crate) fn read_index<R: Reader>(input: &mut R) -> Result<DebugAddrIndex<R::O
     Ok(DebugAddrIndex(index))
 }
 
-// The next entry of versions up to 4; where it is refused, the input is left anywhere.
+// The next entry of versions up to 4, which is a pair of addresses; none where the pair ends the
+// list. Refusals: those of `RawRange::parse`. The input is then left anywhere.
 #[tactic(auto, unfolding(crate::specs::RawList::old_entry_at))]
 fn parse_bare<R: Reader>(
     input: &mut R,
@@ -192,7 +199,9 @@ fn parse_bare<R: Reader>(
     }
 }
 
-// The next entry since version 5; where it is refused, the input is left anywhere.
+// The next entry since version 5: a code, and then its operands in their order; none where the code
+// is `DW_RLE_end_of_list`. Refusals: `UnexpectedEof`; `UnknownRangeListsEntry` of any other code;
+// those of the first operand that has one. The input is then left anywhere.
 #[tactic(auto, unfolding(crate::specs::RangeEntry::new_entry_at))]
 fn parse_rle<R: Reader>(
     input: &mut R,
@@ -280,7 +289,7 @@ impl<R: Reader> Model for RawRngListIter<R> {
 }
 
 impl<R: Reader> RawRngListIter<R> {
-    // The list that begins where the input begins.
+    /// The list that begins where the input begins, in a format, of a unit with this encoding.
     pub(crate) fn new(input: R, encoding: Encoding, format: ListsFormat) -> RawRngListIter<R>
         ensures { result ≡ record { rest = R.view input; encoding = encoding; format = format } }
     {
@@ -298,11 +307,12 @@ impl<R: Reader> RawRngListIter<R> {
         self.encoding.address_size
     }
 
-    /// The next entry, or none after the last, which the end of the list or of the section ends.
+    /// The next entry, or none where the list ends: at the entry that ends it, or at the end of the
+    /// section.
     ///
-    /// Refusals: `UnexpectedEof`, `BadUnsignedLeb128`, `UnsupportedAddressSize`,
-    /// `UnsupportedOffset` for an index that does not fit, `UnknownRangeListsEntry`. Nothing is
-    /// left after the end, and after a refusal.
+    /// Refusals: `UnknownRangeListsEntry`, or of the entry's first operand that has one:
+    /// `UnexpectedEof`, `BadUnsignedLeb128`, `UnsupportedAddressSize`, `UnsupportedOffset` for an
+    /// index that does not fit. Nothing is left after the end, and after a refusal.
     pub fn next(&mut self) -> Result<Option<RawRngListEntry<R::Offset>>>
         ensures value { (answer_of (option_map (range_entry_of R.Offset.number)) result, self.new)
             ≡ next_raw (range_grammar R.Offset.limit) self.old }

@@ -49,7 +49,9 @@ impl<R: Reader> Model for RngListIter<R> {
 }
 
 impl<R: Reader> RngListIter<R> {
-    // The ranges of what is left of a list. The size of addresses has to be 1, 2, 4 or 8.
+    /// The ranges of what is left of a list, with a base address at hand. Addresses that are named
+    /// by their index are those of the table that begins at `debug_addr_base` in `debug_addr`. The
+    /// size of addresses has to be 1, 2, 4 or 8.
     pub(crate) fn new(
         raw: RawRngListIter<R>,
         base_address: u64,
@@ -75,7 +77,8 @@ impl<R: Reader> RngListIter<R> {
     }
 
     /// The next entry as it is written, or none after the last. The answer is for `convert_raw`,
-    /// which has to see each entry in turn.
+    /// which has to see each entry in turn: an entry that gives a base address changes the base
+    /// only there.
     ///
     /// Refusals: those of `RawRngListIter::next`; nothing is left then.
     pub fn next_raw(&mut self) -> Result<Option<RawRngListEntry<R::Offset>>>
@@ -99,10 +102,11 @@ impl<R: Reader> RngListIter<R> {
     /// What an entry stands for: a range, or none. An entry that gives a base address changes the
     /// base for those after it.
     ///
-    /// No range is given where it begins at or above the least address that stands for none, or not
-    /// below its end, nor by a pair of offsets from a base that stands for none. Refusals, of the
-    /// look-up of an address by its index: `UnexpectedEof`, `UnsupportedOffset`; the base and the
-    /// rest of the list stay then.
+    /// No range is given where it begins at or above the least address that stands for none (all
+    /// ones less one), or not below its end, nor by a pair of offsets from a base that stands for
+    /// none. Sums keep their lowest bytes, as many as an address has. Refusals, of the look-up of
+    /// an address by its index: `UnexpectedEof`, `UnsupportedOffset`; the base and the rest of the
+    /// list stay then.
     #[tactic(auto, unfolding(crate::specs::Places::entry_conversion))]
     pub fn convert_raw(&mut self, raw_range: RawRngListEntry<R::Offset>) -> Result<Option<Range>>
         ensures { (answer_of (option_map resolved_of) result, self.new)
@@ -125,8 +129,8 @@ impl<R: Reader> RngListIter<R> {
     ///
     /// Refusals: those of `RawRngListIter::next`, after which nothing is left, and those of
     /// `convert_raw`, after which the rest of the list is left. Both can be `UnexpectedEof` or
-    /// `UnsupportedOffset`; the next call tells, since a list that is over answers none. Nothing is
-    /// left after the last entry either.
+    /// `UnsupportedOffset`: the next call goes on with what is left, and answers none where that is
+    /// nothing. Nothing is left after the last entry either.
     #[inline(always)]
     pub fn next(&mut self) -> Result<Option<Range>>
         ensures ahead { ranges_ahead R.Offset.limit self.old
@@ -202,11 +206,12 @@ impl<R: Reader> Iterator for RngListIter<R> {
     }
 }
 
-/// What an entry stands for: a range, or none. An entry that gives a base address changes the one
-/// at hand.
+/// What an entry stands for: a range, or none. `base` is the base address at hand, from which pairs
+/// of offsets count. An entry that gives a base address puts it there, and stands for none.
 ///
-/// The size of addresses has to be 1, 2, 4 or 8. Refusals, of the look-up of an address by its
-/// index: `UnexpectedEof`, `UnsupportedOffset`; the base stays then.
+/// A range is given only as `Range::if_kept` and `Range::kept_from` keep it. The size of addresses
+/// has to be 1, 2, 4 or 8. Refusals, of the look-up of an address by its index, that of the
+/// beginning first: `UnexpectedEof`, `UnsupportedOffset`; the base stays then.
 #[inline(always)]
 pub(crate) fn resolve_entry<R: Reader>(
     entry: RawRngListEntry<R::Offset>,

@@ -42,7 +42,8 @@ rows-preserved g c = λ final written rest.
     let some : length p.rest.bytes ≡ 0 → ⊥ = search rules in
     let offset : c.into_u64-offset.result ≡ next_offset_of p = search rules in
     let depth : c.next_depth-depth.result ≡ p.depth = search rules in
-    let next = c.in-Ok.ensures.advances.same ∙ ap (λ (d : ℤ). record p { rest = q.rest; depth = d }) h.after in
+    let next = c.in-Ok.ensures.advances.same
+    ∙ ap (λ (d : ℤ). record p { rest = q.rest; depth = d }) h.after in
     let back : to_z w64 (of_z w64 c.next_depth-depth.result)
     ≡ c.next_depth-depth.result = to_z-of_z w64 _ (record { sfits = c.next_depth-depth.type_inv }) in
     let tag = c.head_parts-tag.ensures.tag ∙ ap (λ (x : Head). x.tag.0) h.same in

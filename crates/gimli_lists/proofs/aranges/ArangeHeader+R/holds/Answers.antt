@@ -1,6 +1,6 @@
 use Rattle.std.proofs.Common.{◌∙◌, sym}
-use Rattle.gimli_walk.proofs.Found.{holds_none}
-use Rattle.gimli_walk.proofs.find.has_address.Goals as goal
+use Rattle.gimli_lists.proofs.Held.{holds_none}
+use Rattle.gimli_lists.proofs.aranges.ArangeHeader+R.holds.Goals as goal
 
 pub returns-in-Ok-None : goal.returns-in-Ok-None
 returns-in-Ok-None g c =

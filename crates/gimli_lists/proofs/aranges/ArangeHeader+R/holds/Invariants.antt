@@ -1,6 +1,6 @@
 use Rattle.std.proofs.Common.{◌≡◌, length}
-use Rattle.gimli_walk.proofs.Found.{ahead_holds}
-use Rattle.gimli_walk.proofs.find.has_address.Given as goal
+use Rattle.gimli_lists.proofs.Held.{ahead_holds}
+use Rattle.gimli_lists.proofs.aranges.ArangeHeader+R.holds.Given as goal
 
 -- a tuple of the set holds the address where one that is left does
 abbrev pub invariant-entries : goal.invariant-entries
