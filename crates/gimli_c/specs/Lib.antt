@@ -10,3 +10,6 @@ pub mod Lists
 pub mod Tables
 pub mod TableReads
 pub mod Memory
+pub mod Bases
+pub mod Values
+pub mod Holding

@@ -1,24 +1,32 @@
 -- The ranges and the locations that a call writes, of those of a list (DWARF 5, 2.6.2 and 2.17.3).
 use Rattle.std.specs.Prelude.{◌≡◌, ℕ, ◌==◌, ◌^◌, nat_lt, not, if◌then◌else◌, Bool, List, [], ◌∷◌}
 use Rattle.std.specs.Prelude.{◌++◌, map, take, drop, length, Option, Some, None, Result, Ok, Err}
-use Rattle.gimli_base.specs.declared.common.Encoding.{Encoding}
-use Rattle.gimli_base.specs.declared.common.Format.TheVariants.{Dwarf32, Dwarf64}
+use Rattle.std.specs.Prelude.{false}
 use Rattle.gimli_base.specs.declared.error.Error.{Error}
 use Rattle.gimli_base.specs.declared.error.Error.TheVariants.{UnsupportedAddressSize}
 use Rattle.gimli_base.specs.Reading.{is_size}
 use Rattle.gimli_base.specs.View.{View}
-use Rattle.gimli_lists.specs.Locations.{location_answers}
-use Rattle.gimli_lists.specs.Places.{ListSections, list_offset}
-use Rattle.gimli_lists.specs.Ranges.{range_answers}
+use Rattle.gimli_units.specs.declared.value.AttributeValue.TheVariants.{RangeListsRef, Flag}
+use Rattle.gimli_units.specs.declared.value.AttributeValue.TheVariants.{DebugRngListsIndex}
+use Rattle.gimli_units.specs.declared.value.AttributeValue.TheVariants.{LocationListsRef}
+use Rattle.gimli_units.specs.declared.value.AttributeValue.TheVariants.{DebugLocListsIndex}
+use Rattle.gimli_units.specs.Value.{Value}
+use Rattle.gimli_lists.specs.Locations.{locations_ahead}
+use Rattle.gimli_lists.specs.Places.{ListPlace, ListSections}
+use Rattle.gimli_lists.specs.Ranges.{ranges_ahead}
 use Rattle.gimli_lists.specs.Resolved.{Resolved}
+use Rattle.gimli_dwarf.specs.declared.error.DwarfError.{DwarfError}
+use Rattle.gimli_dwarf.specs.Lists.{ranges_of_value, locations_of_value}
 use Rattle.gimli_c.specs.declared.attrs.GimliAttr.{GimliAttr}
-use Rattle.gimli_c.specs.declared.lists.GimliBases.{GimliBases}
+use Rattle.gimli_c.specs.declared.bases.GimliBases.{GimliBases}
 use Rattle.gimli_c.specs.declared.lists.GimliLocation.{GimliLocation}
 use Rattle.gimli_c.specs.declared.lists.GimliRange.{GimliRange}
 use Rattle.gimli_c.specs.declared.lists.Listed.{Listed}
 use Rattle.gimli_c.specs.declared.sections.GimliSections.{GimliSections}
 use Rattle.gimli_c.specs.declared.unit.GimliUnit.{GimliUnit}
-use Rattle.gimli_c.specs.Status.{more, end, no_list, refusal_status, row_refused}
+use Rattle.gimli_c.specs.Bases.{bases_in}
+use Rattle.gimli_c.specs.Status.{more, end, no_list, refusal_status, row_refused, unresolved}
+use Rattle.gimli_c.specs.Units.{encoding_in}
 
 abbrev pub range_row : Resolved (Unit {0}) → GimliRange
 range_row r = record { begin = r.begin; end = r.end }
@@ -30,15 +38,6 @@ location_row r =
       end = r.end;
       place = r.payload.place;
       length = length r.payload.bytes;
-    }
-
--- how a unit's bytes are read
-abbrev pub encoding_in : GimliUnit → Encoding
-encoding_in u =
-    record {
-      format = if u.offset_size == 8 then Dwarf64 else Dwarf32;
-      version = u.version;
-      address_size = u.address_size;
     }
 
 -- what is before the first refusal, and that refusal
@@ -107,23 +106,25 @@ location_sections big s = record {
   new = section_view big s.loclists.now;
 }
 
--- a refusal as a status
-abbrev pub or_refused : {A : Type 0} → Result A Error → Result A ℕ
-or_refused (Ok a) = Ok a
-or_refused (Err e) = Err (refusal_status e)
+-- the value of an attribute that may name a range list, or a location list
+abbrev pub range_value : GimliAttr → Value
+range_value a =
+    if a.kind == 12 then RangeListsRef (record { 0 = a.number })
+    else if a.kind == 26 then DebugRngListsIndex (record { 0 = a.number })
+    else Flag false
 
--- where the list of a value begins: at an offset, or at the offset at an index of a table
-abbrev pub list_begin : ℕ → GimliUnit → GimliAttr → ℕ → View → Result ℕ ℕ
-list_begin index u a base section =
-    if a.kind == 12 then Ok a.number
-    else if a.kind == index
-    then or_refused (list_offset (2 ^ 64) (encoding_in u).format base a.number section)
-    else Err no_list
+abbrev pub location_value : GimliAttr → Value
+location_value a =
+    if a.kind == 12 then LocationListsRef (record { 0 = a.number })
+    else if a.kind == 21 then DebugLocListsIndex (record { 0 = a.number })
+    else Flag false
 
--- the answers of the list that begins there
-abbrev pub listed_answers : {A : Type 0} → Result ℕ ℕ → (ℕ → Result A Error) → Result A ℕ
-listed_answers (Ok offset) f = or_refused (f offset)
-listed_answers (Err stop) f = Err stop
+-- the answers of the list that a value names
+abbrev pub answers_of : {A : Type 0} → (ListPlace → A) → Result (Option ListPlace) DwarfError
+    → Result A ℕ
+answers_of ahead (Ok (Some p)) = Ok (ahead p)
+answers_of ahead (Ok None) = Err no_list
+answers_of ahead (Err e) = Err (unresolved e)
 
 -- those of a unit whose addresses have a size that an address may have
 abbrev pub if_sized : {A : Type 0} → GimliUnit → Result A ℕ → Result A ℕ
@@ -136,18 +137,15 @@ abbrev pub ranges_at : Bool → GimliSections → GimliUnit → GimliAttr → Gi
     → Result (List (Result (Resolved (Unit {0})) Error)) ℕ
 ranges_at big s u a b =
     if_sized u
-    (listed_answers (list_begin 26 u a b.rnglists (range_sections big s).new)
-    (λ offset.
-    range_answers (2 ^ 64) offset (encoding_in u) b.address
-    (section_view big s.addresses.now) b.addresses
-    (range_sections big s)))
+    (answers_of (ranges_ahead (2 ^ 64))
+    (ranges_of_value (2 ^ 64) (bases_in (encoding_in u) b)
+    (section_view big s.addresses.now) (range_sections big s) (range_value a)))
 
 -- the locations of the list at an attribute's value, each or its refusal
 abbrev pub locations_at : Bool → GimliSections → GimliUnit → GimliAttr → GimliBases
     → Result (List (Result (Resolved View) Error)) ℕ
 locations_at big s u a b =
     if_sized u
-    (listed_answers (list_begin 21 u a b.loclists (location_sections big s).new)
-    (λ offset.
-    location_answers (2 ^ 64) (not (b.dwo == 0)) offset (encoding_in u) b.address
-    (section_view big s.addresses.now) b.addresses (location_sections big s)))
+    (answers_of (locations_ahead (2 ^ 64))
+    (locations_of_value (2 ^ 64) (bases_in (encoding_in u) b)
+    (section_view big s.addresses.now) (location_sections big s) (location_value a)))

@@ -2,6 +2,9 @@
 use Rattle.std.specs.Prelude.{◌≡◌, ℕ, ◌+◌}
 use Rattle.gimli_base.specs.declared.error.Error.{Error}
 use Rattle.gimli_base.specs.Refusal.{number_of}
+use Rattle.gimli_dwarf.specs.declared.error.DwarfError.{DwarfError}
+use Rattle.gimli_dwarf.specs.declared.error.DwarfError.TheVariants.{Read, MissingBase, InvalidBase}
+use Rattle.gimli_dwarf.specs.declared.error.DwarfError.TheVariants.{ExpectedStringAttributeValue}
 
 abbrev pub more : ℕ
 more = 0
@@ -20,6 +23,22 @@ no_list = 3
 abbrev pub unordered : ℕ
 unordered = 4
 
+-- a value counts from a base that the unit does not have
+abbrev pub no_base : ℕ
+no_base = 5
+
+-- the attribute of a base has a value that no base can have
+abbrev pub bad_base : ℕ
+bad_base = 6
+
+-- an attribute's value is no text
+abbrev pub no_string : ℕ
+no_string = 7
+
+-- an attribute's value is no address
+abbrev pub no_address : ℕ
+no_address = 8
+
 abbrev pub refusal_status : Error → ℕ
 refusal_status e = 256 + number_of e
 
@@ -37,3 +56,10 @@ row_memory_refused = 536
 -- what holds where memory was not refused
 abbrev pub UnlessRefused : ℕ → Type 0 → Type 0
 UnlessRefused status P = (status ≡ memory_refused → ⊥) → (status ≡ row_memory_refused → ⊥) → P
+
+-- a value can't be resolved
+abbrev pub unresolved : DwarfError → ℕ
+unresolved (Read e) = refusal_status e
+unresolved (MissingBase name) = no_base
+unresolved (InvalidBase name) = bad_base
+unresolved ExpectedStringAttributeValue = no_string

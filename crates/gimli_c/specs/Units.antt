@@ -1,5 +1,8 @@
 -- The sections that a caller names, and the header of a unit, as numbers (DWARF 5, 7.5.1).
 use Rattle.std.specs.Prelude.{ℕ, ◌==◌, ◌^◌, if◌then◌else◌, Bool, not, length, List, Result, Ok, Err}
+use Rattle.std.specs.Prelude.{Option, Some, None}
+use Rattle.gimli_base.specs.declared.common.Encoding.{Encoding}
+use Rattle.gimli_base.specs.declared.common.Format.TheVariants.{Dwarf32, Dwarf64}
 use Rattle.gimli_base.specs.declared.common.SectionId.{SectionId}
 use Rattle.gimli_base.specs.declared.common.SectionId.TheVariants.{DebugInfo, DebugTypes}
 use Rattle.gimli_base.specs.declared.error.Error.{Error}
@@ -72,10 +75,25 @@ unit_numbers u = record {
   offset_size = word_size_of u.encoding.format;
 }
 
+-- how a unit's bytes are read
+abbrev pub encoding_in : GimliUnit → Encoding
+encoding_in u =
+    record {
+      format = if u.offset_size == 8 then Dwarf64 else Dwarf32;
+      version = u.version;
+      address_size = u.address_size;
+    }
+
 -- the status, and the unit that the caller has then
 abbrev pub unit_in_c : Result UnitView Error → GimliUnit → ℕ × GimliUnit
 unit_in_c (Ok u) old = (more, unit_numbers u)
 unit_in_c (Err e) old = (refusal_status e, old)
+
+-- the same of a unit that is sought
+abbrev pub found_outcome : Result (Option UnitView) Error → GimliUnit → ℕ × GimliUnit
+found_outcome (Ok (Some u)) old = (more, unit_numbers u)
+found_outcome (Ok None) old = (end, old)
+found_outcome (Err e) old = (refusal_status e, old)
 
 abbrev pub unit_outcome : View → ℕ → Result UnitView Error → GimliUnit → ℕ × GimliUnit
 unit_outcome section offset read old =

@@ -10,7 +10,9 @@ use gimli_base::{Reader, ReaderOffset, Section};
 use gimli_lists::DebugAranges;
 use gimli_walk::unit_of_address;
 
-/// Finds the unit of an address.
+/// Finds where the unit of an address begins in `.debug_info`, as `unit_of_address`. `MORE`:
+/// `offset` is it. `END`: no set holds the address. Any other is the status of a refusal. Unless it
+/// is `MORE`, `offset` is as it was.
 pub(crate) fn find_unit<R: Reader>(aranges: &DebugAranges<R>, address: u64, offset: &mut u64) -> u32
     ensures { let section = aranges_content R.view aranges.now in
         (result, offset.new)

@@ -29,7 +29,7 @@ pub struct GimliAttr {
     pub kind: u32,
 }
 
-// A value.
+// A value, as the fields of `GimliAttr` of the same names have it.
 #[derive(Clone, Copy)]
 struct ValueNumbers {
     kind: u32,
@@ -37,7 +37,7 @@ struct ValueNumbers {
     more: u64,
 }
 
-// A number.
+// A value that is one number: `more` is 0.
 #[inline(always)]
 fn one_number(kind: u32, number: u64) -> ValueNumbers
     ensures { result ≡ numbers kind number 0 }
@@ -45,7 +45,7 @@ fn one_number(kind: u32, number: u64) -> ValueNumbers
     two_numbers(kind, number, 0)
 }
 
-// Two numbers.
+// A value of these two numbers.
 #[inline(always)]
 fn two_numbers(kind: u32, number: u64, more: u64) -> ValueNumbers
     ensures { result ≡ numbers kind number more }
@@ -53,7 +53,7 @@ fn two_numbers(kind: u32, number: u64, more: u64) -> ValueNumbers
     ValueNumbers { kind, number, more }
 }
 
-// A number of 16 bytes.
+// A value of 16 bytes: `number` is the low 8 of them, `more` the high 8.
 #[inline(always)]
 fn wide_numbers(kind: u32, number: u128) -> ValueNumbers
     ensures { result ≡ numbers kind (number % 2 ^ 64) (number / 2 ^ 64) }
@@ -65,7 +65,7 @@ fn wide_numbers(kind: u32, number: u128) -> ValueNumbers
     )
 }
 
-// Bytes of the section.
+// A value that is bytes: `number` is where they lie in their section, `more` how many they are.
 #[inline(always)]
 fn place_numbers<R: Reader>(kind: u32, bytes: &R) -> ValueNumbers
     ensures { result ≡ place_numbers kind (R.view bytes.now) }
@@ -73,7 +73,8 @@ fn place_numbers<R: Reader>(kind: u32, bytes: &R) -> ValueNumbers
     two_numbers(kind, bytes.offset_id().0, bytes.len().into_u64())
 }
 
-// A value's numbers.
+// The kind of a value, and its numbers: the value itself, or where its bytes lie. Each variant has
+// a kind of its own, from 1 on.
 #[inline]
 fn values_of<R: Reader>(value: &AttributeValue<R>) -> ValueNumbers
     ensures { result ≡ values_of (map_value R.view R.Offset.number value.now) }
@@ -175,7 +176,8 @@ impl<R: Reader, A: Allocator> AttributeSink<R> for Numbers<A> {
     }
 }
 
-/// Writes attributes, the first at `from`.
+/// Writes attributes into `into`, the first at the index `from`; there is room for all, and the
+/// others stay.
 #[inline(always)]
 pub(crate) fn write_attrs(numbers: &[GimliAttr], into: &mut [GimliAttr], from: usize)
     requires { from + length numbers.now ≤ length into.old }

@@ -54,7 +54,8 @@ impl<'t, R: Reader> Model for EntriesBy<'t, R> {
         × (unsigned_abs e.depth + length (R.view e.input).bytes < 2 ^ 63) };
 }
 
-/// A reader of the entries of a unit from an offset on.
+/// A reader of the entries of a unit from an offset on, at depth 0, by a caller's table in place of
+/// the unit's own. Refusal: `OffsetOutOfBounds`.
 pub(crate) fn entries_by<'t, R: Reader>(
     unit: &UnitHeader<R>,
     table: GimliTable<'t>,
@@ -76,7 +77,8 @@ pub(crate) fn entries_by<'t, R: Reader>(
 }
 
 impl<'t, R: Reader> EntriesBy<'t, R> {
-    // Goes on to what is left after an entry with this head, which it answers.
+    // Goes on to `rest`, what is left after an entry with this head: the depth is one less after a
+    // null, and one more after an entry with children. Answers the head.
     #[inline(always)]
     fn go_past(&mut self, rest: R, head: Head) -> Head
         requires { length (R.view rest).bytes < length self.old.place.rest.bytes }
@@ -126,6 +128,8 @@ impl<'t, R: Reader> ReadEntries<R> for EntriesBy<'t, R> {
         Ok(self.go_past(rest, head_by(declared)))
     }
 
+    // Where the declaration's tag is 0, the entry is a null: its values are passed, none of them is
+    // kept, and no memory is asked.
     #[inline(always)]
     fn read<A: Allocator>(&mut self, numbers: &mut Numbers<A>) -> Result<Head> {
         numbers.0.clear();
@@ -143,9 +147,10 @@ impl<'t, R: Reader> ReadEntries<R> for EntriesBy<'t, R> {
     }
 }
 
-// Passes what reading these attributes reads, with the same refusals, if the steps beside them are
-// theirs; where one is refused, the input is left anywhere. From a step on whose bytes are not
-// there, or which reading may refuse, values are passed one by one.
+// Passes the values of these attributes, if the steps beside them are theirs; else it goes on
+// anywhere ahead. Refusals: those of `EntriesRaw::read_attribute`, of the first value that is
+// refused; the input is then left anywhere. From a step on whose bytes are not there, or of which
+// reading may refuse a value, the values are passed one by one.
 #[inline(always)]
 fn pass_steps_by<R: Reader>(
     input: &mut R,
@@ -176,8 +181,9 @@ fn pass_steps_by<R: Reader>(
     Ok(())
 }
 
-// Passes the value of an attribute as it is read; where it is refused, the input stays. (It is a
-// function of its own, so that its stack slots are cleared only where there is such a value.)
+// Passes the value of an attribute. Refusals: those of `EntriesRaw::read_attribute`; the input is
+// then as it was. (It is a function of its own, so that its stack slots are cleared only where
+// there is such a value.)
 #[inline(always)]
 fn pass_value_by<R: Reader>(
     input: &mut R,
@@ -206,8 +212,9 @@ fn head_by(declared: &GimliDeclaration) -> Head
     }
 }
 
-// The declaration of the entry that is next, or none for a null; where it is refused, the input is
-// left anywhere.
+// Reads the code of the next entry. Answers the declaration that stands in the table at the index
+// one less than the code, or none for the code 0 of a null. Refusals: `UnexpectedEof`,
+// `BadUnsignedLeb128`, `InvalidAbbreviationCode`; the input is then left anywhere.
 #[inline(always)]
 #[tactic(auto, unfolding(gimli_units::specs::Entry::abbreviation_at))]
 fn next_declared<'t, R: Reader>(
@@ -229,9 +236,9 @@ fn next_declared<'t, R: Reader>(
     }
 }
 
-// Passes what reading the attributes of these specifications reads, value by value, with the same
-// refusals; where one is refused, the input stays. It is a call that gets a reader of its own, so
-// that the caller's stays in registers.
+// Passes the values of these attributes one by one. Refusals: those of
+// `EntriesRaw::read_attribute`, of the first value that is refused; the input is then as it was. It
+// is a call that gets a reader of its own, so that the caller's stays in registers.
 #[inline(always)]
 fn pass_values_by<R: Reader>(
     input: &mut R,
@@ -248,7 +255,7 @@ fn pass_values_by<R: Reader>(
     Ok(())
 }
 
-// The same; where one is refused, the input is left anywhere.
+// As `pass_values_by`; but where a value is refused, the input is left anywhere.
 #[inline(never)]
 fn pass_each_by<R: Reader>(
     input: &mut R,
@@ -267,8 +274,9 @@ fn pass_each_by<R: Reader>(
     Ok(())
 }
 
-// Reads the attributes of these specifications into an empty list; where one is refused, the input
-// and the list are left anywhere.
+// Reads the attributes of these specifications into an empty list. Refusals: `OutOfMemory`, which
+// does not come where there are none; those of `EntriesRaw::read_attribute`. The input and the list
+// are then left anywhere.
 #[inline(always)]
 fn push_values_by<R: Reader, A: Allocator>(
     input: &mut R,

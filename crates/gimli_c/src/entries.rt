@@ -62,7 +62,12 @@ pub(crate) struct EntriesOutcome {
     pub(crate) place: GimliPlace,
 }
 
-/// Fills rows and attributes of the unit at an offset, from a place on.
+/// Fills `rows` with the entries and nulls of the unit at `unit`, from its offset `offset` on,
+/// whose depth the caller says is `depth`, and `attrs` with their attributes. Answers how many of
+/// each were filled, the place after the rows, and the status of `fill_entries`; what is not filled
+/// is as it was; at the unit's end that is `END`, with no row. Before any row comes the refusal of
+/// the unit, of its table or of another offset, or `TOO_DEEP`, the first in this order; the place
+/// then stays.
 pub(crate) fn read_entries<R: Reader, A: Allocator + Copy>(
     alloc: A,
     sections: &UnitSections<R>,
@@ -99,7 +104,8 @@ pub(crate) fn read_entries<R: Reader, A: Allocator + Copy>(
     }
 }
 
-/// The same by a table in the caller's buffers.
+/// As `read_entries`, by a table in the caller's buffers in place of the unit's own; its steps are
+/// not used. Memory is asked for the attributes of a row alone.
 pub(crate) fn read_entries_by<R: Reader, A: Allocator>(
     alloc: A,
     sections: &UnitSections<R>,
@@ -135,7 +141,8 @@ pub(crate) fn read_entries_by<R: Reader, A: Allocator>(
     }
 }
 
-// No row.
+// The outcome with this status where no row is read: nothing is written, and the place is as it
+// was.
 fn no_entries<O: ReaderOffset>(offset: O, depth: isize, status: u32) -> EntriesOutcome
     ensures { let place = at (O.number offset) depth in
         result ≡ record { status = status; filled = wrote 0 0 0; place = place } }
@@ -147,7 +154,8 @@ fn no_entries<O: ReaderOffset>(offset: O, depth: isize, status: u32) -> EntriesO
     outcome_entries(status, wrote(0, 0, 0), place)
 }
 
-// Fills rows and attributes of a unit by a reader of its entries that was opened at an offset.
+// Fills rows and attributes as `read_entries` does, by the reader of the unit's entries that was
+// opened at `offset`, or the refusal of opening it.
 fn unit_entries<R: Reader, T: ReadEntries<R> + Drop, A: Allocator>(
     alloc: A,
     unit: &UnitHeader<R>,
@@ -176,7 +184,10 @@ fn unit_entries<R: Reader, T: ReadEntries<R> + Drop, A: Allocator>(
     }
 }
 
-// Fills rows and their attributes, the depths counted from `base`.
+// Fills `rows` with what a reader reads next, nulls too, and `attrs` with their attributes; `base`
+// is added to its depths. The place is after the rows. Status `END`: nothing is left. `MORE`:
+// `rows` is full, or the attributes of the next row have no space, and `wanted` is their number.
+// Else the next row was refused. What is not counted stays.
 fn fill_entries<R: Reader, T: ReadEntries<R>, A: Allocator>(
     alloc: A,
     entries: &mut T,
@@ -224,7 +235,8 @@ fn fill_entries<R: Reader, T: ReadEntries<R>, A: Allocator>(
     outcome_entries(status, wrote(count, used, 0), place_of(entries, base))
 }
 
-// How much was written.
+// How much was written, by these numbers; `wanted` is the number of the attributes that had no
+// space, or 0.
 #[inline(always)]
 fn wrote(rows: usize, attributes: usize, wanted: usize) -> GimliFilled
     ensures { result ≡ wrote rows attributes wanted }
@@ -236,7 +248,7 @@ fn wrote(rows: usize, attributes: usize, wanted: usize) -> GimliFilled
     }
 }
 
-// The answer of a call.
+// What a call answers, of these parts.
 #[inline(always)]
 fn outcome_entries(status: u32, filled: GimliFilled, place: GimliPlace) -> EntriesOutcome
     ensures { result ≡ record { status = status; filled = filled; place = place } }

@@ -12,7 +12,10 @@ use gimli_base::{DebugAbbrev, Reader, ReaderOffset, Section};
 use gimli_headers::first_false_sibling;
 use std::alloc::Allocator;
 
-/// Finds the first row of a unit whose reference is false.
+/// Finds the first row of the unit at `unit` whose sibling reference is false, as
+/// `first_false_sibling` does. `MORE`: it stands at `offset` of the unit. `END`: there is none. Any
+/// other is the status of a refusal: of the unit, of its table, or of memory for the check. Unless
+/// it is `MORE`, `offset` is as it was.
 pub(crate) fn find_false<R: Reader, A: Allocator + Copy>(
     alloc: A,
     sections: &UnitSections<R>,

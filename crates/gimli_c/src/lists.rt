@@ -3,39 +3,23 @@
 ghost use Rattle.std.specs.Prelude.{◌≡◌, ◌<◌, ◌^◌, length, Ok, Err};
 ghost use Rattle.gimli_lists.specs.Locations.{locations_ahead};
 ghost use Rattle.gimli_lists.specs.Ranges.{ranges_ahead};
-ghost use Rattle.gimli_c.specs.Lists.{encoding_in, range_row, location_row, list_status, IsListed};
-ghost use Rattle.gimli_c.specs.Lists.{IsListResult, if_sized, ranges_at, locations_at};
+ghost use Rattle.gimli_units.specs.Value.{map_value};
+ghost use Rattle.gimli_c.specs.Lists.{range_row, location_row, list_status, IsListed, if_sized};
+ghost use Rattle.gimli_c.specs.Lists.{IsListResult, range_value, location_value, ranges_at};
+ghost use Rattle.gimli_c.specs.Lists.{locations_at};
+ghost use Rattle.gimli_c.specs.Units.{encoding_in};
 
 use crate::attrs::GimliAttr;
-use crate::sections::GimliSections;
-use crate::status::{END, MORE, NO_LIST, refusal_status, row_refused};
-use crate::unit::GimliUnit;
+use crate::bases::{GimliBases, bases_in};
+use crate::sections::{GimliSections, dwarf_sections};
+use crate::status::{END, MORE, NO_LIST, refusal_status, row_refused, unresolved};
+use crate::unit::{GimliUnit, encoding_in};
 use gimli_base::{
-    DebugAddr, DebugAddrBase, DebugLocListsBase, DebugLocListsIndex, DebugRngListsBase,
-    DebugRngListsIndex, Encoding, EndianSlice, Endianity, Error, Format, LocationListsOffset,
-    RangeListsOffset, Reader, ReaderOffset,
+    DebugLocListsIndex, DebugRngListsIndex, Encoding, Endianity, Error, LocationListsOffset,
+    RawRangeListsOffset, Reader, ReaderOffset,
 };
-use gimli_lists::{
-    DebugLoc, DebugLocLists, DebugRanges, DebugRngLists, LocListIter, LocationLists, RangeLists,
-    RngListIter,
-};
-
-/// What the lists of a unit are resolved against. All but `dwo` are values of attributes of the
-/// unit's root.
-#[repr(C)]
-#[derive(Clone, Copy, Debug)]
-pub struct GimliBases {
-    /// The address from which offsets count until a list gives another (`DW_AT_low_pc`), or 0.
-    pub address: u64,
-    /// Where the unit's table begins in `.debug_addr` (`DW_AT_addr_base`).
-    pub addresses: u64,
-    /// Where its table begins in `.debug_rnglists` (`DW_AT_rnglists_base`).
-    pub rnglists: u64,
-    /// Where its table begins in `.debug_loclists` (`DW_AT_loclists_base`).
-    pub loclists: u64,
-    /// 0, or else the location lists are those of a split file, which have codes in every version.
-    pub dwo: u8,
-}
+use gimli_lists::{LocListIter, RngListIter};
+use gimli_units::AttributeValue;
 
 /// A range of addresses.
 #[repr(C)]
@@ -68,32 +52,26 @@ pub(crate) struct Listed {
     pub(crate) status: u32,
 }
 
-// How a unit's bytes are read, or the status where an address cannot have the size that is named.
-fn encoding_of(unit: &GimliUnit) -> Result<Encoding, u32>
+// How a unit's bytes are read, or the status of `UnsupportedAddressSize`, where its addresses do
+// not have 1, 2, 4 or 8 bytes.
+fn sized_encoding(unit: &GimliUnit) -> Result<Encoding, u32>
     ensures { result ≡ if_sized unit.now (Ok (encoding_in unit.now)) }
 {
     if !matches!(unit.address_size, 1 | 2 | 4 | 8) {
         return Err(refusal_status(Error::UnsupportedAddressSize(unit.address_size)));
     }
-    Ok(Encoding {
-        format: if unit.offset_size == 8 {
-            Format::Dwarf64
-        } else {
-            Format::Dwarf32
-        },
-        version: unit.version,
-        address_size: unit.address_size,
-    })
+    Ok(encoding_in(unit))
 }
 
-/// What a call answers where nothing is read: its status.
+/// The outcome with this status where no list is read: nothing is counted.
 pub(crate) fn no_items(status: u32) -> Listed
     ensures { result ≡ record { count = 0; status = status } }
 {
     Listed { count: 0, status }
 }
 
-// So many, where there is room for some, and the status after the last.
+// The outcome of a list with `count` items and room for `room`: its status is `MORE` where not all
+// have room, else `last`, that of what comes after the items.
 fn list_outcome(room: usize, count: usize, last: u32) -> Listed
     ensures { result ≡ record { count = count; status = list_status room count last } }
 {
@@ -103,8 +81,23 @@ fn list_outcome(room: usize, count: usize, last: u32) -> Listed
     }
 }
 
-/// Fills the ranges of the list at an attribute's value.
-#[tactic(auto, unfolding(gimli_lists::specs::Places::list_answers))]
+// The value of an attribute that may name a range list: by an offset (kind 12) or by an index (26).
+// Any other becomes a flag, which names none.
+fn range_value<R: Reader<Offset = usize>>(attribute: &GimliAttr) -> AttributeValue<R>
+    ensures { map_value R.view (λ n. n) result ≡ range_value attribute.now }
+{
+    let number = attribute.number as usize;
+    match attribute.kind {
+        12 => AttributeValue::RangeListsRef(RawRangeListsOffset(number)),
+        26 => AttributeValue::DebugRngListsIndex(DebugRngListsIndex(number)),
+        _ => AttributeValue::Flag(false),
+    }
+}
+
+/// Fills `ranges` with those of the list that the value of an attribute names, as `fill_ranges`
+/// does. Err is the status of a call that reads no list, and the buffer is as it was:
+/// `UnsupportedAddressSize` comes first, then `NO_LIST`, `NO_BASE`, or the refusal of the index or
+/// the offset.
 pub(crate) fn find_ranges<E: Endianity>(
     sections: &GimliSections<'_>,
     endian: E,
@@ -117,31 +110,18 @@ pub(crate) fn find_ranges<E: Endianity>(
         let outcome = ranges_at (E.big endian) s unit.now attribute.now bases.now in
         IsListResult range_row outcome ranges.old ranges.new result }
 {
-    let encoding = encoding_of(unit)?;
-    let old = DebugRanges::new(sections.ranges, endian);
-    let new = DebugRngLists::new(sections.rnglists, endian);
-    let lists = RangeLists::new(old, new);
-    let number = attribute.number as usize;
-    let offset = match attribute.kind {
-        12 => RangeListsOffset(number),
-        26 => {
-            let base = DebugRngListsBase(bases.rnglists as usize);
-            let index = DebugRngListsIndex(number);
-            lists
-                .get_offset(encoding, base, index)
-                .map_err(refusal_status)?
-        }
-        _ => return Err(NO_LIST),
-    };
-    let addresses = DebugAddr::from(EndianSlice::new(sections.addresses, endian));
-    let table = DebugAddrBase(bases.addresses as usize);
-    match lists.ranges(offset, encoding, bases.address, &addresses, table) {
-        Ok(mut list) => Ok(fill_ranges(&mut list, ranges)),
-        Err(error) => Err(refusal_status(error)),
+    let bases = bases_in(bases, sized_encoding(unit)?);
+    let sections = dwarf_sections(sections, endian);
+    match bases.ranges(&range_value(attribute), &sections) {
+        Ok(Some(mut list)) => Ok(fill_ranges(&mut list, ranges)),
+        Ok(None) => Err(NO_LIST),
+        Err(error) => Err(unresolved(error)),
     }
 }
 
-// Fills the ranges of a list, and counts them all.
+// Fills `ranges` with those of a list, as far as there is room, and counts all of them before the
+// first refusal. Status `MORE`: there was no room for all. Else it is `END`, or that of the
+// refusal; what is after the written ones stays. The list is left anywhere.
 fn fill_ranges<R: Reader>(list: &mut RngListIter<R>, ranges: &mut [GimliRange]) -> Listed
     requires { length list.old.raw.rest.bytes < 2 ^ 63 }
     ensures { IsListed range_row (ranges_ahead R.Offset.limit list.old) ranges.old ranges.new
@@ -166,8 +146,23 @@ fn fill_ranges<R: Reader>(list: &mut RngListIter<R>, ranges: &mut [GimliRange]) 
     list_outcome(ranges.len(), count, last)
 }
 
-/// Fills the locations of the list at an attribute's value.
-#[tactic(auto, unfolding(gimli_lists::specs::Places::list_answers))]
+// The value of an attribute that may name a location list: by an offset (kind 12) or by an index
+// (21). Any other becomes a flag, which names none.
+fn location_value<R: Reader<Offset = usize>>(attribute: &GimliAttr) -> AttributeValue<R>
+    ensures { map_value R.view (λ n. n) result ≡ location_value attribute.now }
+{
+    let number = attribute.number as usize;
+    match attribute.kind {
+        12 => AttributeValue::LocationListsRef(LocationListsOffset(number)),
+        21 => AttributeValue::DebugLocListsIndex(DebugLocListsIndex(number)),
+        _ => AttributeValue::Flag(false),
+    }
+}
+
+/// Fills `locations` with those of the list that the value of an attribute names, as
+/// `fill_locations` does. Err is the status of a call that reads no list, and the buffer is as it
+/// was: `UnsupportedAddressSize` comes first, then `NO_LIST`, `NO_BASE`, or the refusal of the
+/// index or the offset.
 pub(crate) fn find_locations<E: Endianity>(
     sections: &GimliSections<'_>,
     endian: E,
@@ -180,36 +175,18 @@ pub(crate) fn find_locations<E: Endianity>(
         let outcome = locations_at (E.big endian) s unit.now attribute.now bases.now in
         IsListResult location_row outcome locations.old locations.new result }
 {
-    let encoding = encoding_of(unit)?;
-    let old = DebugLoc::new(sections.loc, endian);
-    let new = DebugLocLists::new(sections.loclists, endian);
-    let lists = LocationLists::new(old, new);
-    let number = attribute.number as usize;
-    let offset = match attribute.kind {
-        12 => LocationListsOffset(number),
-        21 => {
-            let base = DebugLocListsBase(bases.loclists as usize);
-            let index = DebugLocListsIndex(number);
-            lists
-                .get_offset(encoding, base, index)
-                .map_err(refusal_status)?
-        }
-        _ => return Err(NO_LIST),
-    };
-    let addresses = DebugAddr::from(EndianSlice::new(sections.addresses, endian));
-    let table = DebugAddrBase(bases.addresses as usize);
-    let found = if bases.dwo == 0 {
-        lists.locations(offset, encoding, bases.address, &addresses, table)
-    } else {
-        lists.locations_dwo(offset, encoding, bases.address, &addresses, table)
-    };
-    match found {
-        Ok(mut list) => Ok(fill_locations(&mut list, locations)),
-        Err(error) => Err(refusal_status(error)),
+    let bases = bases_in(bases, sized_encoding(unit)?);
+    let sections = dwarf_sections(sections, endian);
+    match bases.locations(&location_value(attribute), &sections) {
+        Ok(Some(mut list)) => Ok(fill_locations(&mut list, locations)),
+        Ok(None) => Err(NO_LIST),
+        Err(error) => Err(unresolved(error)),
     }
 }
 
-// Fills the locations of a list, and counts them all.
+// Fills `locations` with those of a list, as far as there is room, and counts all of them before
+// the first refusal. Status `MORE`: there was no room for all. Else it is `END`, or that of the
+// refusal; what is after the written ones stays. The list is left anywhere.
 fn fill_locations<R: Reader>(list: &mut LocListIter<R>, locations: &mut [GimliLocation]) -> Listed
     requires { length list.old.raw.rest.bytes < 2 ^ 63 }
     ensures { IsListed location_row (locations_ahead R.Offset.limit list.old) locations.old

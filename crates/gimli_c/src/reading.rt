@@ -28,7 +28,7 @@ pub(crate) struct Head {
 }
 
 impl Head {
-    /// That of the null that closes a list of children.
+    /// The head of the null that closes a list of children.
     #[inline(always)]
     pub(crate) fn null() -> Head
         ensures { result ≡ null_head }
@@ -54,7 +54,7 @@ pub(crate) trait ReadEntries<R: Reader> {
     fn is_empty(&self) -> bool
         ensures { IsTrue result ↔ (length (place self.now).rest.bytes ≡ 0) };
 
-    /// The offset of what is read next.
+    /// The offset in the unit of what is read next.
     fn next_offset(&self) -> u64
         ensures { result ≡ next_offset_of (place self.now) };
 
@@ -62,8 +62,9 @@ pub(crate) trait ReadEntries<R: Reader> {
     fn next_depth(&self) -> isize
         ensures { result ≡ (place self.now).depth };
 
-    /// Reads on past the next entry, and keeps its head alone. Refused as reading the entry is.
-    /// Where the steps of its table are not those of the attributes, it goes on anywhere.
+    /// Passes the next entry, a null too, and answers its head. Refusals: those of
+    /// `EntriesRaw::read_entry` but `OutOfMemory`, as no attribute is kept. Where the steps of its
+    /// table are not those of the attributes, it goes on anywhere.
     fn pass(&mut self) -> Result<Head>
         ensures past { has_steps self.old → IfOk result
             (λ head. IsReadPast R.Offset.limit (place self.old) head (place self.new)) }
@@ -75,8 +76,9 @@ pub(crate) trait ReadEntries<R: Reader> {
         ensures kept { OnErr result (place self.new ≡ place self.old) }
         ensures steps { has_steps self.old → has_steps self.new };
 
-    /// Reads the next entry, and keeps its head, and its attributes in place of those in `numbers`.
-    /// Refused as reading the entry is; or for memory, only where its declaration has attributes.
+    /// Reads the next entry, a null too, and answers its head; its attributes take the place of
+    /// those in `numbers`. Refusals: those of `EntriesRaw::read_entry`; `OutOfMemory` only where
+    /// the entry's declaration has attributes. After a refusal `numbers` are left anywhere.
     fn read<A: Allocator>(&mut self, numbers: &mut Numbers<A>) -> Result<Head>
         ensures past { IfOk result (λ head. IsReadWith R.Offset.limit (place self.old) head
             numbers.new.0.items (place self.new)) }
@@ -92,8 +94,9 @@ pub(crate) trait ReadEntries<R: Reader> {
         ensures kept { OnErr result (place self.new ≡ place self.old) };
 }
 
-/// The reader of a unit's entries that was opened at an offset, where rows are read from there on;
-/// else the status of the call.
+/// The reader of a unit's entries that was opened at an offset, where rows are read from there on.
+/// Else the status of the call, the first of these: `END`, where the offset is the unit's end; the
+/// refusal of opening the reader; `TOO_DEEP`, where depths from `depth` on may not fit an `isize`.
 pub(crate) fn start_at<R: Reader, T: ReadEntries<R> + Drop>(
     unit: &UnitHeader<R>,
     opened: Result<T>,
@@ -175,7 +178,7 @@ impl<'abbrev, R: Reader, B: Allocator> ReadEntries<R> for EntriesRaw<'abbrev, R,
     }
 }
 
-// The head of the entries of a declaration.
+// The head of the entries of a declaration, by its tag and its `has_children`.
 #[inline(always)]
 fn declared_head<A: Allocator>(declared: &Abbreviation<A>) -> Head
     ensures value { result ≡ declared_head declared.now }
@@ -187,8 +190,9 @@ fn declared_head<A: Allocator>(declared: &Abbreviation<A>) -> Head
     }
 }
 
-// Reads the attributes of these specifications into an empty list; where one is refused, `entries`
-// and the list are left anywhere.
+// Reads the attributes of these specifications into an empty list. Refusals: `OutOfMemory`, which
+// does not come where there are none; those of `EntriesRaw::read_attribute`. `entries` and the list
+// are then left anywhere.
 #[inline(always)]
 fn push_numbers<R: Reader, A: Allocator, B: Allocator>(
     entries: &mut EntriesRaw<'_, R, B>,

@@ -54,7 +54,12 @@ pub(crate) struct RowsOutcome {
     pub(crate) place: GimliPlace,
 }
 
-/// Fills rows of the unit at an offset, from a place on.
+/// Fills `rows` with the entries and nulls of the unit at `unit`, from its offset `offset` on,
+/// whose depth the caller says is `depth`. Answers how many were filled, the place after them, and
+/// `MORE`, `END` or what was refused there; rows that were filled before a refusal stay, and the
+/// others are as they were. At the unit's end the status is `END`, with no row. Before any row comes
+/// the refusal of the unit, of its table or of another offset, or `TOO_DEEP`, the first in this
+/// order; the place then stays.
 pub(crate) fn read_rows<R: Reader, A: Allocator + Copy>(
     alloc: A,
     sections: &UnitSections<R>,
@@ -86,7 +91,9 @@ pub(crate) fn read_rows<R: Reader, A: Allocator + Copy>(
     }
 }
 
-/// The same by a table in the caller's buffers, if its steps are those of its attributes.
+/// As `read_rows`, by a table in the caller's buffers in place of the unit's own, if its steps are
+/// those of its attributes. Whatever they are, only the rows that are counted are written, and with
+/// `MORE` and some room the place is a later one. No memory is asked for.
 pub(crate) fn read_rows_by<R: Reader>(
     sections: &UnitSections<R>,
     unit: R::Offset,
@@ -121,7 +128,7 @@ pub(crate) fn read_rows_by<R: Reader>(
     }
 }
 
-// No row.
+// The outcome with this status where no row is read: the place is as it was.
 fn no_rows<O: ReaderOffset>(offset: O, depth: isize, status: u32) -> RowsOutcome
     ensures { result ≡ record { status = status; count = 0; place = at (O.number offset) depth } }
 {
@@ -135,7 +142,8 @@ fn no_rows<O: ReaderOffset>(offset: O, depth: isize, status: u32) -> RowsOutcome
     }
 }
 
-// Fills rows of a unit by a reader of its entries that was opened at an offset.
+// Fills rows as `read_rows` does, by the reader of the unit's entries that was opened at `offset`,
+// or the refusal of opening it.
 fn unit_rows<R: Reader, T: ReadEntries<R> + Drop>(
     unit: &UnitHeader<R>,
     opened: Result<T>,
@@ -162,7 +170,9 @@ fn unit_rows<R: Reader, T: ReadEntries<R> + Drop>(
     }
 }
 
-// Fills rows, their depths counted from `base`.
+// Fills `rows` with what a reader reads next, nulls too; `base` is added to its depths. The place
+// is after the rows. Status `END`: nothing is left. `MORE`: `rows` is full. Else what is read next
+// was refused, and the place is there. Rows that are not counted stay.
 fn fill_rows<R: Reader, T: ReadEntries<R>>(
     entries: &mut T,
     base: isize,
@@ -210,7 +220,7 @@ fn fill_rows<R: Reader, T: ReadEntries<R>>(
     }
 }
 
-/// Where entries stand.
+/// The place of what a reader reads next; `base` is added to its depth.
 #[inline(always)]
 pub(crate) fn place_of<R: Reader, T: ReadEntries<R>>(entries: &T, base: isize) -> GimliPlace
     requires { unsigned_abs base + unsigned_abs (T.place entries.now).depth < 2 ^ 63 }

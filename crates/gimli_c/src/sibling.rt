@@ -23,7 +23,12 @@ use gimli_base::{Abbreviations, DebugAbbrev, Reader, ReaderOffset, Result, Secti
 use gimli_units::{EntriesCursor, UnitHeader, UnitOffset};
 use std::alloc::Allocator;
 
-/// Finds the next sibling of the row at an offset of a unit.
+/// Finds the next sibling of the row at the offset `offset` of the unit at `unit`: the next entry
+/// of its depth, before the null that closes their list. `MORE`: `row` is it, with the depth
+/// `depth`. `END`: there is none, or a null stands at the offset. Any other is the status of a
+/// refusal: of the unit, of its table, of the offset, or of a row. Unless it is `MORE`, `row` is as
+/// it was. Where `follows` is set, sibling references are followed; where they are not honest,
+/// `row` may be another entry after the offset.
 pub(crate) fn find_sibling<R: Reader, A: Allocator + Copy>(
     alloc: A,
     sections: &UnitSections<R>,
@@ -58,7 +63,7 @@ pub(crate) fn find_sibling<R: Reader, A: Allocator + Copy>(
     }
 }
 
-// Finds it in a unit with its abbreviations.
+// As `find_sibling`, in a unit with its abbreviations.
 fn find_in_unit<R: Reader, A: Allocator + Copy>(
     alloc: A,
     unit: &UnitHeader<R>,
@@ -92,7 +97,8 @@ fn find_in_unit<R: Reader, A: Allocator + Copy>(
     }
 }
 
-// Finds it by a cursor that stands before the row.
+// As `find_sibling`, by a cursor that reads the row next. A refusal is that of a row: it has the
+// status of `row_refused`.
 fn find_after<R: Reader, A: Allocator>(
     cursor: &mut EntriesCursor<'_, R, A>,
     depth: isize,
@@ -130,7 +136,10 @@ fn find_after<R: Reader, A: Allocator>(
     }
 }
 
-// Goes to the next sibling, which stands after what was read last, whatever the references.
+// Goes to the next sibling of the current entry, which stands after what was read last, whatever
+// the references. Answers true where there is one. False: there is none, or there was no current
+// entry; there is no current entry then. Refusals: those of `EntriesCursor::next_sibling`; nothing
+// is left to read then.
 fn step<R: Reader, A: Allocator>(cursor: &mut EntriesCursor<'_, R, A>) -> Result<bool>
     ensures after { result ≡ Ok true → next_offset_of cursor.old.raw ≤ cursor.new.offset }
     ensures idle { is_null cursor.old.entry ≡ true → result ≡ Ok false }

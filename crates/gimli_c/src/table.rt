@@ -67,7 +67,8 @@ pub struct GimliCounted {
 }
 
 impl GimliSpecification {
-    // A declared attribute of the library, with a step of no values.
+    // A declared attribute of the library as a caller has it. Its step has no values, and its
+    // constant is 0 where the form has none.
     fn of(specification: AttributeSpecification) -> GimliSpecification
         ensures { specification_in result ≡ specification }
     {
@@ -79,7 +80,8 @@ impl GimliSpecification {
         }
     }
 
-    /// The same as the library has it.
+    /// This declared attribute as the library has it; `constant` is that of the form implicit_const
+    /// alone.
     #[inline(always)]
     pub(crate) fn specification(&self) -> AttributeSpecification
         ensures { result ≡ specification_in self.now }
@@ -95,7 +97,8 @@ impl GimliSpecification {
 }
 
 impl GimliDeclaration {
-    /// Its attributes, as far as they are there.
+    /// The attributes of this declaration in the list of its table: those from `first` on, as many
+    /// as `attributes` says, or fewer where the list ends before.
     #[inline(always)]
     pub(crate) fn attributes_in<'t>(
         &self,
@@ -107,7 +110,8 @@ impl GimliDeclaration {
     }
 }
 
-/// So many attributes from an index on, as far as they are there.
+/// `count` attributes of a list from the index `first` on, or fewer, or none, where the list ends
+/// before.
 #[inline(always)]
 pub(crate) fn part_of(
     specifications: &[GimliSpecification],
@@ -129,7 +133,7 @@ pub(crate) struct TableOutcome {
     pub(crate) counted: GimliCounted,
 }
 
-// A status where nothing is counted.
+// The outcome with this status where nothing is counted: both numbers are 0.
 fn no_table(status: u32) -> TableOutcome
     ensures { result ≡ record { status = status; counted = count_of [] } }
 {
@@ -143,7 +147,10 @@ fn no_table(status: u32) -> TableOutcome
 }
 
 /// Reads the table at an offset of `.debug_abbrev`, first to count what it has, and then into the
-/// buffers, if there is room for all.
+/// buffers, if there is room for all. Status `END`: all is written and counted. `MORE`: there is no
+/// room, and all is counted. Any other, where nothing is counted: the refusal of the offset;
+/// `UNORDERED`, where the codes of the declarations before the first that is refused are not 1, 2,
+/// ..; that refusal. The buffers are as they were unless the status is `END`.
 pub(crate) fn read_table<E: Endianity>(
     abbreviations: &[u8],
     endian: E,
@@ -173,7 +180,8 @@ pub(crate) fn read_table<E: Endianity>(
     }
 }
 
-// Whether there is room for so much.
+// Whether there is room for what is counted: `room` is that for declarations, `space` that for
+// attributes.
 fn has_room(counted: GimliCounted, room: usize, space: usize) -> bool
     ensures { result ≡ have_room room space counted }
 {
@@ -181,8 +189,8 @@ fn has_room(counted: GimliCounted, room: usize, space: usize) -> bool
 }
 
 // Reads the declarations up to the code 0 into the buffers, as far as there is room for them, and
-// counts them all; where they are refused, or there is no room for all, the buffers are left
-// anywhere.
+// counts them all. The outcome is that of `read_table` at these bytes. Where the status is not
+// `END`, the buffers are left anywhere, and so is the input in any case.
 fn scan<R: Reader>(
     input: &mut R,
     declarations: &mut [GimliDeclaration],
@@ -220,8 +228,11 @@ fn scan<R: Reader>(
     }
 }
 
-// The next declaration, whose attributes are written after the first `from`, as far as there is
-// room for them; where it is refused, all is left anywhere.
+// Reads the next declaration, whose attributes are written after the first `from`, as far as there
+// is room for them; none at the code 0. Refusals, in the order of the bytes: of the code,
+// `UnexpectedEof` and `BadUnsignedLeb128`; of the tag, these and `AbbreviationTagZero`; of the byte
+// on children, `UnexpectedEof` and `InvalidAbbreviationChildren`; those of `read_specifications`.
+// All is then left anywhere.
 #[tactic(auto, unfolding(gimli_base::specs::Abbreviations::declared_at, gimli_base::specs::Abbreviations::tag_at, gimli_base::specs::Abbreviations::children_at))]
 fn read_declaration<R: Reader>(
     input: &mut R,
@@ -256,8 +267,9 @@ fn read_declaration<R: Reader>(
     }))
 }
 
-// The attributes of a declaration up to two zeros, written after the first `from` as far as there
-// is room for them, and their number; where they are refused, all is left anywhere.
+// Reads the attributes of a declaration up to two zeros, and answers their number. They are written
+// after the first `from`, as far as there is room for them; their steps too, where there is room
+// for all. Refusals: those of `AttributeSpecification::read`; all is then left anywhere.
 fn read_specifications<R: Reader>(
     input: &mut R,
     from: usize,
@@ -282,7 +294,9 @@ fn read_specifications<R: Reader>(
     Ok(at - from)
 }
 
-// Puts the steps of all attributes of a declaration: each has as many values as there is room for.
+// Puts the steps of all attributes of a declaration, from the last on: that of an attribute is the
+// one after it with its own value added, or, where that has no room, its own value alone. It has no
+// values where the form does not tell their size.
 fn put_steps(specifications: &mut [GimliSpecification])
     ensures steps { OwnSteps specifications.new }
     ensures same { map specification_in specifications.new

@@ -4,10 +4,11 @@ ghost use Rattle.std.specs.Prelude.{◌≡◌};
 ghost use Rattle.gimli_units.specs.UnitHeld.{unit_view};
 ghost use Rattle.gimli_units.specs.UnitKind.{map_type};
 ghost use Rattle.gimli_c.specs.Units.{at_offset, unit_of, unit_outcome, unit_numbers, type_numbers};
+ghost use Rattle.gimli_c.specs.Units.{encoding_in};
 
 use crate::sections::UnitSections;
 use crate::status::{END, MORE, refusal_status};
-use gimli_base::{Format, Reader, ReaderOffset};
+use gimli_base::{Encoding, Format, Reader, ReaderOffset};
 use gimli_units::{UnitHeader, UnitType};
 
 /// The header of a unit.
@@ -44,7 +45,9 @@ struct Added {
     offset: u64,
 }
 
-/// Reads the header at an offset.
+/// Reads the header of the unit at an offset of the section of units. `MORE`: `unit` is that unit.
+/// `END`: the offset is the section's end. Any other is the status of a refusal. Unless it is
+/// `MORE`, `unit` is as it was.
 pub(crate) fn read_unit<R: Reader>(
     sections: &UnitSections<R>,
     offset: R::Offset,
@@ -66,8 +69,25 @@ pub(crate) fn read_unit<R: Reader>(
     }
 }
 
-// A unit's numbers, at an offset.
-fn numbers_of<R: Reader>(unit: &UnitHeader<R>, offset: R::Offset) -> GimliUnit
+/// How the bytes of a caller's unit are read. The format is the one of 64 bits where `offset_size`
+/// is 8, else that of 32; the other numbers are taken as they are.
+pub(crate) fn encoding_in(unit: &GimliUnit) -> Encoding
+    ensures { result ≡ encoding_in unit.now }
+{
+    Encoding {
+        format: if unit.offset_size == 8 {
+            Format::Dwarf64
+        } else {
+            Format::Dwarf32
+        },
+        version: unit.version,
+        address_size: unit.address_size,
+    }
+}
+
+/// The numbers of a unit's header. `offset` is where the unit begins in its section, whatever
+/// offset the header has.
+pub(crate) fn numbers_of<R: Reader>(unit: &UnitHeader<R>, offset: R::Offset) -> GimliUnit
     ensures { result ≡ unit_numbers (at_offset (R.Offset.number offset) (unit_view unit.now)) }
 {
     let added = added_by(unit.type_());
@@ -85,7 +105,7 @@ fn numbers_of<R: Reader>(unit: &UnitHeader<R>, offset: R::Offset) -> GimliUnit
     }
 }
 
-// What a type adds, and its code.
+// The code of a unit's type, and what the header adds for it; 0 where it adds none.
 fn added_by<O: ReaderOffset>(kind: UnitType<O>) -> Added
     ensures { (result.code, result.id, result.offset) ≡ type_numbers (map_type O.number kind) }
 {

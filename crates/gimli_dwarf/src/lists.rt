@@ -241,7 +241,8 @@ impl<Offset: ReaderOffset> UnitBases<Offset> {
     }
 
     // The section in which the unit's addresses are looked up by their index: `debug_addr`, or
-    // where the unit has no `addr_base` one without bytes, which refuses each index.
+    // where the unit has no `addr_base` one without bytes at the place of its end, so that each
+    // index is refused with that place.
     fn addresses_of<R: Reader<Offset = Offset>>(&self, debug_addr: &DebugAddr<R>) -> DebugAddr<R>
         ensures { addr_content R.view result
             ≡ addresses_of (bases_view Offset.number self.now)

@@ -180,6 +180,7 @@ impl<R: Reader> Iterator for DebugInfoUnitHeadersIter<R> {
 
     ghost remaining = { λ s. at_most (length s.rest.bytes) };
 
+    // As the other `next`: a refusal is an item, and nothing is left after it.
     fn next(&mut self) -> Option<Result<UnitHeader<R>>> {
         DebugInfoUnitHeadersIter::next(self).transpose()
     }

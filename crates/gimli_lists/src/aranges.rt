@@ -172,6 +172,7 @@ impl<R: Reader> Iterator for ArangeHeaderIter<R> {
 
     ghost remaining = { λ s. at_most (length s.rest.bytes) };
 
+    // As the other `next`: a refusal is an item, and nothing is left after it.
     fn next(&mut self) -> Option<Result<ArangeHeader<R>>> {
         ArangeHeaderIter::next(self).transpose()
     }

@@ -422,7 +422,8 @@ impl<R: Reader> UnitHeader<R> {
     }
 
     /// A cursor before the entry at an offset in the unit, which has depth 0; its `next_sibling`
-    /// follows sibling references. Refusal: `OffsetOutOfBounds`.
+    /// follows sibling references. Refusal: `OffsetOutOfBounds`, where the offset is not that of a
+    /// byte of the entries.
     pub fn entries_at_offset<'abbrev, A: Allocator + Copy>(
         &self,
         alloc: A,
@@ -449,7 +450,8 @@ impl<R: Reader> UnitHeader<R> {
     }
 
     /// A cursor before the entry at an offset in the unit, which has depth 0; it follows no sibling
-    /// reference, and reads every entry. Refusal: `OffsetOutOfBounds`.
+    /// reference, and reads every entry. Refusal: `OffsetOutOfBounds`, where the offset is not that
+    /// of a byte of the entries.
     pub fn entries_plain_at_offset<'abbrev, A: Allocator + Copy>(
         &self,
         alloc: A,

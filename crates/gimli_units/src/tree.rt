@@ -328,8 +328,8 @@ impl<'abbrev, 'tree, R: Reader, A: Allocator> EntriesTreeIter<'abbrev, 'tree, R,
     }
 
     /// The next child: the next entry of the list's depth, before the null that closes the list.
-    /// Answers none there, at the end of the bytes, and always when the list is closed. No entry is
-    /// so deep as the least number of the depth's type.
+    /// Answers none there, at the end of the bytes, and always when the list is closed. A list whose
+    /// depth is the least number of its type has no child.
     ///
     /// An entry whose `DW_AT_sibling` leads on in the unit is left for where it leads, with what is
     /// below it unread. So the children are those of plain walking where these references are

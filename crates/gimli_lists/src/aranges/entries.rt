@@ -109,6 +109,7 @@ impl<R: Reader> Iterator for ArangeEntryIter<R> {
 
     ghost remaining = { λ s. at_most (length s.rest.bytes) };
 
+    // As the other `next`: a refusal is an item, and the call after it goes on after that tuple.
     fn next(&mut self) -> Option<Result<ArangeEntry>> {
         ArangeEntryIter::next(self).transpose()
     }

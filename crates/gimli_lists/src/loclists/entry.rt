@@ -412,6 +412,7 @@ impl<R: Reader> Iterator for RawLocListIter<R> {
 
     ghost remaining = { λ s. at_most (length s.rest.bytes) };
 
+    // As the other `next`: a refusal is an item, and nothing is left after it.
     fn next(&mut self) -> Option<Result<RawLocListEntry<R>>> {
         RawLocListIter::next(self).transpose()
     }

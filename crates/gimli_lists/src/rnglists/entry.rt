@@ -342,6 +342,7 @@ impl<R: Reader> Iterator for RawRngListIter<R> {
 
     ghost remaining = { λ s. at_most (length s.rest.bytes) };
 
+    // As the other `next`: a refusal is an item, and nothing is left after it.
     fn next(&mut self) -> Option<Result<RawRngListEntry<R::Offset>>> {
         RawRngListIter::next(self).transpose()
     }

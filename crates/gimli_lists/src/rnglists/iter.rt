@@ -201,6 +201,8 @@ impl<R: Reader> Iterator for RngListIter<R> {
 
     ghost remaining = { λ s. at_most (length s.raw.rest.bytes) };
 
+    // As the other `next`: a refusal is an item. Nothing is left after one of the list's bytes; after
+    // one of what an entry stands for the rest of the list is left.
     fn next(&mut self) -> Option<Result<Range>> {
         RngListIter::next(self).transpose()
     }
