@@ -32,7 +32,7 @@ Version: 0.1
 Cflags: -I${includedir}
 Libs: -L${libdir} -l:libgimli.a
 PC
-for program in rows attrs lists; do
+for program in rows attrs lists values; do
     cc -std=c11 -O2 -Wall -Wextra -I"$here/include" -o "$target/$program" "$here/c/$program.c" "$target/libgimli.a"
 done
 cc -std=c11 -O2 -Wall -Wextra -I"$here/include" -Wl,--wrap=malloc -Wl,--wrap=realloc -o "$target/memory" "$here/c/memory.c" \

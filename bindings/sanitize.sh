@@ -10,11 +10,11 @@ target=$here/target
 data=$here/../crates/gimli_vectors/data
 export ASAN_OPTIONS=detect_leaks=0:exitcode=99 UBSAN_OPTIONS=exitcode=99
 mkdir -p "$target/checked"
-for program in rows attrs lists; do
+for program in rows attrs lists values; do
     cc -std=c11 -g -O1 -fsanitize=address,undefined -fno-sanitize-recover=undefined -I"$here/include" \
         -o "$target/checked/$program" "$here/c/$program.c" "$target/libgimli.a"
 done
-"$target/checked/lists"
+for program in lists values; do "$target/checked/$program"; done
 runs=0
 for info in "$data"/*.info; do
     file=${info%.info}

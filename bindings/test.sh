@@ -5,20 +5,22 @@ set -euo pipefail
 here=$(cd "$(dirname "$0")" && pwd)
 target=$here/target
 data=$here/../crates/gimli_vectors/data
-"$target/lists"
+for program in lists values; do "$target/$program"; done
 # gimli.pc is right where the tree moves, and the header is plain C99 and C++
 moved=$(mktemp -d)
 trap 'rm -r "$moved"' EXIT
 mkdir "$moved/target"
 cp -r "$here/include" "$moved"
 cp "$target/libgimli.a" "$target/gimli.pc" "$moved/target"
-cc -std=c99 -pedantic -Wall -Wextra -Werror -o "$moved/lists" "$here/c/lists.c" \
-    $(pkg-config --cflags --libs "$moved/target/gimli.pc")
-"$moved/lists"
 c++ -std=c++11 -pedantic -Wall -Wextra -Werror -fsyntax-only -x c++ "$moved/include/gimli.h"
-c++ -std=c++11 -pedantic -Wall -Wextra -Werror -o "$moved/lists" -x c++ "$here/c/lists.c" -x none \
-    $(pkg-config --cflags --libs "$moved/target/gimli.pc")
-"$moved/lists"
+for program in lists values; do
+    cc -std=c99 -pedantic -Wall -Wextra -Werror -o "$moved/$program" "$here/c/$program.c" \
+        $(pkg-config --cflags --libs "$moved/target/gimli.pc")
+    "$moved/$program"
+    c++ -std=c++11 -pedantic -Wall -Wextra -Werror -o "$moved/$program" -x c++ "$here/c/$program.c" -x none \
+        $(pkg-config --cflags --libs "$moved/target/gimli.pc")
+    "$moved/$program"
+done
 # what it says of statuses is what the Rust crate says
 cc -std=c99 -pedantic -Wall -Wextra -Werror -I"$moved/include" -o "$moved/texts" "$here/c/texts.c"
 c++ -std=c++11 -pedantic -Wall -Wextra -Werror -I"$moved/include" -o "$moved/texts_cc" -x c++ "$here/c/texts.c"

@@ -14,6 +14,14 @@ static void same(const char *what, uint64_t is, uint64_t wanted) {
     }
 }
 
+/* Bases of which the address alone is not 0. */
+static gimli_bases_t counted_from(uint64_t address) {
+    gimli_bases_t bases;
+    memset(&bases, 0, sizeof bases);
+    bases.address = address;
+    return bases;
+}
+
 static void empty_sections(void) {
     gimli_sections_t s = gimli_no_sections();
     gimli_unit_t unit;
@@ -38,12 +46,11 @@ static void nulls(void) {
     gimli_row_t row;
     gimli_attr_t list;
     gimli_filled_t filled;
-    gimli_bases_t bases;
+    gimli_bases_t bases = counted_from(0);
     uint64_t offset = 7;
     size_t count = 7;
     memset(&none, 0, sizeof none);
     memset(&list, 0, sizeof list);
-    memset(&bases, 0, sizeof bases);
     s = none;
     s.units = gimli_bytes(info, sizeof info);
     same("no unit of null", gimli_unit(&none, 0, &kept), GIMLI_END);
@@ -75,7 +82,7 @@ static void lists(void) {
     gimli_entry_t row;
     gimli_attr_t attrs[2], other;
     gimli_filled_t filled;
-    gimli_bases_t bases = {0x1000, 0, 0, 0, 0};
+    gimli_bases_t bases = counted_from(0x1000);
     gimli_range_t ranges[4] = {{0, 0}};
     gimli_location_t location;
     size_t count;
@@ -123,7 +130,7 @@ static void ranges_left_out(void) {
     gimli_sections_t s = gimli_no_sections();
     gimli_unit_t unit;
     gimli_attr_t list;
-    gimli_bases_t bases = {0x1000, 0, 0, 0, 0};
+    gimli_bases_t bases = counted_from(0x1000);
     gimli_range_t ranges[4] = {{7, 7}};
     size_t count;
     memset(&unit, 0, sizeof unit);

@@ -121,9 +121,28 @@ typedef uint32_t call_t(gimli_place_t place, void *into);
 
 static uint32_t plain_sibling(gimli_place_t place, void *into) { return gimli_sibling(&sections, unit.offset, &place, 0, into); }
 static uint32_t followed_sibling(gimli_place_t place, void *into) { return gimli_sibling(&sections, unit.offset, &place, 1, into); }
+
+/* A call that answers the same where memory is refused for the table and for a row. */
+static uint32_t asks_for_no_row(uint32_t status) {
+    if (status == ROW_REFUSED) fails("another refusal", -1);
+    return status;
+}
+
 static uint32_t first_false(gimli_place_t place, void *into) {
     (void)place;
-    return gimli_first_false(&sections, unit.offset, into);
+    return asks_for_no_row(gimli_first_false(&sections, unit.offset, into));
+}
+static uint32_t unit_bases(gimli_place_t place, void *into) {
+    (void)place;
+    return asks_for_no_row(gimli_unit_bases(&sections, unit.offset, 0, NULL, into));
+}
+
+/* The bases of the unit, and an address that its root says. */
+static gimli_bases_t known;
+
+static uint32_t unit_holds(gimli_place_t place, void *into) {
+    (void)place, (void)into;
+    return asks_for_no_row(gimli_unit_holds(&sections, unit.offset, &known, known.address));
 }
 
 static void same_answer(const char *what, call_t *call, gimli_place_t place, size_t size) {
@@ -151,12 +170,19 @@ static void ask_for_none(void) {
     gimli_bases_t bases = {0};
     gimli_range_t range;
     gimli_location_t location;
+    gimli_string_t string;
     uint64_t offset;
     size_t count;
     long had = requests;
     sections.ranges = sections.rnglists = sections.loc = sections.loclists = sections.aranges = sections.abbrev;
-    attr.kind = GIMLI_SEC_OFFSET;
+    sections.addresses = sections.str = sections.line_str = sections.sup_str = sections.str_offsets = sections.abbrev;
     gimli_unit(&sections, 0, &unit);
+    gimli_unit_holding(&sections, sections.units.length - 1, &unit);
+    for (attr.kind = 0; attr.kind < 64; attr.kind++) {
+        gimli_attr_string(&sections, &unit, &attr, &bases, &string);
+        gimli_attr_address(&sections, &unit, &attr, &bases, &offset);
+    }
+    attr.kind = GIMLI_SEC_OFFSET;
     gimli_ranges(&sections, &unit, &attr, &bases, &range, 1, &count);
     gimli_locations(&sections, &unit, &attr, &bases, &location, 1, &count);
     gimli_unit_of_address(&sections, 1, &offset);
@@ -188,6 +214,9 @@ int main(int argc, char **argv) {
     same_answer("a sibling by references", followed_sibling, child, sizeof(gimli_row_t));
     same_answer("the root's sibling", plain_sibling, root, sizeof(gimli_row_t));
     same_answer("the first false reference", first_false, root, sizeof(uint64_t));
+    same_answer("the bases", unit_bases, root, offsetof(gimli_bases_t, no_gnu_ranges) + 1);
+    if (gimli_unit_bases(&sections, unit.offset, 0, NULL, &known) == GIMLI_MORE)
+        same_answer("whether the unit holds an address", unit_holds, root, 0);
     ask_for_none();
     free(info), free(abbrev);
     return 0;

@@ -1,8 +1,9 @@
 #!/bin/bash
-# test.sh: builds the three examples over what bindings/build.sh has built, and asks each for the
-# functions of programs that gcc and clang make. The three answers are the same, and so is that of
-# pyelftools' own reader (oracle.py); the name is addr2line's. Debian's packages libelf-dev,
-# librust-object-dev and python3-pyelftools have to be there.
+# test.sh: builds the examples over what bindings/build.sh has built, and asks function_at in the three
+# languages for the functions of programs that gcc and clang make. The three answers are the same, and
+# so is that of pyelftools' own reader (oracle.py); the name is addr2line's. What functions, lists and
+# tags print is compared by compare.py. Debian's packages libelf-dev, librust-object-dev and
+# python3-pyelftools have to be there.
 set -euo pipefail
 here=$(cd "$(dirname "$0")" && pwd)
 target=$here/../target
@@ -13,19 +14,28 @@ for it in "${PYTHON:-python3}" /usr/bin/python3; do
     if [ -z "$python" ] && "$it" -c 'import elftools' 2> "$made/told"; then python=$it; fi
 done
 if [ -z "$python" ]; then echo "examples: no Python has pyelftools (python3-pyelftools)"; exit 1; fi
-cc -std=gnu11 -O2 -Wall -Wextra -o "$made/function_at_c" "$here/c/function_at.c" \
-    $(pkg-config --cflags --libs "$target/gimli.pc") $(pkg-config --cflags --libs libelf)
+for example in function_at functions lists tags; do
+    cc -std=gnu11 -O2 -Wall -Wextra -o "$made/${example}_c" "$here/c/$example.c" \
+        $(pkg-config --cflags --libs "$target/gimli.pc") $(pkg-config --cflags --libs libelf)
+done
 (cd "$here/rust" && cargo build --release --quiet --locked --target-dir "$made/rust")
 
-# ask LANGUAGE PROGRAM ADDRESS: what the example of a language prints
+# run LANGUAGE EXAMPLE WORDS..: what an example of a language prints
+run() {
+    local language=$1 example=$2
+    shift 2
+    case $language in
+        c) "$made/${example}_c" "$@" ;;
+        rust) "$made/rust/release/$example" "$@" ;;
+        python) "$python" "$here/python/$example.py" "$@" ;;
+    esac
+}
+
+# ask LANGUAGE PROGRAM ADDRESS: what function_at of a language prints
 ask() {
     local language=$1
     shift
-    case $language in
-        c) "$made/function_at_c" "$@" ;;
-        rust) "$made/rust/release/function_at" "$@" ;;
-        python) "$python" "$here/python/function_at.py" "$@" ;;
-    esac
+    run "$language" function_at "$@"
 }
 
 # addresses PROGRAM: the first and the last address of each of its functions, those of parts too,
@@ -120,6 +130,17 @@ gcc -nostdlib -static -o "$made/lists" "$here/programs/lists.s"
 ends 0 70003 0 "^function many\$" "$made/lists" "$(address "$made/lists" many 69999)"
 ends 2 0 1 "^error 1: the ranges of the unit at 0x0: The input ends before what should stand there\.\$" "$made/lists" 10
 
+# a refusal ends the other examples, with its words
+for example in functions lists; do
+    for language in c rust python; do
+        status=0
+        run $language $example "$made/lists" > "$made/out" 2> "$made/err" || status=$?
+        if [ $status != 1 ] || ! grep -q 'The input ends before what should stand there\.' "$made/err"; then
+            echo "$language: '$example' of a list that is refused ends with $status:"; head "$made/err"; exit 1
+        fi
+    done
+done
+
 # skeleton units
 skeleton() {
     local program=$made/skeleton$1
@@ -131,22 +152,35 @@ skeleton() {
 skeleton 4 gcc -gdwarf-4 -O2
 skeleton 5 gcc -gdwarf-5 -O2
 if command -v clang > "$made/told"; then skeleton -clang clang -gdwarf-5 -O2; fi
-# held WORDS..: the example in C gives back all that it holds, also where it stops early
+# held EXAMPLE WORDS..: an example in C gives back all that it holds, also where it stops early
 held() {
-    local status=0
+    local example=$1 status=0
+    shift
     valgrind -q --leak-check=full --show-leak-kinds=all --errors-for-leak-kinds=all --error-exitcode=99 \
-        "$made/function_at_c" "$@" > "$made/out" 2> "$made/err" || status=$?
-    if [ $status -gt 2 ]; then echo "C: '$*' gives not all back:"; head "$made/err"; exit 1; fi
+        "$made/${example}_c" "$@" > "$made/out" 2> "$made/err" || status=$?
+    if [ $status -gt 2 ]; then echo "C: '$example $*' gives not all back:"; head "$made/err"; exit 1; fi
 }
 if command -v valgrind > "$made/told"; then
     for program in c-compressed cc-gdwarf-5-O2 two-flto skeleton4; do
         if ! [ -e "$made/$program" ]; then continue; fi
-        for address in $(addresses "$made/$program" | head -8) 10; do held "$made/$program" "$address"; done
+        for address in $(addresses "$made/$program" | head -8) 10; do held function_at "$made/$program" "$address"; done
+        for example in functions lists tags; do held $example "$made/$program"; done
     done
-    held "$made/lists" "$(address "$made/lists" many 69999)"
-    held "$made/lists" 10
-    held "$here/test.sh" 10
+    held function_at "$made/lists" "$(address "$made/lists" many 69999)"
+    held function_at "$made/lists" 10
+    held function_at "$here/test.sh" 10
+    (cd "$made" && g++ -g -gdwarf-5 -O2 -gsplit-dwarf -fdebug-types-section -o types "$here/programs/shapes.cc")
+    for example in functions lists tags; do
+        held $example "$made/lists"
+        held $example "$here/test.sh"
+        held $example "$made/types" "$made/types-shapes.dwo"
+    done
 else
     echo "examples: what is given back was not tried, as valgrind is not there"
+fi
+if command -v llvm-dwarfdump > "$made/told"; then
+    "$python" "$here/compare.py" "$made"
+else
+    echo "examples: functions, lists and tags were not compared, as llvm-dwarfdump is not there"
 fi
 echo "examples: $asked addresses in $programs programs, the same in C, Rust and Python, by pyelftools and by addr2line"

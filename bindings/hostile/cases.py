@@ -4,18 +4,21 @@
 answers with those that the rows have.
 
 With --some about N of the cases are taken, from all tables. What a row says of calls that the
-library for C does not have is left out: its bytes are read all the same. It prints how many cases
-were answered and how many of them have an answer to compare.
+library for C does not have is left out: its bytes are read all the same. The bases, the addresses and the
+texts of each unit that is read are compared with those of values.py. It prints how many cases were answered
+and how many of them have an answer to compare.
 
 """
 import re
 import subprocess
 import sys
 import tempfile
-from pathlib import Path
 
-ROOT = Path(__file__).resolve().parents[2]
-MORE, END, NO_LIST, REFUSED, ROW_REFUSED = 0, 1, 3, 256, 512
+import dwarf_rows
+import values
+from tables import DATA, Answer, Row, hexed, rows_of, unlike
+
+MORE, END, NO_LIST, NO_BASE, REFUSED, ROW_REFUSED = 0, 1, 3, 5, 256, 512
 KINDS = {"Addr": 1, "Block": 2, "Data1": 3, "Data2": 4, "Data4": 5, "Data8": 6, "Data16": 7, "Sdata": 8, "Udata": 9, "Exprloc": 10,
          "Flag": 11, "SecOffset": 12, "DebugAddrIndex": 14, "UnitRef": 15, "DebugInfoRef": 16, "DebugInfoRefSup": 17,
          "DebugLocListsIndex": 21, "DebugRngListsIndex": 26, "DebugTypesRef": 27, "DebugStrRef": 28, "DebugStrRefSup": 29,
@@ -23,109 +26,19 @@ KINDS = {"Addr": 1, "Block": 2, "Data1": 3, "Data2": 4, "Data4": 5, "Data8": 6, 
 TYPES = {"compile": 1, "compilation": 1, "type": 2, "partial": 3, "skeleton": 4, "split_compile": 5, "split_type": 6}
 
 
-# Rows of tables
-
-def read_bytes(text, names):
-    """The bytes of a section, as crates/test_tables says."""
-    out = b""
-    for word in text.split():
-        if word.startswith("$"):
-            out += names[word[1:]]
-        elif "*" in word:
-            digits, times = word.split("*")
-            out += bytes.fromhex(digits) * int(times)
-        else:
-            out += bytes.fromhex(word)
-    return out
-
-
-class Row:
-    """A case of a table: whose calls the table names, its order, its words, the place of the first
-    section, the sections and the lines of its answer for offsets of 64 bits.
-    """
-
-    def __init__(self, where, calls, big, words, sections, answer):
-        self.where, self.calls, self.big, self.sections, self.answer = where, calls, big, sections, answer
-        self.words = [it for it in words if not it.startswith("@")]
-        self.place = next((int(it[1:]) for it in words if it.startswith("@")), 0)
-
-    @property
-    def call(self):
-        return self.words[0]
-
-    def section(self, index):
-        return self.sections[index] if index < len(self.sections) else b""
-
-
-def expanded(line):
-    """The lines that a line stands for."""
-    if not line.startswith("over "):
-        return [line]
-    _, first, last, rest = line.split(" ", 3)
-    return [rest.replace("{hex}", f"{it:02x}").replace("{dec}", str(it)) for it in range(int(first), int(last) + 1)]
-
-
-def rows_of(path):
-    names, calls = {}, "reads"
-    for number, text in enumerate(path.read_text().splitlines(), 1):
-        if not text or text.startswith("#"):
-            continue
-        if text.startswith("calls of "):
-            calls = text[len("calls of "):]
-            continue
-        named = re.match(r"(\w+) := ?(.*)", text)
-        if named:
-            names[named[1]] = read_bytes(named[2], names)
-            continue
-        for line in expanded(text):
-            call, _, answer = line.partition(" =")
-            words, *sections = re.split(r" :(?= |$)", call)
-            words = words.split()
-            orders = [words[0] == "big"]
-            if words[0] in ("big", "each"):
-                orders = [False, True] if words.pop(0) == "each" else [True]
-            lines = [it.strip() for it in answer.split(" | ")[0].strip().split("; ")]
-            for big in orders:
-                yield Row(f"{path.name}:{number}", calls, big, words, [read_bytes(it, names) for it in sections], lines)
-
-
 # Cases for the program, each a line, with what is said of the lines of its answer
-
-class Answer:
-    """The lines that the program prints for a case."""
-
-    def __init__(self, lines):
-        self.lines = [line.split() for line in lines]
-
-    def of(self, word):
-        return [[int(it) for it in line[1:]] for line in self.lines if line[0] == word]
-
-    def units(self):
-        """Each unit's header, with its rows, how they end and its first false reference."""
-        found = []
-        for word, *numbers in self.lines:
-            numbers = [int(it) for it in numbers]
-            if word == "unit":
-                found.append({"header": numbers, "row": [], "attr": [], "sibling": []})
-            elif word == "attr" and found:
-                found[-1]["attr"].append((len(found[-1]["row"]) - 1, numbers))
-            elif word in ("row", "sibling") and found:
-                found[-1][word].append(numbers)
-            elif word in ("rows", "false") and found:
-                found[-1][word] = numbers
-        return found
-
-
-def hexed(section):
-    return section.hex() or "-"
-
 
 def walk(row, info, abbrev, types=False):
     return f"walk {row.big:d} {types:d} {hexed(info)} {hexed(abbrev)}"
 
 
-def unlike(wanted, got):
-    return None if wanted == got else f"wanted {wanted}, got {got}"
+def with_values(case, check):
+    """The check of a walk, and what its bases and values are."""
+    call, big, _, *sections = case.split()
+    if call != "walk":
+        return check
+    units, abbrev = (b"" if it == "-" else bytes.fromhex(it) for it in sections)
+    return lambda answer: check and check(answer) or values.walk_unlike(big == "1", units, abbrev, answer)
 
 
 def row_text(row):
@@ -532,9 +445,34 @@ def abbreviation_cases(row):
 
 # Lists
 
-def list_case(row, locations, encoding, base, table, lists, dwo, kind, number, check):
-    numbers = " ".join(map(str, [int(locations), *encoding, base, table, lists, int(dwo), kind, number]))
-    return f"list {row.big:d} 0 {hexed(row.section(0))} {hexed(row.section(1))} {numbers}", check
+def list_line(row, numbers, lists, addresses):
+    return " ".join(["list", f"{row.big:d} 0", hexed(lists), hexed(addresses), *map(str, numbers)])
+
+
+def list_cases_of(row, locations, encoding, base, table, lists, dwo, kind, number, check):
+    """A list by bases that a row has. From version 5 on none lies in the header of its section: then the
+    row's bytes stand after a header, and without one what counts from there is refused.
+    """
+    it = values.Encoding(row.big, encoding[0] == 8, *encoding[1:])
+    table_header = it.table_header if table < it.table_header else 0
+    lists_header = it.lists_header if kind != 12 and lists < it.lists_header else 0
+    first, rest = [int(locations), *encoding, base], [int(dwo), kind, number]
+    numbers = [*first, table + table_header, lists + lists_header, *rest]
+    yield list_line(row, numbers, bytes(lists_header) + row.section(0), bytes(table_header) + row.section(1)), check
+    if lists_header or table_header:
+        in_header = no_base_check(it) if lists_header else no_table_check
+        yield list_line(row, [*first, table, lists, *rest], row.section(0), row.section(1)), in_header
+
+
+def no_base_check(encoding):
+    def check(answer):
+        return unlike([0, NO_BASE if encoding.address_size in (1, 2, 4, 8) else REFUSED + 7], answer.of("list")[0])
+    return check
+
+
+def no_table_check(answer):
+    """The list is that of a unit without a table of addresses."""
+    return unlike([answer.of("item_without"), answer.of("list_without")], [answer.of("item"), answer.of("list")])
 
 
 def items_check(row, items, place):
@@ -570,7 +508,7 @@ def lists_cases(row):
     check = None
     if told and encoding[2] in (1, 2, 4, 8):
         check = items_check(row, told[0].split(", ")[1:], (row.place, 10))
-    yield list_case(row, locations, encoding, base, table, 0, dwo, 12, offset, check)
+    yield from list_cases_of(row, locations, encoding, base, table, 0, dwo, 12, offset, check)
 
 
 def runs_cases(row):
@@ -582,7 +520,7 @@ def runs_cases(row):
         return
     numbers = [int(it, 0) for it in row.words[1:6]]
     check = items_check(row, [it for it in row.answer if it], (0, 16)) if numbers[2] in (1, 2, 4, 8) else None
-    yield list_case(row, locations, numbers[:3], numbers[3], 0, 0, dwo, 12, numbers[4], check)
+    yield from list_cases_of(row, locations, numbers[:3], numbers[3], 0, 0, dwo, 12, numbers[4], check)
 
 
 def offset_cases(row):
@@ -595,7 +533,8 @@ def offset_cases(row):
         status = answer.of("list")[0][1]
         return unlike(REFUSED + int(refused[1]), status)
     known = refused and version == 5 and size in (1, 2, 4, 8)
-    yield list_case(row, locations, [format, version, size], 0, 0, base, False, 21 if locations else 26, index, check if known else None)
+    yield from list_cases_of(row, locations, [format, version, size], 0, 0, base, False, 21 if locations else 26, index,
+                             check if known else None)
 
 
 def held_by(lines):
@@ -635,12 +574,11 @@ def walk_cases(row):
 
 
 def file_cases(row):
-    folder = ROOT / "crates/gimli_vectors/data"
-    info, abbrev = ((folder / f"{row.words[2]}.{end}").read_bytes() for end in ("info", "abbrev"))
+    info, abbrev = ((DATA / f"{row.words[2]}.{end}").read_bytes() for end in ("info", "abbrev"))
     if row.words[1] == "check":
         check = check_check(row)
     else:
-        lines = (folder / f"{row.words[2]}.{row.words[1]}").read_text().split("\n")[:-1]
+        lines = (DATA / f"{row.words[2]}.{row.words[1]}").read_text().split("\n")[:-1]
         told = Row(row.where, row.calls, row.big, row.words, [], lines + ["status 0"])
         check = (rows_check if row.words[1] == "rows" else dump_check)(told)
     yield walk(row, info, abbrev), check
@@ -650,6 +588,11 @@ def section_cases(row):
     """A section that is one of units, of abbreviations or of sets of ranges."""
     yield walk(row, row.section(0), row.section(0)), None
     yield find_case(row, 0, None)[0], None
+
+
+def dwarf_cases(row):
+    yield walk(row, row.section(0), row.section(1)), None
+    yield dwarf_rows.case_of(row)
 
 
 def cases_of(row):
@@ -666,14 +609,19 @@ def cases_of(row):
              | {"words": words_cases, "file": file_cases, "units": section_cases, "type_units": section_cases},
              "memory": dict.fromkeys(("cursor", "plain", "raw", "run_tree", "entry", "check", "run_cursor", "tree", "walker",
                                       "run_plain", "nodes", "clone", "units", "type_units", "clone_tree", "text"), walk_cases),
-             # (the library for C has no call for bases yet: their sections are walked)
-             "dwarf": dict.fromkeys(("bases", "values", "lists"), walk_cases) | {"holding": section_cases}}
+             "dwarf": dict.fromkeys(("bases", "values", "lists", "holding", "holds"), dwarf_cases)}
     case = calls[row.calls].get(row.call)
     return case(row) if case and (row.sections or row.call == "file") else ()
 
 
 def all_cases():
-    for path in sorted(ROOT.glob("crates/gimli_vectors/data/*.txt")):
+    for where, case, check in table_cases():
+        yield where, case, with_values(case, check)
+    yield from dwarf_rows.made_cases()
+
+
+def table_cases():
+    for path in sorted(DATA.glob("*.txt")):
         for row in rows_of(path):
             if row.calls == "memory":
                 row.answer = [""]

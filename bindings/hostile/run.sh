@@ -8,5 +8,5 @@ built=$here/../target
 mkdir -p "$built/checked"
 cc -std=gnu11 -g -O1 -fsanitize=address,undefined -fno-sanitize-recover=undefined -Wall -Wextra -I"$here/../include" \
     -o "$built/checked/hostile" "$here/hostile.c" "$built/libgimli.a"
-export ASAN_OPTIONS=detect_leaks=${LEAKS:-1}:exitcode=99 UBSAN_OPTIONS=exitcode=99
+export ASAN_OPTIONS=detect_leaks=${LEAKS:-1}:exitcode=99 UBSAN_OPTIONS=exitcode=99 PYTHONDONTWRITEBYTECODE=1
 python3 "$here/cases.py" "$@" "$built/checked/hostile"

@@ -11,9 +11,9 @@
 
    What a caller owes:
    - Pointers are valid for the lengths beside them, and lengths are at most 2^63 - 1. A section, a
-     buffer and an array of a table may be null, which is one of no bytes and of no room: the end of this header
-     sees to that. Who calls the library without it hands over an address that is not null, also
-     where the length is 0. No other pointer is null, and each is aligned as its type is.
+     buffer and an array of a table may be null, which is one of no bytes and of no room: the end of
+     this header sees to that. Who calls the library without it hands over an address that is not
+     null, also where the length is 0. No other pointer is null, and each is aligned as its type is.
    - What is written to overlaps nothing that the same call reads or writes, and no byte that a
      call reads changes before it answers.
    - The program has 64 bits, its processor has what x86-64-v2 asks for, and its malloc, realloc
@@ -22,10 +22,11 @@
    - No call is made from a signal handler, or in the forked child of a process with threads.
    Buffers need not be set before a call; sections are, each field.
 
-   Memory is asked for by gimli_rows, gimli_entries, gimli_entries_by, gimli_sibling and
-   gimli_first_false, and given back before they answer. Each call of these but gimli_entries_by
-   reads the whole table of the unit's abbreviations; who reads few rows at a time reads the table
-   once, by gimli_table, and then calls gimli_rows_by (which asks for no memory) or gimli_entries_by.
+   Memory is asked for by gimli_rows, gimli_entries, gimli_entries_by, gimli_sibling,
+   gimli_first_false, gimli_unit_bases and gimli_unit_holds, and given back before they answer. Each
+   call of these but gimli_entries_by reads the whole table of the unit's abbreviations; who reads
+   few rows at a time reads the table once, by gimli_table, and then calls gimli_rows_by (which asks
+   for no memory) or gimli_entries_by.
    A declaration takes 256 bytes in memory, and up to some 600 with what is kept free beside it,
    where in the section it may have 5 to 7: of a hostile .debug_abbrev a table takes 40 to 100
    times the size, and more for a moment while a list of them is moved. Memory that is refused is
@@ -52,6 +53,10 @@ enum {
     GIMLI_TOO_DEEP = 2,      /* the depth of the place is so great that depths after it may be out of range */
     GIMLI_NO_LIST = 3,       /* the attribute's value names no list */
     GIMLI_UNORDERED = 4,     /* the codes of a table of abbreviations are not 1, 2, .. in this order */
+    GIMLI_NO_BASE = 5,       /* the value counts from a base that the unit does not have */
+    GIMLI_BAD_BASE = 6,      /* the attribute of a base is there, but its value is none that a base can have */
+    GIMLI_NO_STRING = 7,     /* the attribute's value is no text */
+    GIMLI_NO_ADDRESS = 8,    /* the attribute's value is no address */
     GIMLI_REFUSED = 256,     /* and a number of gimli_error: what the call begins with was refused, or a table */
     GIMLI_ROW_REFUSED = 512  /* and a number of gimli_error: what stands after all that was written was refused */
 };
@@ -106,11 +111,29 @@ static inline const char *gimli_text(uint32_t status) {
     case GIMLI_TOO_DEEP: return "The depth of the place is too great.";
     case GIMLI_NO_LIST: return "The value names no list.";
     case GIMLI_UNORDERED: return "The codes of the abbreviations are not 1, 2, .. in this order.";
+    case GIMLI_NO_BASE: return "The value counts from a base that the unit does not have.";
+    case GIMLI_BAD_BASE: return "The attribute of a base has a value that no base can have.";
+    case GIMLI_NO_STRING: return "The value is no text.";
+    case GIMLI_NO_ADDRESS: return "The value is no address.";
     }
     if (status >= GIMLI_REFUSED && status <= GIMLI_ROW_REFUSED + 255 && number >= 1 && number <= GIMLI_OUT_OF_MEMORY)
         return refusals[number - 1];
     return "The status is unknown.";
 }
+
+/* Where what was refused lies, to be named beside gimli_text:
+   gimli_unit, gimli_unit_bases    `units`, at the offset of the unit; of a table `abbrev`, at the unit's `abbreviations`
+   gimli_table                     `abbrev`, at the offset
+   gimli_rows and the like         ROW_REFUSED: `units`, at the unit's offset + place->offset, where the place is left;
+                                   REFUSED: as of gimli_unit, or the place's own offset
+   gimli_sibling                   ROW_REFUSED: `units`, in the unit, at the place or after it
+   gimli_unit_of_address           `aranges`, after the sets that were read
+   gimli_unit_holding              `units`, before the offset
+   gimli_unit_holds                `aranges`, after the sets that were read; or as of gimli_unit_bases and gimli_ranges
+   gimli_attr_string               the section of the text, at the attribute's `number`; of an index `str_offsets`
+   gimli_attr_address              `addresses`, at the index
+   gimli_ranges, gimli_locations   the section of lists of the unit's version, at the attribute's `number` (of an index in
+                                   its table), or `addresses`, where the list names an address by its index */
 
 /* Bytes of a section. */
 typedef struct {
@@ -121,17 +144,27 @@ typedef struct {
 /* The sections. All fields are set in every call: begin with gimli_no_sections(). A call reads the
    bytes of those alone that it names, so the others may be empty. */
 typedef struct {
-    gimli_bytes_t units;     /* .debug_info, or .debug_types, as `types` says */
-    gimli_bytes_t abbrev;    /* .debug_abbrev */
-    gimli_bytes_t addresses; /* .debug_addr */
-    gimli_bytes_t aranges;   /* .debug_aranges */
-    gimli_bytes_t ranges;    /* .debug_ranges */
-    gimli_bytes_t rnglists;  /* .debug_rnglists */
-    gimli_bytes_t loc;       /* .debug_loc */
-    gimli_bytes_t loclists;  /* .debug_loclists */
-    uint8_t big;             /* 0: little endian; else big endian */
-    uint8_t types;           /* 0: `units` are .debug_info; else .debug_types */
+    gimli_bytes_t units;       /* .debug_info, or .debug_types, as `types` says */
+    gimli_bytes_t abbrev;      /* .debug_abbrev */
+    gimli_bytes_t addresses;   /* .debug_addr, that of the program also for the units of a split file */
+    gimli_bytes_t aranges;     /* .debug_aranges */
+    gimli_bytes_t ranges;      /* .debug_ranges, as .debug_addr */
+    gimli_bytes_t rnglists;    /* .debug_rnglists */
+    gimli_bytes_t loc;         /* .debug_loc */
+    gimli_bytes_t loclists;    /* .debug_loclists */
+    gimli_bytes_t str;         /* .debug_str */
+    gimli_bytes_t line_str;    /* .debug_line_str */
+    gimli_bytes_t str_offsets; /* .debug_str_offsets */
+    gimli_bytes_t sup_str;     /* .debug_str of the supplementary file, as dwz makes one */
+    uint8_t big;               /* 0: little endian; else big endian */
+    uint8_t types;             /* 0: `units` are .debug_info; else .debug_types */
 } gimli_sections_t;
+
+/* The numbers of the sections: that of gimli_string_t is one of these. */
+enum gimli_section {
+    GIMLI_UNITS, GIMLI_ABBREV, GIMLI_ADDRESSES, GIMLI_ARANGES, GIMLI_RANGES, GIMLI_RNGLISTS, GIMLI_LOC, GIMLI_LOCLISTS,
+    GIMLI_STR, GIMLI_LINE_STR, GIMLI_STR_OFFSETS, GIMLI_SUP_STR
+};
 
 /* The header of a unit. */
 typedef struct {
@@ -139,7 +172,8 @@ typedef struct {
     uint64_t length;        /* the number of its bytes: the next unit begins at offset + length */
     uint64_t header_size;   /* the offset of the first entry in the unit */
     uint64_t abbreviations; /* where its abbreviations are in .debug_abbrev */
-    uint64_t id;            /* the signature of a type unit, the id of a skeleton or split unit, or 0 */
+    uint64_t id;            /* the signature of a type unit, the id of a skeleton or split unit, or 0: before
+                               version 5 such an id is the DW_AT_GNU_dwo_id of the root */
     uint64_t type_offset;   /* where a type unit's type stands in the unit, or 0 */
     uint16_t version;
     uint8_t kind;           /* DW_UT_compile (1) to DW_UT_split_type (6), or a vendor's from 128 on */
@@ -188,7 +222,7 @@ enum {
     GIMLI_BLOCK,                  /* where the bytes lie in `units` */
     GIMLI_DATA1,                  /* 1 byte, zero-extended: the attribute's name says if it has a sign */
     GIMLI_DATA2,                  /* 2 bytes, zero-extended */
-    GIMLI_DATA4,                  /* 4 bytes, zero-extended */
+    GIMLI_DATA4,                  /* 4 bytes, zero-extended; in versions 2 and 3 an offset by name is GIMLI_SEC_OFFSET */
     GIMLI_DATA8,                  /* 8 bytes */
     GIMLI_DATA16,                 /* the low 8 of 16 bytes */
     GIMLI_SDATA,                  /* a number with a sign */
@@ -264,18 +298,30 @@ typedef struct {
     size_t specifications;
 } gimli_counted_t;
 
-/* What the lists of a unit are resolved against: all but `dwo` are values of attributes of its root.
-   Of a split unit `address`, `addresses` and the section of addresses are the skeleton's. In GNU's
-   split units of version 4 DW_AT_ranges counts from the skeleton's DW_AT_GNU_ranges_base on, which
-   the caller adds to the `number` of the attribute. */
+/* What the values of a unit count from, as gimli_unit_bases fills it. Where a `no_..` is not 0, the
+   number of that name is none, as of what no attribute gives. From version 5 on neither is one that lies
+   in the first header of its section: below 8 in .debug_addr and .debug_str_offsets and below 12 in
+   .debug_rnglists and .debug_loclists (16 and 20 where offset_size is 8). So a unit of version 5 whose
+   only base of addresses is GNU's (DW_AT_GNU_addr_base), below 8, is taken to have none. What counts
+   from one that is none is refused: so all zeros are the bases of a unit of version 4 or less whose root
+   has no DW_AT_low_pc, and no index of version 5 counts from them. */
 typedef struct {
-    uint64_t address;   /* DW_AT_low_pc, or 0: the address itself, also where the attribute is an index (GIMLI_ADDR_INDEX, as
-                           clang writes it in version 5) and `number` is none */
-    uint64_t addresses; /* DW_AT_addr_base */
-    uint64_t rnglists;  /* DW_AT_rnglists_base; a split unit may have none: then 12 (20 where offset_size is 8), not 0 */
-    uint64_t loclists;  /* DW_AT_loclists_base; where a split unit has none the same */
-    uint8_t dwo;        /* not 0: location lists of a split file */
+    uint64_t address;     /* DW_AT_low_pc, the address itself: from it lists count up to an entry that gives another */
+    uint64_t addresses;   /* DW_AT_addr_base */
+    uint64_t rnglists;    /* DW_AT_rnglists_base */
+    uint64_t loclists;    /* DW_AT_loclists_base */
+    uint64_t str_offsets; /* DW_AT_str_offsets_base */
+    uint64_t gnu_ranges;  /* of a split unit of version 4: its skeleton's DW_AT_GNU_ranges_base, from which DW_AT_ranges counts */
+    uint8_t dwo;          /* not 0: the unit is of a split file */
+    uint8_t no_address, no_addresses, no_rnglists, no_loclists, no_str_offsets, no_gnu_ranges;
 } gimli_bases_t;
+
+/* Where the bytes of a text lie. */
+typedef struct {
+    uint64_t place;
+    uint64_t length;  /* without the zero that ends them */
+    uint32_t section; /* GIMLI_UNITS, GIMLI_STR, GIMLI_LINE_STR or GIMLI_SUP_STR */
+} gimli_string_t;
 
 /* A range of addresses. */
 typedef struct {
@@ -308,14 +354,36 @@ static inline gimli_sections_t gimli_no_sections(void) {
     gimli_sections_t sections;
     sections.units = sections.abbrev = sections.addresses = sections.aranges = gimli_bytes(NULL, 0);
     sections.ranges = sections.rnglists = sections.loc = sections.loclists = gimli_bytes(NULL, 0);
+    sections.str = sections.line_str = sections.str_offsets = sections.sup_str = gimli_bytes(NULL, 0);
     sections.big = sections.types = 0;
     return sections;
 }
 
 /* The header of the unit at an offset of `units`.
-   MORE: `unit` is it. Else `unit` is as it was. END: the offset is the section's length. REFUSED:
-   it was refused. */
+   MORE: `unit` is it. Else `unit` is as it was. END: the offset is the section's length, as 0 is of no
+   bytes. REFUSED: it was refused. The units of .debug_types are read by sections of their own, whose
+   `types` is not 0. */
 uint32_t gimli_unit(const gimli_sections_t *sections, uint64_t offset, gimli_unit_t *unit);
+
+/* The unit of `units` that holds an offset, its header included, as that of DW_FORM_ref_addr
+   (GIMLI_INFO_REF). `units` is read, as .debug_info whatever `types` says.
+   MORE: `unit` is it. Else `unit` is as it was. END: the offset lies after the last unit. REFUSED: of
+   the header of a unit, and no unit before it holds the offset. */
+uint32_t gimli_unit_holding(const gimli_sections_t *sections, uint64_t offset, gimli_unit_t *unit);
+
+/* What the values of the unit at an offset of `units` count from, as its root says, in whatever order
+   its attributes stand. It is called as gimli_unit_bases(sections, unit, dwo, skeleton, bases); who calls
+   the library without this header says by `skeletons`, 1 or 0, whether there is a skeleton. `dwo` is not
+   0 where the unit is of a split file; `skeleton` are then the bases of its skeleton unit in the program,
+   or null where it is not at hand: from it are `address`, `addresses` and `gnu_ranges`. `units` and
+   `abbrev` are read, and `addresses` where DW_AT_low_pc is an index.
+   MORE: `bases` are they. Else `bases` are as they were. NO_BASE: DW_AT_low_pc is an index, and there
+   is no table of addresses. BAD_BASE: the attribute of a base is there, but its value is no offset or no
+   address, or lies in the first header of its section. REFUSED: of the unit, of its abbreviations, of its
+   root, of the index or, where reading the abbreviations or the root takes memory, of memory. At the
+   section's length, where gimli_unit answers END, it is REFUSED (GIMLI_UNEXPECTED_EOF). */
+uint32_t gimli_unit_bases(const gimli_sections_t *sections, uint64_t unit, uint8_t dwo, const gimli_bases_t *skeleton,
+                          size_t skeletons, gimli_bases_t *bases);
 
 /* Rows of the unit at an offset of `units`, from a place on: `count` of them from the front of
    all that are left. The place is left after them, and `rows` is as it was after them. `units`
@@ -389,23 +457,78 @@ uint32_t gimli_first_false(const gimli_sections_t *sections, uint64_t unit, uint
    set, and no set before it has one. */
 uint32_t gimli_unit_of_address(const gimli_sections_t *sections, uint64_t address, uint64_t *offset);
 
+/* Whether the unit at an offset of `units`, whose bases these are, holds an address. Where sets of
+   `aranges` are the unit's, their ranges say so: that section need not have each unit. Any other unit
+   holds the addresses of its root: those of the list of DW_AT_ranges, or else those from DW_AT_low_pc up to
+   DW_AT_high_pc. `units` are read as .debug_info whatever `types` says; and `abbrev`, `addresses`, `aranges`,
+   `ranges` and `rnglists`.
+   MORE: it does. END: it does not. NO_BASE: an address of the root, or its list, counts from a base that the
+   unit does not have. REFUSED: of the unit or of its abbreviations; of the header of a set, where no set of the
+   unit before it holds the address; or, of a unit without sets, of its root, of the list, or of a range, where
+   none before it holds the address; or of memory. Of a unit that has sets `bases` are not used: where
+   gimli_unit_bases was refused, bases whose `no_..` are all set tell whether it has. Each call reads the
+   unit's table and all sets. */
+uint32_t gimli_unit_holds(const gimli_sections_t *sections, uint64_t unit, const gimli_bases_t *bases, uint64_t address);
+
+/* The text that an attribute's value is (GIMLI_STRING, GIMLI_STR_REF, GIMLI_LINE_STR_REF,
+   GIMLI_STR_REF_SUP, GIMLI_STR_OFFSETS_INDEX), as gimli_entries writes it for a row of `unit`. Of an index
+   `str_offsets` is read, from `bases` on; and the section of the text.
+   MORE: `string` says where it lies. Else `string` is as it was. NO_STRING: the value is no text.
+   NO_BASE: it is an index, and the unit has no table of them. REFUSED: of the index, of the offset or
+   of the text, which no zero ends. */
+uint32_t gimli_attr_string(const gimli_sections_t *sections, const gimli_unit_t *unit, const gimli_attr_t *attribute,
+                           const gimli_bases_t *bases, gimli_string_t *string);
+
+/* The address that an attribute's value is (GIMLI_ADDR, GIMLI_ADDR_INDEX). Of an index `addresses` is
+   read, from `bases` on.
+   MORE: at `address`. Else `address` is as it was. NO_ADDRESS: the value is no address, as of
+   GIMLI_ADDR_INDEX_OFFSET. NO_BASE: it is an index, and the unit has no table of addresses. REFUSED:
+   of the index, or of the size of addresses. */
+uint32_t gimli_attr_address(const gimli_sections_t *sections, const gimli_unit_t *unit, const gimli_attr_t *attribute,
+                            const gimli_bases_t *bases, uint64_t *address);
+
+/* Whether an attribute's value names a location list: by its kind, and of an offset by the attribute's
+   name (DWARF 5, 7.5.5). Of the same names a value may be an expression, or an address of the entry. */
+static inline int gimli_is_location_list(const gimli_attr_t *attribute) {
+    if (attribute->kind != GIMLI_SEC_OFFSET) return attribute->kind == GIMLI_LOC_LISTS_INDEX;
+    switch (attribute->name) {
+    case 0x02: case 0x19: case 0x2a: case 0x38: /* location, string_length, return_addr, data_member_location */
+    case 0x40: case 0x46: case 0x48: case 0x4a: /* frame_base, segment, static_link, use_location */
+    case 0x4d:                                  /* vtable_elem_location */
+        return 1;
+    }
+    return 0;
+}
+
 /* The ranges of the list that an attribute's value names (GIMLI_SEC_OFFSET,
    GIMLI_RNG_LISTS_INDEX), as gimli_entries writes it for DW_AT_ranges of a row of `unit`: `count`
-   are all before the first that is refused, of which as many are written as there is room for.
+   are all before the first that is refused, and may be more than `room`; as many of them are written
+   as there is room for. The name of the attribute is not looked at.
    `ranges` or `rnglists` is read, and `addresses`. Left out are ranges that do not begin below their
    end, and those whose beginning or base is one of the two highest addresses of the unit's size,
    which stand for none: a list whose ranges are all empty answers as an empty list does. What
    stands after a refused one can't be had.
    MORE: there are more than there is room for. END: all were written. ROW_REFUSED: all were
-   written, and what stands after them was refused. NO_LIST, or REFUSED of the size of addresses,
-   of the index or of the offset: none. */
+   written, and what stands after them was refused, as an address at an index is where the unit has
+   no table of addresses. NO_LIST, NO_BASE where an index or the list counts from a base that is none,
+   or REFUSED of the size of addresses, of the index or of the offset: none. */
 uint32_t gimli_ranges(const gimli_sections_t *sections, const gimli_unit_t *unit, const gimli_attr_t *attribute,
                       const gimli_bases_t *bases, gimli_range_t *into, size_t room, size_t *count);
 
-/* The same of locations (GIMLI_SEC_OFFSET, GIMLI_LOC_LISTS_INDEX). `loc` or `loclists` is read,
-   and `addresses`. */
+/* The same of locations (GIMLI_SEC_OFFSET, GIMLI_LOC_LISTS_INDEX), of an attribute of which
+   gimli_is_location_list says so. `loc` or `loclists` is read, and `addresses`. The default location of a
+   list has the range from 0 to 2^64 - 1. */
 uint32_t gimli_locations(const gimli_sections_t *sections, const gimli_unit_t *unit, const gimli_attr_t *attribute,
                          const gimli_bases_t *bases, gimli_location_t *into, size_t room, size_t *count);
+
+/* The bytes of a text that gimli_attr_string found in these sections; no zero need end them. */
+static inline const char *gimli_string_bytes(const gimli_sections_t *sections, const gimli_string_t *string) {
+    const gimli_bytes_t *section = string->section == GIMLI_STR        ? &sections->str
+                                   : string->section == GIMLI_LINE_STR ? &sections->line_str
+                                   : string->section == GIMLI_SUP_STR  ? &sections->sup_str
+                                                                       : &sections->units;
+    return (const char *)section->bytes + string->place;
+}
 
 /* What makes null stand for no bytes and for no room: each call is made by the function below
    that has its name. */
@@ -417,12 +540,45 @@ static inline gimli_sections_t gimli_given(const gimli_sections_t *sections) {
     given.addresses = gimli_held(given.addresses), given.aranges = gimli_held(given.aranges);
     given.ranges = gimli_held(given.ranges), given.rnglists = gimli_held(given.rnglists);
     given.loc = gimli_held(given.loc), given.loclists = gimli_held(given.loclists);
+    given.str = gimli_held(given.str), given.line_str = gimli_held(given.line_str);
+    given.str_offsets = gimli_held(given.str_offsets), given.sup_str = gimli_held(given.sup_str);
     return given;
 }
 
 static inline uint32_t gimli_unit_given(const gimli_sections_t *sections, uint64_t offset, gimli_unit_t *unit) {
     gimli_sections_t given = gimli_given(sections);
     return gimli_unit(&given, offset, unit);
+}
+
+static inline uint32_t gimli_unit_holding_given(const gimli_sections_t *sections, uint64_t offset, gimli_unit_t *unit) {
+    gimli_sections_t given = gimli_given(sections);
+    return gimli_unit_holding(&given, offset, unit);
+}
+
+/* (a skeleton is one, or none where it is null) */
+static inline uint32_t gimli_unit_bases_given(const gimli_sections_t *sections, uint64_t unit, uint8_t dwo,
+                                              const gimli_bases_t *skeleton, gimli_bases_t *bases) {
+    gimli_sections_t given = gimli_given(sections);
+    return gimli_unit_bases(&given, unit, dwo, skeleton ? skeleton : GIMLI_NONE(const gimli_bases_t), skeleton != NULL, bases);
+}
+
+static inline uint32_t gimli_unit_holds_given(const gimli_sections_t *sections, uint64_t unit, const gimli_bases_t *bases,
+                                              uint64_t address) {
+    gimli_sections_t given = gimli_given(sections);
+    return gimli_unit_holds(&given, unit, bases, address);
+}
+
+static inline uint32_t gimli_attr_string_given(const gimli_sections_t *sections, const gimli_unit_t *unit,
+                                               const gimli_attr_t *attribute, const gimli_bases_t *bases,
+                                               gimli_string_t *string) {
+    gimli_sections_t given = gimli_given(sections);
+    return gimli_attr_string(&given, unit, attribute, bases, string);
+}
+
+static inline uint32_t gimli_attr_address_given(const gimli_sections_t *sections, const gimli_unit_t *unit,
+                                                const gimli_attr_t *attribute, const gimli_bases_t *bases, uint64_t *address) {
+    gimli_sections_t given = gimli_given(sections);
+    return gimli_attr_address(&given, unit, attribute, bases, address);
 }
 
 static inline uint32_t gimli_rows_given(const gimli_sections_t *sections, uint64_t unit, gimli_place_t *place, gimli_row_t *rows,
@@ -501,6 +657,11 @@ static inline uint32_t gimli_locations_given(const gimli_sections_t *sections, c
 }
 
 #define gimli_unit gimli_unit_given
+#define gimli_unit_holding gimli_unit_holding_given
+#define gimli_unit_bases gimli_unit_bases_given
+#define gimli_unit_holds gimli_unit_holds_given
+#define gimli_attr_string gimli_attr_string_given
+#define gimli_attr_address gimli_attr_address_given
 #define gimli_rows gimli_rows_given
 #define gimli_entries gimli_entries_given
 #define gimli_table gimli_table_given
@@ -513,13 +674,13 @@ static inline uint32_t gimli_locations_given(const gimli_sections_t *sections, c
 #define gimli_locations gimli_locations_given
 
 /* The sizes that the library takes these types to have. */
-typedef char gimli_sizes_t[sizeof(size_t) == 8 && sizeof(gimli_bytes_t) == 16 && sizeof(gimli_sections_t) == 136
+typedef char gimli_sizes_t[sizeof(size_t) == 8 && sizeof(gimli_bytes_t) == 16 && sizeof(gimli_sections_t) == 200
                            && sizeof(gimli_unit_t) == 56 && sizeof(gimli_place_t) == 16 && sizeof(gimli_row_t) == 24
                            && sizeof(gimli_entry_t) == 40 && sizeof(gimli_attr_t) == 24 && sizeof(gimli_filled_t) == 24
                            && sizeof(gimli_declaration_t) == 32 && sizeof(gimli_specification_t) == 24
                            && sizeof(gimli_table_t) == 32 && sizeof(gimli_counted_t) == 16
-                           && sizeof(gimli_bases_t) == 40 && sizeof(gimli_range_t) == 16 && sizeof(gimli_location_t) == 32
-                           ? 1 : -1];
+                           && sizeof(gimli_bases_t) == 56 && sizeof(gimli_string_t) == 24
+                           && sizeof(gimli_range_t) == 16 && sizeof(gimli_location_t) == 32 ? 1 : -1];
 
 #ifdef __cplusplus
 }

@@ -1,7 +1,7 @@
 #!/usr/bin/env python3
 """test_gimli.py LIBRARY ATTRS DATA: tries each call of the module over libgimli.so, on the real files of a folder and on
 some bytes in both byte orders. ATTRS is the program of c/attrs.c, whose attributes are compared. With `python3 -W error` no
-call warns.
+call warns. test_units.py tries units, and test_values.py the values of attributes.
 """
 import ctypes
 import os
@@ -14,26 +14,15 @@ from unittest.mock import Mock, patch
 
 import gimli
 import gimli_constants
-from gimli import Attr, Bases, Declaration, Dwarf, Place, Refused, Specification, Table, Unit
+import test_units
+import test_values
+from gimli import Attr, Bases, Declaration, Dwarf, Place, Refused, Specification, Table, UnitHeader
+from test_helpers import fails, numbers, refusal, same, unit_of, with_and_without_numpy
 
 ROOMS = [(0, 0), (1, 1), (3, 5), (64, 8192)]
 SIBLING = bytes.fromhex("01 2e 01 01 11 00 00  02 34 00 00 00  00")
 LISTS = bytes.fromhex("01 11 00 55 17 02 17 00 00  00")
 TYPE = bytes.fromhex("01 41 00 13 05 00 00  00")
-
-
-def same(what, found, wanted):
-    if found != wanted:
-        sys.exit(f"{what}: {found} beside {wanted}")
-
-
-def refusal(call, *arguments):
-    """How a call is refused."""
-    try:
-        call(*arguments)
-    except Refused as refused:
-        return refused
-    sys.exit(f"{call} is not refused")
 
 
 class Counting(Dwarf):
@@ -97,14 +86,6 @@ def pairs_of(rows, attrs):
     attrs = fields(attrs)
     return [((offset, depth, tag, flag, *unit), attrs[first:first + count])
             for offset, depth, first, count, tag, flag, *unit in fields(rows)]
-
-
-def with_and_without_numpy():
-    """Each way in which arrays are given here."""
-    yield ""
-    if gimli.numpy_if_there():
-        with patch("gimli.numpy_if_there", return_value=None):
-            yield ", of ctypes"
 
 
 def same_attributes(name, dwarf):
@@ -177,16 +158,6 @@ def real_files(library, attrs, data):
 
 # Bytes in both byte orders
 
-def numbers(big, *pairs):
-    """Numbers, each with how many bytes it has."""
-    return b"".join(number.to_bytes(size, "big" if big else "little") for number, size in pairs)
-
-
-def unit_of(big, entries, abbreviations_at=0):
-    """A unit of version 4 with addresses of 8 bytes."""
-    return numbers(big, (7 + len(entries), 4), (4, 2), (abbreviations_at, 4), (8, 1)) + entries
-
-
 def siblings(library, big):
     """A reference to the right sibling, and to one byte too far."""
     for target, false in ((0x0f, None), (0x10, 0x0b)):
@@ -239,15 +210,18 @@ def lists_of_five(library):
     """The same of version 5, by an index of addresses too."""
     info = bytes.fromhex("11000000 0500 01 08 00000000  01 00000000 00000000")
     rnglists, loclists = bytes.fromhex("04 10 20 03 01 08 00"), bytes.fromhex("04 01 02 01 9c 00")
-    addresses = numbers(False, (0x5000, 8), (0x6000, 8))
+    addresses = bytes(8) + numbers(False, (0x5000, 8), (0x6000, 8))
     dwarf = Dwarf(library, info, LISTS, debug_addr=addresses, debug_rnglists=rnglists, debug_loclists=loclists)
-    unit = dwarf.unit(0)
-    ((_, attrs),) = dwarf.raw_entries(unit)
-    same("ranges", dwarf.ranges(unit, attrs[0], Bases(0x1000)), [(0x1010, 0x1020), (0x6000, 0x6008)])
-    same("locations", dwarf.locations(unit, attrs[1], Bases(0x1000)), [(0x1001, 0x1002, b"\x9c")])
-    dwarf.sections.addresses.length = 8
-    same("a range before an address that is not there", refusal(dwarf.ranges, unit, attrs[0], Bases(0x1000)).found,
+    header, bases = dwarf.header(0), Bases(0x1000, 8)
+    ((_, attrs),) = dwarf.raw_entries(header)
+    same("ranges", dwarf.ranges(header, attrs[0], bases), [(0x1010, 0x1020), (0x6000, 0x6008)])
+    same("locations", dwarf.locations(header, attrs[1], bases), [(0x1001, 0x1002, b"\x9c")])
+    dwarf.sections.addresses.length = 16
+    same("a range before an address that is not there", refusal(dwarf.ranges, header, attrs[0], bases).found,
          [(0x1010, 0x1020)])
+    # (bases are never left out by mistake)
+    for call in dwarf.ranges, dwarf.locations:
+        fails(TypeError, "of a UnitHeader the bases are handed over", call, header, attrs[0])
 
 
 def lists_of_empty_ranges(library):
@@ -282,7 +256,7 @@ def tables(library):
     same("declarations", told, [(1, 0x2e, 1, [(1, 0x11)]), (2, 0x34, 0, [])])
     rows = [(0x0b, 0, 0x2e, 1), (0x0d, 1, 0x34, 0), (0x0e, 1, 0, 0), (0x0f, 0, 0x34, 0), (0x10, 0, 0x34, 0), (0x11, 0, 0, 0)]
     same("rows by it", list(dwarf.rows(unit, 2, table)), rows)
-    # data2, an address, a text, a flag without bytes, an offset of ref_addr, one of strp, and ref8: the text ends what is before it
+    # data2, an address, a text, a flag without bytes, an offset of ref_addr, one of strp, ref8: the text ends what is before it
     steps = Dwarf(library, info, bytes.fromhex("01 2e 00 3a05 1101 0308 3f19 3110 6e0e 4914 0000  00")).table(unit)
     told = [(a.step.values, a.step.bytes, a.step.addresses, a.step.offsets, a.step.ref_addrs, a.step.has_ref8)
             for a in steps.specifications[:7]]
@@ -310,7 +284,7 @@ def tables_read_once(library):
     """Without a table rows and entries go by one from their second call on, if the first gave few; they stay the same."""
     other = bytes.fromhex("01 05 00 0000  00")
     dwarf = Counting(library, unit_of(False, bytes([1, 0x0f, 2, 0, 2, 2, 0]), len(other)), other + SIBLING)
-    unit, made = dwarf.unit(0), Unit(header_size=0x0b)
+    unit, made = dwarf.unit(0), UnitHeader(header_size=0x0b)
     rows = list(dwarf.rows(unit))
     same("the first row", rows[0], (0x0b, 0, 0x2e, 1))
     for room in (1, 3):
@@ -364,15 +338,15 @@ def refused_attributes(library):
     for _ in with_and_without_numpy():
         dwarf = Dwarf(library, units[1], abbrev)
         refused = refusal(dwarf.attributes, dwarf.unit(0))
-        same("where it stands", (refused.name, refused.unit, refused.offset), ("InvalidAbbreviationCode", 0, 0x0e))
+        same("where it stands", (refused.name, refused.unit, refused.entry), ("InvalidAbbreviationCode", 0, 0x0e))
         same("what is before it", pairs_of(*refused.found), [row])
         refused = refusal(Dwarf(library, b"".join(units), abbrev).attributes)
-        same("where it stands", (refused.name, refused.unit, refused.offset), ("InvalidAbbreviationCode", 0x11, 0x0e))
+        same("where it stands", (refused.name, refused.unit, refused.entry), ("InvalidAbbreviationCode", 0x11, 0x0e))
         found = pairs_of(*refused.found)
         same("units before it", [row[4] for row, _ in found], [0, 0, 0x11])
         same("attributes before it", [attrs[0][0] for _, attrs in found], [0x0c, 0x0f, 0x1d])
         refused = refusal(Dwarf(library, units[0] + units[2], abbrev).attributes)
-        same("where it stands", (refused.name, refused.unit, refused.offset), ("UnexpectedEof", 0x11, None))
+        same("where it stands", (refused.name, refused.unit, refused.entry), ("UnexpectedEof", 0x11, None))
         same("units before it", [row[4] for row, _ in pairs_of(*refused.found)], [0, 0])
 
 
@@ -381,29 +355,31 @@ def refusals(library):
     info = unit_of(False, bytes([1, 0x0f, 2, 0])) + unit_of(False, bytes([1, 0x0f, 9]))
     dwarf = Dwarf(library, info, SIBLING)
     first, unit = dwarf.units()
-    entry = "the entry at 0xd of "
-    words = f"{entry}the unit at 0xf: The code of an abbreviation is not declared. (InvalidAbbreviationCode, error 13)"
+    words = "the entry at 0xd of the unit at 0xf: The code of an abbreviation is not declared. " \
+        "(InvalidAbbreviationCode, error 13; at 0x1c of .debug_info, which has 0x1d bytes)"
     for refused in (refusal(list, dwarf.rows(unit)), refusal(list, dwarf.entries(unit)), refusal(list, dwarf.rows(unit, 1))):
         same("its words", str(refused), words)
-        same("where it stands", (refused.unit, refused.offset), (0xf, 0xd))
-    for call, wrong in ((dwarf.unit, 2 ** 64), (dwarf.unit, -1), (dwarf.unit_of_address, 2 ** 64)):
-        try:
-            sys.exit(f"{wrong} is taken: {call(wrong)}")
-        except OverflowError:
-            pass
-    cut = "The input ends before what should stand there. (UnexpectedEof, error 1)"
-    same("its words", str(refusal(dwarf.unit, 1)), f"the unit at 0x1: {cut}")
-    same("its words", str(refusal(dwarf.ranges, unit, Attr(kind=3))), "the unit at 0xf: The value names no list. (NoList)")
-    same("its words", str(refusal(dwarf.sibling, unit, 0x0d)), words.replace(entry, ""))
+        same("where it stands", (refused.section, refused.offset, refused.unit, refused.entry), (".debug_info", 0x1c, 0xf, 0xd))
+    for call, wrong in ((dwarf.unit, 2 ** 64), (dwarf.unit, -1), (dwarf.unit_of_address, 2 ** 64), (dwarf.unit_holding, 2 ** 64),
+                        (dwarf.units_of_address, -1), (first.entry, 2 ** 64)):
+        fails(OverflowError, f"{wrong} is no number of 64 bits", call, wrong)
+    cut = "The input ends before what should stand there. (UnexpectedEof, error 1"
+    in_info = "of .debug_info, which has 0x1d bytes)"
+    same("its words", str(refusal(dwarf.unit, 1)), f"the unit at 0x1: {cut}; at 0x1 {in_info}")
+    same("its words", str(refusal(dwarf.ranges, unit, Attr(kind=3))),
+         f"the ranges of the unit at 0xf: The value names no list. (NoList; at 0xf {in_info}")
+    same("its words", str(refusal(dwarf.sibling, unit, 0x0d)),
+         words.replace("the entry at 0xd of ", "").replace("bytes)", "bytes; or after it)"))
     aranges = Dwarf(library, debug_aranges=b"\1")
-    same("its words", str(refusal(aranges.unit_of_address, 0)), cut)
+    same("its words", str(refusal(aranges.unit_of_address, 0)), f"{cut}; at 0x0 of .debug_aranges, which has 0x1 bytes)")
     without = Dwarf(library, info)
     for call in without.table, without.first_false, without.attributes, lambda unit: list(without.rows(unit)):
-        same("its words", str(refusal(call, unit)), f"the unit at 0xf: {cut}")
-    # the wrong byte order is no end
-    same("its words", str(refusal(list, Dwarf(library, info, SIBLING, big=True).units())), f"the unit at 0x0: {cut}")
+        same("its words", str(refusal(call, unit)), f"the unit at 0xf: {cut}; at 0x0 of .debug_abbrev, which has no bytes)")
+    beyond = "An offset is out of bounds. (OffsetOutOfBounds, error 11"
+    same("its words", str(refusal(list, dwarf.raw_entries(unit, place=Place(0x100, 0)))),
+         f"the unit at 0xf: {beyond}; at 0x10f {in_info}")
     same("its words", str(Refused(255)), "The status is unknown. (UnknownStatus)")
-    same("its words", str(Refused(gimli.ROW_REFUSED + 1, 4)), f"the entry at 0x4: {cut}")
+    same("its words", str(Refused(gimli.ROW_REFUSED + 1, entry=4)), f"the entry at 0x4: {cut})")
     same("its words", str(Refused(gimli.TOO_DEEP, unit=0)), "the unit at 0x0: The depth of the place is too great. (TooDeep)")
 
 
@@ -414,7 +390,9 @@ def texts(library, data):
     unit = dwarf.unit(0)
     table = dwarf.table(unit)
     _, attrs = next(dwarf.raw_entries(unit))
-    read = dwarf, unit, table, table.declarations[0], table.specifications[0], *attrs, dwarf.sections
+    refused = refusal(unit.text, Attr(0xffffffff, 0, 3, 0x1f, 32))
+    read = dwarf, unit, unit.header, unit.bases, unit.root, table, table.declarations[0], table.specifications[0], *attrs, \
+        dwarf.sections, refused
     made = [kind() for kind in gimli.Record.__subclasses__()]
     for text in {repr(it) for it in (*read, *made, Refused(gimli.REFUSED + 1))}:
         same(text, (len(text) <= 240, "\n" in text, " object at 0x" in text), (True, False, False))
@@ -422,18 +400,12 @@ def texts(library, data):
     same("an attribute", repr(attr), "Attr(number=18, more=0, name=DW_AT_name, form=DW_FORM_strp, kind=DebugStrRef)")
     same("an entry", repr(gimli.Entry(0x2d, 1, 4, 2, 0x2e, 1)),
          "Entry(offset=0x2d, depth=1, first=4, attributes=2, tag=DW_TAG_subprogram, has_children=1)")
-    dwarf = Dwarf(library, b"12", debug_loc=b"1", big=True)
-    same("sections", repr(dwarf), "Dwarf(debug_info: 2 bytes, debug_loc: 1 bytes, big endian)")
+    dwarf = Dwarf(library, b"12" * 9, debug_loc=b"1", big=True)
+    same("sections", repr(dwarf), "Dwarf(info: 0x12, loc: 0x1, big endian)")
+    names = "info abbrev addr aranges ranges rnglists loc loclists types str line_str str_offsets str_sup".split()
+    whole = Dwarf(library, **{f"debug_{name}": bytes(0x1234) for name in names})
+    same("the length of its line", (len(repr(whole)) <= 240, len(repr(whole.sections)) <= 240), (True, True))
     same("a table", repr(Table()), "Table(0 declarations, 0 specifications)")
-
-
-def fails(kind, text, call, *arguments, **named):
-    """A call that ends with an exception of this kind and with a text in it."""
-    try:
-        call(*arguments, **named)
-    except kind as why:
-        return same(f"'{why}' says '{text}'", text in str(why), True)
-    sys.exit(f"{call} is taken")
 
 
 def libraries(path):
@@ -451,7 +423,7 @@ def libraries(path):
     with patch.dict(os.environ), tempfile.TemporaryDirectory() as room:
         os.environ.pop("GIMLI_LIBRARY", None)
         here = Path(room, "python")
-        with patch("gimli.__file__", str(here / "gimli.py")):
+        with patch("gimli_library.__file__", str(here / "gimli_library.py")):
             looked = here / "libgimli.so", here.parent / "target/libgimli.so"
             fails(OSError, f"was looked for at {looked[0]} and {looked[1]}.", Dwarf)
             for place in reversed(looked):
@@ -489,6 +461,8 @@ def main(path, attrs, data):
         siblings(library, big)
         types(library, big)
         lists(library, big)
+    test_units.main(library, data)
+    test_values.main(library, data)
     lists_of_five(library)
     lists_of_empty_ranges(library)
     places(library)

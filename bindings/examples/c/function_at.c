@@ -2,36 +2,15 @@
    of a linked program: the one whose code is there, and not one that is inlined into it. The exit
    status is 1 where there is none, and 2 where something is refused. The sections are read by
    libelf: cc function_at.c $(pkg-config --cflags --libs ../../target/gimli.pc libelf). */
-#include "gimli.h"
-#include "gimli_constants.h"
+#include "elf_files.h"
 #include <errno.h>
-#include <fcntl.h>
-#include <gelf.h>
-#include <inttypes.h>
-#include <stdbool.h>
-#include <stdio.h>
-#include <stdlib.h>
-#include <string.h>
-#include <unistd.h>
 
-enum { ROOM = 4096, MOST_STEPS = 16 };
+enum { MOST_STEPS = 16 };
 
-static int descriptor = -1;
-static Elf *elf; /* over the descriptor; the sections are bytes of it */
-static gimli_sections_t sections;
-static gimli_bytes_t texts, line_texts, text_offsets; /* .debug_str, .debug_line_str, .debug_str_offsets */
-
-/* A unit, and the attributes of its root that others are read by. */
+/* A unit, and what its values count from. */
 struct unit {
     gimli_unit_t header;
     gimli_bases_t bases;
-    uint64_t text_offsets;
-};
-
-/* An entry's attributes, in one of the buffers below: right until that is filled again. */
-struct entry {
-    const gimli_attr_t *attrs;
-    size_t count;
 };
 
 static struct unit unit;
@@ -64,8 +43,7 @@ static void release(void) {
     free(attrs);
     free(single);
     free(ranges);
-    elf_end(elf);
-    if (descriptor >= 0) close(descriptor);
+    close_files();
 }
 
 /* A buffer with room for so many bytes, in place of another; ends the program where there is no
@@ -76,86 +54,24 @@ static void *grown(void *buffer, size_t bytes) {
     return more;
 }
 
-/* The section of a name in the file, decompressed; none where there is no such section. */
-static gimli_bytes_t section(const char *wanted) {
-    size_t names;
-    Elf_Scn *at = NULL;
-    GElf_Shdr header;
-    if (elf_getshdrstrndx(elf, &names)) return gimli_bytes(NULL, 0);
-    while ((at = elf_nextscn(elf, at))) {
-        const char *name;
-        if (!gelf_getshdr(at, &header) || !(name = elf_strptr(elf, names, header.sh_name)) || strcmp(name, wanted)) continue;
-        if (header.sh_type == SHT_NOBITS) break;
-        if ((header.sh_flags & SHF_COMPRESSED) && elf_compress(at, 0, 0) < 0) break;
-        Elf_Data *data = elf_rawdata(at, NULL);
-        return data ? gimli_bytes(data->d_buf, data->d_size) : gimli_bytes(NULL, 0);
-    }
-    return gimli_bytes(NULL, 0);
-}
-
 /* Reads the sections of a file, which stays open; false where it is no linked ELF file. */
 static bool read_sections(const char *file) {
     GElf_Ehdr header;
-    descriptor = open(file, O_RDONLY);
-    if (descriptor < 0 || elf_version(EV_CURRENT) == EV_NONE) return false;
-    elf = elf_begin(descriptor, ELF_C_READ, NULL);
-    if (!elf || elf_kind(elf) != ELF_K_ELF || !gelf_getehdr(elf, &header)) return false;
-    if (header.e_type != ET_EXEC && header.e_type != ET_DYN) return false;
-    if (header.e_shoff && !elf_getscn(elf, 1)) return false;
-    sections = gimli_no_sections();
-    sections.units = section(".debug_info");
-    sections.abbrev = section(".debug_abbrev");
-    sections.addresses = section(".debug_addr");
-    sections.aranges = section(".debug_aranges");
-    sections.ranges = section(".debug_ranges");
-    sections.rnglists = section(".debug_rnglists");
-    sections.big = header.e_ident[EI_DATA] == ELFDATA2MSB;
-    texts = section(".debug_str");
-    line_texts = section(".debug_line_str");
-    text_offsets = section(".debug_str_offsets");
-    return true;
-}
-
-/* The number of so many bytes at an index of a table in a section. */
-static bool number_at(gimli_bytes_t in, uint64_t table, uint64_t index, unsigned size, uint64_t *number) {
-    if (size == 0 || size > 8 || table > in.length || index >= (in.length - table) / size) return false;
-    const uint8_t *at = in.bytes + table + index * size;
-    *number = 0;
-    for (unsigned i = 0; i < size; i++) *number = *number << 8 | at[sections.big ? i : size - 1 - i];
-    return true;
-}
-
-static const gimli_attr_t *find(struct entry entry, unsigned name) {
-    for (size_t i = 0; i < entry.count; i++)
-        if (entry.attrs[i].name == name) return &entry.attrs[i];
-    return NULL;
-}
-
-/* The number of an attribute that is an offset; 0 where it is not there. */
-static uint64_t number_of(struct entry entry, unsigned name) {
-    const gimli_attr_t *attr = find(entry, name);
-    return attr ? attr->number : 0;
+    if (!open_elf(&files[0], file) || !gelf_getehdr(files[0].elf, &header)) return false;
+    sections = program_sections(&files[0]);
+    return header.e_type == ET_EXEC || header.e_type == ET_DYN;
 }
 
 /* The text of an attribute; a text of no bytes where it is none. */
 static gimli_bytes_t text_of(const gimli_attr_t *attr) {
-    gimli_bytes_t in = texts;
-    uint64_t offset = attr->number;
-    if (attr->kind == GIMLI_STRING) return gimli_bytes(sections.units.bytes + attr->number, attr->more);
-    if (attr->kind == GIMLI_LINE_STR_REF) in = line_texts;
-    else if (attr->kind == GIMLI_STR_OFFSETS_INDEX) {
-        if (!number_at(text_offsets, unit.text_offsets, attr->number, unit.header.offset_size, &offset)) return gimli_bytes(NULL, 0);
-    } else if (attr->kind != GIMLI_STR_REF) return gimli_bytes(NULL, 0);
-    if (offset > in.length || !memchr(in.bytes + offset, 0, in.length - offset)) return gimli_bytes(NULL, 0);
-    return gimli_bytes(in.bytes + offset, strlen((const char *)in.bytes + offset));
+    gimli_string_t text;
+    uint32_t status = gimli_attr_string(&sections, &unit.header, attr, &unit.bases, &text);
+    return status == GIMLI_MORE ? gimli_bytes(gimli_string_bytes(&sections, &text), text.length) : gimli_bytes(NULL, 0);
 }
 
 /* The address that an attribute says. */
 static bool address_of(const gimli_attr_t *attr, uint64_t *address) {
-    if (attr->kind == GIMLI_ADDR_INDEX)
-        return number_at(sections.addresses, unit.bases.addresses, attr->number, unit.header.address_size, address);
-    *address = attr->number;
-    return attr->kind == GIMLI_ADDR;
+    return gimli_attr_address(&sections, &unit.header, attr, &unit.bases, address) == GIMLI_MORE;
 }
 
 /* The end of a range from its beginning on: an address, or the number of its bytes. */
@@ -181,9 +97,9 @@ static size_t listed(const gimli_attr_t *list) {
 
 /* The ranges of an entry, without those from 0 on, which the linker leaves of a function that it
    discards: how many there are in `ranges`. */
-static size_t ranges_of(struct entry entry) {
-    const gimli_attr_t *low = find(entry, DW_AT_low_pc), *high = find(entry, DW_AT_high_pc);
-    const gimli_attr_t *list = find(entry, DW_AT_ranges);
+static size_t ranges_of(entry_t entry) {
+    const gimli_attr_t *low = find(&entry, DW_AT_low_pc), *high = find(&entry, DW_AT_high_pc);
+    const gimli_attr_t *list = find(&entry, DW_AT_ranges);
     size_t count = 0, kept = 0;
     if (low && high && address_of(low, &ranges[0].begin)) {
         ranges[0].end = end_of(high, ranges[0].begin);
@@ -201,18 +117,18 @@ static bool is_in_ranges(size_t count, uint64_t address) {
     return false;
 }
 
-/* The attributes of the entry at an offset of the unit, in `single`. */
-static struct entry entry_at(uint64_t offset) {
-    gimli_entry_t row;
+/* The entry at an offset of the unit, with its attributes in `single`. */
+static entry_t read_entry(uint64_t offset) {
+    entry_t entry = {&unit.header, &unit.bases, {0}, NULL};
     gimli_filled_t filled = {0, 0, 0};
     uint32_t status;
     do {
         gimli_place_t place = {offset, 0};
         if (filled.wanted > single_space) single = grown(single, (single_space = filled.wanted) * sizeof *single);
-        status = gimli_entries(&sections, unit.header.offset, &place, &row, 1, single, single_space, &filled);
+        status = gimli_entries(&sections, unit.header.offset, &place, &entry.row, 1, single, single_space, &filled);
     } while (filled.wanted > 0);
     if (filled.rows == 0 && status != GIMLI_END) refused("the entry at", unit.header.offset + offset, status);
-    struct entry entry = {single, filled.attributes};
+    entry.attrs = single;
     return entry;
 }
 
@@ -221,54 +137,45 @@ static bool begin_unit(uint64_t offset) {
     uint32_t status = gimli_unit(&sections, offset, &unit.header);
     if (status == GIMLI_END) return false;
     if (status != GIMLI_MORE) refused("the unit at", offset, status);
-    memset(&unit.bases, 0, sizeof unit.bases);
-    struct entry root = entry_at(unit.header.header_size);
-    unit.text_offsets = number_of(root, DW_AT_str_offsets_base);
-    unit.bases.addresses = number_of(root, DW_AT_addr_base);
-    unit.bases.rnglists = number_of(root, DW_AT_rnglists_base);
-    const gimli_attr_t *low = find(root, DW_AT_low_pc);
-    if (!low || !address_of(low, &unit.bases.address)) unit.bases.address = 0;
+    status = gimli_unit_bases(&sections, offset, 0, NULL, &unit.bases);
+    if (status != GIMLI_MORE) refused("the unit at", offset, status);
     return true;
 }
 
-/* The entry that an attribute names, and its unit. */
-static struct entry followed(gimli_attr_t attr) {
-    if (attr.kind == GIMLI_UNIT_REF) return entry_at(attr.number);
-    uint64_t offset = 0;
-    struct entry none = {NULL, 0};
-    if (attr.kind != GIMLI_INFO_REF) return none;
-    while (begin_unit(offset)) {
-        if (attr.number < offset + unit.header.length) return entry_at(attr.number - offset);
-        offset += unit.header.length;
-    }
-    return none;
+/* The entry that an attribute names, and its unit; one without attributes where it names none. */
+static entry_t followed(gimli_attr_t attr) {
+    entry_t none = {NULL, NULL, {0}, NULL};
+    gimli_unit_t holding;
+    if (attr.kind == GIMLI_UNIT_REF) return read_entry(attr.number);
+    if (attr.kind != GIMLI_INFO_REF || gimli_unit_holding(&sections, attr.number, &holding) != GIMLI_MORE) return none;
+    return begin_unit(holding.offset) ? read_entry(attr.number - holding.offset) : none;
 }
 
 /* The text of the first attribute of a name, or else of another, of an entry or of the entries that
    it stands for. */
-static void print_text(const char *word, struct entry entry, unsigned name, unsigned other) {
+static void print_text(const char *word, entry_t entry, unsigned name, unsigned other) {
     struct unit of = unit;
     for (int step = 0; step < MOST_STEPS; step++) {
-        const gimli_attr_t *attr = find(entry, name), *next = find(entry, DW_AT_abstract_origin);
-        if (attr || (attr = find(entry, other))) {
+        const gimli_attr_t *attr = find(&entry, name), *next = find(&entry, DW_AT_abstract_origin);
+        if (attr || (attr = find(&entry, other))) {
             gimli_bytes_t text = text_of(attr);
             printf("%s ", word);
             fwrite(text.bytes, 1, text.length, stdout);
             putchar('\n');
             break;
         }
-        if (!next && !(next = find(entry, DW_AT_specification))) break;
+        if (!next && !(next = find(&entry, DW_AT_specification))) break;
         entry = followed(*next);
     }
     unit = of;
 }
 
 /* Whether an entry is the function of an address; then it is printed. */
-static bool is_function(struct entry entry, uint64_t address) {
+static bool is_function(entry_t entry, uint64_t address) {
     size_t count = ranges_of(entry);
     if (!is_in_ranges(count, address)) return false;
     printf("unit 0x%" PRIx64 "\n", unit.header.offset);
-    print_text("unit name", entry_at(unit.header.header_size), DW_AT_name, DW_AT_name);
+    print_text("unit name", read_entry(unit.header.header_size), DW_AT_name, DW_AT_name);
     print_text("function", entry, DW_AT_name, DW_AT_name);
     print_text("linkage name", entry, DW_AT_linkage_name, DW_AT_MIPS_linkage_name);
     for (size_t i = 0; i < count; i++) printf("range 0x%" PRIx64 " 0x%" PRIx64 "\n", ranges[i].begin, ranges[i].end);
@@ -277,9 +184,9 @@ static bool is_function(struct entry entry, uint64_t address) {
 
 /* Keeps in mind that the unit of a root has the address but is a skeleton, whose functions are in
    another file. */
-static void meet_root(struct entry root, uint64_t address) {
-    const gimli_attr_t *name = find(root, DW_AT_dwo_name);
-    if (!name) name = find(root, DW_AT_GNU_dwo_name);
+static void meet_root(entry_t root, uint64_t address) {
+    const gimli_attr_t *name = find(&root, DW_AT_dwo_name);
+    if (!name) name = find(&root, DW_AT_GNU_dwo_name);
     if (met.is_skeleton || (!name && unit.header.kind != DW_UT_skeleton)) return;
     if (!is_in_ranges(ranges_of(root), address)) return;
     met.is_skeleton = true;
@@ -295,7 +202,7 @@ static bool function_in_unit(uint64_t address) {
     while (status == GIMLI_MORE) {
         status = gimli_entries(&sections, unit.header.offset, &place, rows, ROOM, attrs, space, &filled);
         for (size_t i = 0; i < filled.rows; i++) {
-            struct entry entry = {attrs + rows[i].first, rows[i].attributes};
+            entry_t entry = {&unit.header, &unit.bases, rows[i], attrs + rows[i].first};
             if (rows[i].offset == unit.header.header_size) meet_root(entry, address);
             if (rows[i].tag == DW_TAG_subprogram && is_function(entry, address)) return true;
         }
@@ -329,6 +236,7 @@ int main(int argc, char **argv) {
     uint64_t offset = 0, address;
     if (argc != 3 || !read_address(argv[2], &address))
         return fprintf(stderr, "usage: function_at ELF ADDRESS (functions that are inlined there are passed over)\n"), 2;
+    files[0].descriptor = files[1].descriptor = -1;
     if (atexit(release)) return 3;
     if (!read_sections(argv[1])) return fprintf(stderr, "function_at: %s is no linked ELF file\n", argv[1]), 2;
     attrs = grown(NULL, space * sizeof *attrs);

@@ -52,7 +52,7 @@ impl<'a> Reading<'a, '_> {
         }
     }
 
-    // Whether there is something to read after the buffer. A refusal is told once, and is the end.
+    // Whether there is something to read after the buffer. A refusal is answered once, and is the end.
     fn goes_on(&mut self) -> Result<bool> {
         match self.status {
             MORE => Ok(true),
@@ -74,7 +74,7 @@ impl<'a> Reading<'a, '_> {
         rows.clear();
         reserve(rows, self.room)?;
         if self.calls == 1 && given < MANY && self.by.is_none() {
-            // (the unit may be one of other sections; what is refused here the next call tells)
+            // (the unit may be one of other sections; what is refused here the next call refuses)
             let unit = self.sections.unit_at(self.unit.types, self.unit.offset());
             if let Ok(Some(unit)) = unit {
                 self.table = self.sections.abbreviations(&unit).unwrap_or(None);
@@ -84,12 +84,21 @@ impl<'a> Reading<'a, '_> {
         Ok(())
     }
 
-    // Where the last refusal stands, whose place is this if it is one of a row.
+    // Where the last refusal stands, that of the row at the place if it is one of a row.
+    #[cold]
     fn refused(&self, error: Error, place: Place) -> Refused {
-        Refused {
-            offset: self.row_refused.then_some(place.offset),
-            ..self.unit.refused(error)
+        if !self.row_refused {
+            return self.sections.not_of_row(&self.unit, place, error);
         }
+        let entry = Some(place.offset);
+        let refused = Refused {
+            entry,
+            ..self.unit.refused(error)
+        };
+        refused.at(
+            self.unit.section(),
+            self.unit.offset().wrapping_add(place.offset),
+        )
     }
 
     fn debug(&self, name: &str, place: Place, f: &mut fmt::Formatter<'_>) -> fmt::Result {
@@ -240,7 +249,7 @@ impl<'a, 'abbrev> Entries<'a, 'abbrev> {
     ) -> Self {
         Entries {
             reading: Reading::new(sections, unit, place, room),
-            units: sections.section_of(unit),
+            units: sections.section(unit.section()),
             rows: Vec::new(),
             attrs: Vec::new(),
             space,
@@ -286,17 +295,40 @@ impl<'a, 'abbrev> Entries<'a, 'abbrev> {
     /// The next entry, a null too; none at the end, and after a refusal.
     #[inline]
     pub fn next_entry(&mut self) -> Result<Option<Entry<'a, '_>>> {
-        if self.reading.at == self.rows.len() && !self.fill()? {
+        if !self.is_ready()? {
             return Ok(None);
         }
+        Ok(Some(self.take_entry()))
+    }
+
+    /// Whether the buffer has a next entry, which is read where it has none; false at the end.
+    #[inline]
+    pub(crate) fn is_ready(&mut self) -> Result<bool> {
+        Ok(self.reading.at < self.rows.len() || self.fill()?)
+    }
+
+    /// The next entry of the buffer, which has one.
+    #[inline]
+    pub(crate) fn take_entry(&mut self) -> Entry<'a, '_> {
         let row = &self.rows[self.reading.at];
         self.reading.at += 1;
-        let attrs = &self.attrs[row.first..row.first + row.attributes];
-        Ok(Some(Entry {
+        Entry {
             row,
-            attrs,
+            attrs: &self.attrs[row.first..row.first + row.attributes],
             units: self.units,
-        }))
+        }
+    }
+
+    /// The next entry alone, a null too, with the buffer; none at the end.
+    pub(crate) fn into_entry(mut self) -> (Result<Option<OwnedEntry<'a>>>, Self) {
+        let entry = self.is_ready().map(|is_ready| {
+            is_ready.then(|| OwnedEntry {
+                row: self.rows[self.reading.at],
+                attrs: core::mem::take(&mut self.attrs),
+                units: self.units,
+            })
+        });
+        (entry, self)
     }
 
     // Reads on where the buffer has no more entries; false at the end.
@@ -326,6 +358,67 @@ impl<'a, 'abbrev> Entries<'a, 'abbrev> {
 impl fmt::Debug for Entries<'_, '_> {
     fn fmt(&self, f: &mut fmt::Formatter<'_>) -> fmt::Result {
         self.reading.debug("Entries", self.place(), f)
+    }
+}
+
+/// An entry that is read by its offset, and keeps its attributes itself.
+pub struct OwnedEntry<'a> {
+    row: sys::Entry,
+    attrs: Vec<sys::Attr>,
+    units: &'a [u8],
+}
+
+impl<'a> OwnedEntry<'a> {
+    /// The same as an entry of an iterator.
+    #[inline]
+    pub fn entry(&self) -> Entry<'a, '_> {
+        Entry {
+            row: &self.row,
+            attrs: &self.attrs[self.row.first..self.row.first + self.row.attributes],
+            units: self.units,
+        }
+    }
+
+    /// Where it stands in the unit.
+    #[inline]
+    pub fn offset(&self) -> u64 {
+        self.row.offset
+    }
+
+    /// Its tag, a `DW_TAG` number.
+    #[inline]
+    pub fn tag(&self) -> u16 {
+        self.row.tag
+    }
+
+    /// Its tag, which prints as `DW_TAG_subprogram` and the like.
+    #[inline]
+    pub fn tag_name(&self) -> DwTag {
+        DwTag(self.row.tag)
+    }
+
+    /// Whether children follow it.
+    #[inline]
+    pub fn has_children(&self) -> bool {
+        self.row.has_children != 0
+    }
+
+    /// Its attributes, in order.
+    #[inline]
+    pub fn attrs(&self) -> impl ExactSizeIterator<Item = Attribute<'a>> {
+        self.entry().attrs()
+    }
+
+    /// The first attribute of a name, as `entry.attr(DW_AT_name)`.
+    #[inline]
+    pub fn attr(&self, name: impl Into<u16>) -> Option<Attribute<'a>> {
+        self.entry().attr(name)
+    }
+}
+
+impl fmt::Debug for OwnedEntry<'_> {
+    fn fmt(&self, f: &mut fmt::Formatter<'_>) -> fmt::Result {
+        self.entry().fmt(f)
     }
 }
 
@@ -396,15 +489,17 @@ impl<'a, 'b> Entry<'a, 'b> {
     /// Its attributes, in order.
     #[inline]
     pub fn attrs(&self) -> impl ExactSizeIterator<Item = Attribute<'a>> + use<'a, 'b> {
-        let units = self.units;
+        let (entry, units) = (self.row.offset, self.units);
         self.attrs
             .iter()
-            .map(move |&attr| Attribute { attr, units })
+            .map(move |&attr| Attribute { attr, entry, units })
     }
 
-    /// The first attribute of a name, as `entry.attr(DW_AT_name.0)`.
+    /// The first attribute of a name, as `entry.attr(DW_AT_name)`, or of a number, as
+    /// `entry.attr(0x03_u16)`.
     #[inline]
-    pub fn attr(&self, name: u16) -> Option<Attribute<'a>> {
+    pub fn attr(&self, name: impl Into<u16>) -> Option<Attribute<'a>> {
+        let name = name.into();
         self.attrs().find(|a| a.name() == name)
     }
 }

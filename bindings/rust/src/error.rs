@@ -5,8 +5,15 @@ use core::fmt;
 
 const TOO_DEEP: u32 = 2;
 const NO_LIST: u32 = 3;
+const NO_BASE: u32 = 5;
+const BAD_BASE: u32 = 6;
+const NO_STRING: u32 = 7;
+const NO_ADDRESS: u32 = 8;
 const REFUSED: u32 = 256;
 const LAST: u32 = ROW_REFUSED + 255;
+
+// (of no status, so that no other language has it)
+const OTHER_UNIT: &str = "The unit is one of other sections.";
 
 macro_rules! errors {
     ($($number:literal $name:ident $text:literal)*) => {
@@ -19,17 +26,27 @@ macro_rules! errors {
             TooDeep,
             /// The value of an attribute names no list.
             NoList,
+            /// A value counts from a base that the unit does not have.
+            NoBase,
+            /// The attribute of a base is there, but its value is none that a base can have.
+            BadBase,
+            /// The value of an attribute is no text.
+            NoString,
+            /// The value of an attribute is no address.
+            NoAddress,
+            /// A unit is one of other sections: these have another at its offset.
+            OtherUnit,
             /// The library's status is none that this crate knows.
             UnknownStatus,
         }
 
         impl Error {
-            /// The number by which the library's tools name it; 0 of those that only a caller's
-            /// numbers lead to, and of a status that is not known.
+            /// The number by which the library's tools name it; 0 of those that have none, from
+            /// `TooDeep` on.
             pub fn number(self) -> u8 {
                 match self {
                     $(Error::$name => $number,)*
-                    Error::TooDeep | Error::NoList | Error::UnknownStatus => 0,
+                    _ => 0,
                 }
             }
 
@@ -38,6 +55,10 @@ macro_rules! errors {
                 match (status, status & 255) {
                     (TOO_DEEP, _) => Error::TooDeep,
                     (NO_LIST, _) => Error::NoList,
+                    (NO_BASE, _) => Error::NoBase,
+                    (BAD_BASE, _) => Error::BadBase,
+                    (NO_STRING, _) => Error::NoString,
+                    (NO_ADDRESS, _) => Error::NoAddress,
                     $((REFUSED..=LAST, $number) => Error::$name,)*
                     _ => Error::UnknownStatus,
                 }
@@ -48,7 +69,12 @@ macro_rules! errors {
                     $(Error::$name => $text,)*
                     Error::TooDeep => "The depth of the place is too great.",
                     Error::NoList => "The value names no list.",
+                    Error::NoBase => "The value counts from a base that the unit does not have.",
+                    Error::BadBase => "The attribute of a base has a value that no base can have.",
+                    Error::NoString => "The value is no text.",
+                    Error::NoAddress => "The value is no address.",
                     Error::UnknownStatus => "The status is unknown.",
+                    Error::OtherUnit => OTHER_UNIT,
                 }
             }
         }
@@ -90,50 +116,6 @@ impl fmt::Display for Error {
 
 impl core::error::Error for Error {}
 
-/// A refusal and where it stands, which `refused` of a unit and of an iterator makes of an
-/// [`Error`]. Of an error alone nothing is known of where it stands.
-#[derive(Clone, Copy, Debug, PartialEq, Eq, Hash)]
-pub struct Refused {
-    /// Why.
-    pub error: Error,
-    /// Where the unit begins in its section, if that is known.
-    pub unit: Option<u64>,
-    /// Where the row that was refused stands in the unit, if it was one.
-    pub offset: Option<u64>,
-}
-
-impl fmt::Display for Refused {
-    fn fmt(&self, f: &mut fmt::Formatter<'_>) -> fmt::Result {
-        match (self.offset, self.unit) {
-            (Some(offset), Some(unit)) => {
-                write!(f, "the entry at {offset:#x} of the unit at {unit:#x}: ")?
-            }
-            (Some(offset), None) => write!(f, "the entry at {offset:#x}: ")?,
-            (None, Some(unit)) => write!(f, "the unit at {unit:#x}: ")?,
-            (None, None) => {}
-        }
-        self.error.fmt(f)
-    }
-}
-
-impl core::error::Error for Refused {}
-
-impl From<Error> for Refused {
-    fn from(error: Error) -> Self {
-        Refused {
-            error,
-            unit: None,
-            offset: None,
-        }
-    }
-}
-
-impl From<Refused> for Error {
-    fn from(refused: Refused) -> Self {
-        refused.error
-    }
-}
-
 #[cfg(test)]
 mod tests {
     use super::{Error, LAST};
@@ -142,12 +124,15 @@ mod tests {
     fn statuses() {
         assert_eq!(Error::of_status(2), Error::TooDeep);
         assert_eq!(Error::of_status(3), Error::NoList);
+        let values = [5, 6, 7, 8].map(Error::of_status);
+        use Error::{BadBase, NoAddress, NoBase, NoString};
+        assert_eq!(values, [NoBase, BadBase, NoString, NoAddress]);
         assert_eq!(Error::of_status(256 + 2), Error::BadUnsignedLeb128);
         assert_eq!(Error::of_status(512 + 2), Error::BadUnsignedLeb128);
         assert_eq!(Error::of_status(256 + 24), Error::OutOfMemory);
         assert_eq!(Error::of_status(512 + 24).number(), 24);
         assert_eq!(Error::UnknownStatus.number(), 0);
-        for status in [4, 255, 256, 256 + 25, 512, LAST, LAST + 2, u32::MAX] {
+        for status in [4, 9, 255, 256, 256 + 25, 512, LAST, LAST + 2, u32::MAX] {
             assert_eq!(Error::of_status(status), Error::UnknownStatus, "{status}");
         }
     }

@@ -1,5 +1,6 @@
 //! What makes a kind of codes of the names that `constants` has.
 
+use crate::DwAt;
 use core::fmt;
 
 /// A text that is no name of a code of its kind.
@@ -13,6 +14,15 @@ impl fmt::Display for UnknownName {
 }
 
 impl core::error::Error for UnknownName {}
+
+// By which an attribute is asked for by its name or by the number of it. No other kind of codes is
+// taken for that.
+impl From<DwAt> for u16 {
+    #[inline]
+    fn from(name: DwAt) -> Self {
+        name.0
+    }
+}
 
 // A kind of codes. The `names` are those that their codes have; `other names` have a code that has
 // one already.

@@ -7,9 +7,9 @@
 //! of C, no call from a signal handler or in the forked child of a process with threads) is left to
 //! who builds the program, as the crate's text says.
 
-use crate::{Bases, END, Error, Location, MORE, Place, Range, Result, Row, UNORDERED, reserve};
+use crate::{END, Error, Location, MORE, Place, Range, Result, Row, UNORDERED, reserve};
 use alloc::vec::Vec;
-use core::fmt;
+use core::{fmt, ptr};
 
 /// Bytes of a section, as a pointer and a length.
 #[repr(C)]
@@ -40,6 +40,10 @@ pub(crate) struct Sections<'a> {
     rnglists: Bytes,
     loc: Bytes,
     loclists: Bytes,
+    str: Bytes,
+    line_str: Bytes,
+    str_offsets: Bytes,
+    sup_str: Bytes,
     big: u8,
     types: u8,
     slices: core::marker::PhantomData<&'a [u8]>,
@@ -61,6 +65,10 @@ impl<'a> Sections<'a> {
             rnglists: sections.debug_rnglists.into(),
             loc: sections.debug_loc.into(),
             loclists: sections.debug_loclists.into(),
+            str: sections.debug_str.into(),
+            line_str: sections.debug_line_str.into(),
+            str_offsets: sections.debug_str_offsets.into(),
+            sup_str: sections.debug_str_sup.into(),
             big: (sections.endian == crate::Endian::Big).into(),
             types: types.into(),
             slices: core::marker::PhantomData,
@@ -69,7 +77,7 @@ impl<'a> Sections<'a> {
 }
 
 #[repr(C)]
-#[derive(Clone, Copy, Debug, Default)]
+#[derive(Clone, Copy, Debug, Default, PartialEq, Eq)]
 pub(crate) struct Unit {
     pub(crate) offset: u64,
     pub(crate) length: u64,
@@ -113,6 +121,38 @@ pub(crate) struct Attr {
     pub(crate) form: u16,
     pub(crate) kind: u32,
 }
+
+#[repr(C)]
+#[derive(Clone, Copy, Debug, Default)]
+pub(crate) struct Bases {
+    pub(crate) address: u64,
+    pub(crate) addresses: u64,
+    pub(crate) rnglists: u64,
+    pub(crate) loclists: u64,
+    pub(crate) str_offsets: u64,
+    pub(crate) gnu_ranges: u64,
+    pub(crate) dwo: u8,
+    pub(crate) no_address: u8,
+    pub(crate) no_addresses: u8,
+    pub(crate) no_rnglists: u8,
+    pub(crate) no_loclists: u8,
+    pub(crate) no_str_offsets: u8,
+    pub(crate) no_gnu_ranges: u8,
+}
+
+/// Where the bytes of a text lie.
+#[repr(C)]
+#[derive(Clone, Copy, Debug, Default)]
+pub(crate) struct Text {
+    pub(crate) place: u64,
+    pub(crate) length: u64,
+    pub(crate) section: u32,
+}
+
+/// The numbers of the sections in which a text may lie that is not one of the unit's.
+pub(crate) const STR: u32 = 8;
+pub(crate) const LINE_STR: u32 = 9;
+pub(crate) const SUP_STR: u32 = 11;
 
 #[repr(C)]
 #[derive(Clone, Copy, Debug, Default)]
@@ -236,19 +276,24 @@ impl fmt::Debug for Abbreviations {
 const _: () = {
     assert!(size_of::<Declaration>() == 32 && size_of::<Specification>() == 24);
     assert!(size_of::<Table>() == 32 && size_of::<Counted>() == 16);
-    assert!(size_of::<Bytes>() == 16 && size_of::<Sections<'_>>() == 136);
+    assert!(size_of::<Bytes>() == 16 && size_of::<Sections<'_>>() == 200);
     assert!(size_of::<Unit>() == 56 && size_of::<Place>() == 16 && size_of::<Row>() == 24);
     assert!(size_of::<Entry>() == 40 && size_of::<Attr>() == 24 && size_of::<Filled>() == 24);
-    assert!(size_of::<Bases>() == 40 && size_of::<Range>() == 16 && size_of::<Location>() == 32);
+    assert!(size_of::<Bases>() == 56 && size_of::<Text>() == 24);
+    assert!(size_of::<Range>() == 16 && size_of::<Location>() == 32);
 };
 
 mod raw {
-    use super::{Attr, Counted, Declaration, Entry, Filled, Sections, Specification, Table, Unit};
-    use crate::{Bases, Location, Place, Range, Row};
+    use super::{Attr, Bases, Counted, Declaration, Entry, Filled, Sections, Specification, Table};
+    use super::{Text, Unit};
+    use crate::{Location, Place, Range, Row};
 
     #[rustfmt::skip]
     unsafe extern "C" {
         pub(super) fn gimli_unit(s: &Sections<'_>, offset: u64, unit: &mut Unit) -> u32;
+        pub(super) fn gimli_unit_holding(s: &Sections<'_>, offset: u64, unit: &mut Unit) -> u32;
+        pub(super) fn gimli_unit_bases(s: &Sections<'_>, unit: u64, dwo: u8, skeleton: *const Bases, skeletons: usize, bases: &mut Bases) -> u32;
+        pub(super) fn gimli_unit_holds(s: &Sections<'_>, unit: u64, bases: &Bases, address: u64) -> u32;
         pub(super) fn gimli_rows(s: &Sections<'_>, unit: u64, place: &mut Place, rows: *mut Row, room: usize, count: &mut usize) -> u32;
         pub(super) fn gimli_entries(s: &Sections<'_>, unit: u64, place: &mut Place, rows: *mut Entry, room: usize, attrs: *mut Attr, space: usize, filled: &mut Filled) -> u32;
         pub(super) fn gimli_table(s: &Sections<'_>, offset: u64, declarations: *mut Declaration, room: usize, specifications: *mut Specification, space: usize, counted: &mut Counted) -> u32;
@@ -257,6 +302,8 @@ mod raw {
         pub(super) fn gimli_sibling(s: &Sections<'_>, unit: u64, place: &Place, follows: u8, row: &mut Row) -> u32;
         pub(super) fn gimli_first_false(s: &Sections<'_>, unit: u64, offset: &mut u64) -> u32;
         pub(super) fn gimli_unit_of_address(s: &Sections<'_>, address: u64, offset: &mut u64) -> u32;
+        pub(super) fn gimli_attr_string(s: &Sections<'_>, unit: &Unit, attribute: &Attr, bases: &Bases, string: &mut Text) -> u32;
+        pub(super) fn gimli_attr_address(s: &Sections<'_>, unit: &Unit, attribute: &Attr, bases: &Bases, address: &mut u64) -> u32;
         pub(super) fn gimli_ranges(s: &Sections<'_>, unit: &Unit, attribute: &Attr, bases: &Bases, into: *mut Range, room: usize, count: &mut usize) -> u32;
         pub(super) fn gimli_locations(s: &Sections<'_>, unit: &Unit, attribute: &Attr, bases: &Bases, into: *mut Location, room: usize, count: &mut usize) -> u32;
     }
@@ -265,6 +312,31 @@ mod raw {
 pub(crate) fn unit(sections: &Sections<'_>, offset: u64, unit: &mut Unit) -> u32 {
     // SAFETY: the module's text.
     unsafe { raw::gimli_unit(sections, offset, unit) }
+}
+
+pub(crate) fn unit_holding(sections: &Sections<'_>, offset: u64, unit: &mut Unit) -> u32 {
+    // SAFETY: the module's text.
+    unsafe { raw::gimli_unit_holding(sections, offset, unit) }
+}
+
+pub(crate) fn unit_bases(
+    sections: &Sections<'_>,
+    unit: u64,
+    is_dwo: bool,
+    skeleton: Option<&Bases>,
+    bases: &mut Bases,
+) -> u32 {
+    // (also where there is none the address is aligned and not null)
+    let none = ptr::NonNull::<Bases>::dangling().as_ptr().cast_const();
+    let from = skeleton.map_or(none, ptr::from_ref);
+    let skeletons = skeleton.is_some().into();
+    // SAFETY: the module's text. The skeleton is one, or none.
+    unsafe { raw::gimli_unit_bases(sections, unit, is_dwo.into(), from, skeletons, bases) }
+}
+
+pub(crate) fn unit_holds(sections: &Sections<'_>, unit: u64, bases: &Bases, address: u64) -> u32 {
+    // SAFETY: the module's text.
+    unsafe { raw::gimli_unit_holds(sections, unit, bases, address) }
 }
 
 /// Fills a buffer as far as its capacity, by a table where there is one.
@@ -337,6 +409,28 @@ pub(crate) fn first_false(sections: &Sections<'_>, unit: u64, offset: &mut u64) 
 pub(crate) fn unit_of_address(sections: &Sections<'_>, address: u64, offset: &mut u64) -> u32 {
     // SAFETY: the module's text.
     unsafe { raw::gimli_unit_of_address(sections, address, offset) }
+}
+
+pub(crate) fn string(
+    sections: &Sections<'_>,
+    unit: &Unit,
+    attribute: &Attr,
+    bases: &Bases,
+    string: &mut Text,
+) -> u32 {
+    // SAFETY: the module's text.
+    unsafe { raw::gimli_attr_string(sections, unit, attribute, bases, string) }
+}
+
+pub(crate) fn address(
+    sections: &Sections<'_>,
+    unit: &Unit,
+    attribute: &Attr,
+    bases: &Bases,
+    address: &mut u64,
+) -> u32 {
+    // SAFETY: the module's text.
+    unsafe { raw::gimli_attr_address(sections, unit, attribute, bases, address) }
 }
 
 pub(crate) fn ranges(

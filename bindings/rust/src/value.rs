@@ -1,7 +1,11 @@
 //! Attributes and their values.
 
 use crate::sys::Attr;
-use crate::{DwAt, DwForm};
+use crate::{
+    DW_AT_data_member_location, DW_AT_frame_base, DW_AT_location, DW_AT_return_addr, DW_AT_segment,
+    DW_AT_static_link, DW_AT_string_length, DW_AT_use_location, DW_AT_vtable_elem_location, DwAt,
+    DwForm,
+};
 use core::fmt;
 
 /// The value of an attribute, as it is read. Slices are those of the unit's section.
@@ -66,8 +70,23 @@ pub enum AttributeValue<'a> {
 #[derive(Clone, Copy)]
 pub struct Attribute<'a> {
     pub(crate) attr: Attr,
+    // where its entry stands in the unit
+    pub(crate) entry: u64,
     pub(crate) units: &'a [u8],
 }
+
+// The names that may have a list of locations (DWARF 5, 7.5.5).
+const LOCATIONS: [DwAt; 9] = [
+    DW_AT_location,
+    DW_AT_string_length,
+    DW_AT_return_addr,
+    DW_AT_data_member_location,
+    DW_AT_frame_base,
+    DW_AT_segment,
+    DW_AT_static_link,
+    DW_AT_use_location,
+    DW_AT_vtable_elem_location,
+];
 
 // How many bytes of a text are shown.
 const SHOWN: usize = 40;
@@ -177,6 +196,15 @@ impl<'a> Attribute<'a> {
             8 => u64::try_from(self.attr.number as i64).ok(),
             _ => Some(self.attr.number),
         }
+    }
+
+    /// Whether the value names a list of locations, which `locations` of a unit gives: an offset or
+    /// an index, of a name that may have a list of them.
+    #[inline]
+    pub fn is_location_list(&self) -> bool {
+        use AttributeValue::{DebugLocListsIndex, SecOffset};
+        let names_list = matches!(self.raw_value(), SecOffset(_) | DebugLocListsIndex(_));
+        names_list && LOCATIONS.contains(&self.at_name())
     }
 
     #[inline]

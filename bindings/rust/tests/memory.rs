@@ -1,7 +1,10 @@
 //! Refused memory, and how much is asked for. The library and the crate ask malloc and realloc
 //! alike, which are those of this program, over glibc's.
 
-use gimli_proved::{Bases, Error, Place, Range, Row, Sections, UnitHeader};
+use gimli_proved::{
+    Bases, DW_AT_byte_size, DW_AT_const_value, DW_AT_ranges, Error, Place, Range, Refused, Row,
+    Sections, UnitHeader,
+};
 use std::{cell::Cell, ffi::c_void, ptr};
 
 thread_local! {
@@ -130,8 +133,8 @@ fn entries(
                 place: entry.place(),
                 tag: entry.tag(),
                 numbers: (
-                    entry.attr(0x0b).and_then(|a| a.number()),
-                    entry.attr(0x1c).and_then(|a| a.number()),
+                    entry.attr(DW_AT_byte_size).and_then(|a| a.number()),
+                    entry.attr(DW_AT_const_value).and_then(|a| a.number()),
                 ),
             }),
             Err(Error::OutOfMemory) if refusals == 0 => {
@@ -181,7 +184,7 @@ fn entries_go_on() {
     }
 }
 
-// Refused memory is told once, and is the end.
+// Refused memory is answered once, and is the end.
 #[test]
 fn refusals_are_told() {
     let info = unit_of(1);
@@ -237,7 +240,7 @@ fn lists_are_whole_or_refused() {
     };
     let mut entries = sections.entries(&unit);
     let entry = entries.next_entry().unwrap().unwrap();
-    let (attr, bases) = (entry.attr(0x55).unwrap(), Bases::default());
+    let (attr, bases) = (entry.attr(DW_AT_ranges).unwrap(), Bases::default());
     let wanted: Vec<Range> = sections.ranges(&unit, &attr, &bases).unwrap();
     assert_eq!(wanted.len(), 40);
     let mut refused = 0;
@@ -254,6 +257,110 @@ fn lists_are_whole_or_refused() {
     assert_eq!(refused, 2);
     let (ranges, _) = with_refused(1, || sections.attr_ranges(&unit, &attr, &bases));
     assert_eq!(ranges.err(), Some(Error::OutOfMemory));
+}
+
+// The number of entries of a unit, their tags, the ranges of its root, and the units of an address.
+type Answers = (usize, Vec<u16>, Vec<Range>, Vec<u64>);
+
+// The same, each entry read by its offset.
+fn of_unit(sections: &Sections<'_>, mut tags: Vec<u16>) -> Result<Answers, Refused> {
+    let unit = sections.unit(0)?;
+    let mut rows = unit.rows();
+    while let Some(row) = rows.next().transpose()? {
+        if !row.is_null() {
+            tags.push(unit.entry_at(row.offset)?.tag());
+        }
+    }
+    let (mut entries, mut count) = (unit.entries(), 0);
+    while entries.next_entry()?.is_some() {
+        count += 1;
+    }
+    let ranges = unit.die_ranges(&unit.root()?.entry())?;
+    Ok((count, tags, ranges, sections.units_of_address(2)?))
+}
+
+#[test]
+fn units_are_whole_or_refused() {
+    let info = unit_of(40);
+    let (sections, _) = sections(&info);
+    let list: Vec<u8> = (0..40).flat_map(|i| [4, i, i + 1]).chain([0]).collect();
+    let sections = Sections {
+        debug_rnglists: &list,
+        ..sections
+    };
+    let wanted = of_unit(&sections, vec![]).unwrap();
+    assert_eq!((wanted.0, wanted.1.len(), wanted.2.len()), (42, 41, 40));
+    assert_eq!(wanted.3, [0]);
+    let mut at = 0;
+    loop {
+        let room = Vec::with_capacity(64);
+        let (answer, is_refused) = with_refused(at, || of_unit(&sections, room));
+        match answer {
+            Err(refused) => assert!(
+                is_refused && refused.error == Error::OutOfMemory,
+                "{refused}"
+            ),
+            // (an iterator goes on without a table that it can't have)
+            Ok(answer) => assert!(answer == wanted, "{at}"),
+        }
+        if !is_refused {
+            break;
+        }
+        at += 1;
+    }
+    assert!(at > 100, "{at}");
+}
+
+// The library reads the table of a unit to tell whether it holds an address.
+#[test]
+fn held_addresses_are_answered_or_refused() {
+    let info = unit_of(40);
+    let (sections, _) = sections(&info);
+    let sections = Sections {
+        debug_rnglists: &[4, 8, 9, 1],
+        ..sections
+    };
+    let unit = sections.unit(0).unwrap();
+    // one that is held, and one before which the list is refused
+    for (address, wanted) in [(8, None), (9, Some(Error::UnexpectedEof))] {
+        let mut at = 0;
+        loop {
+            let (holds, is_refused) = with_refused(at, || unit.holds_address(address));
+            match holds {
+                Ok(holds) => assert!(holds && wanted.is_none() && !is_refused, "{at}"),
+                Err(refused) if refused.error == Error::OutOfMemory => assert!(is_refused, "{at}"),
+                // (the place of a refusal is left out where there is no memory to find it)
+                Err(refused) => assert_eq!(Some(refused.error), wanted),
+            }
+            if !is_refused {
+                break;
+            }
+            at += 1;
+        }
+        assert!(at > 1, "{at}");
+    }
+}
+
+// The table of a unit is read once for all of its calls.
+#[test]
+fn units_read_their_table_once() {
+    let info = unit_of(40);
+    let (sections, header) = sections(&info);
+    let read = requests(|| sections.unit(0));
+    assert!(read > requests(|| sections.bases(&header)));
+    let unit = sections.unit(0).unwrap();
+    // a buffer for rows, and two for entries and their attributes; no more for entries without any
+    assert_eq!(requests(|| unit.rows().count()), 1);
+    assert_eq!(
+        requests(|| unit.entry_at(unit.header().header_size() + 5)),
+        2
+    );
+    assert_eq!(
+        unit.entry_at(unit.header().header_size() + 5)
+            .unwrap()
+            .tag(),
+        5
+    );
 }
 
 // The buffers of a small unit are small.

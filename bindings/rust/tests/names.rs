@@ -55,9 +55,15 @@ fn accessors() {
     let mut entries = sections.entries(&unit);
     let entry = entries.next_entry().unwrap().unwrap();
     assert_eq!(entry.tag_name().to_string(), "DW_TAG_compile_unit");
-    let attr = entry.attr(DW_AT_name.0).unwrap();
+    let attr = entry.attr(DW_AT_name).unwrap();
     assert_eq!(
         (attr.at_name(), attr.form_name()),
         (DW_AT_name, DW_FORM_string)
     );
+    // the same by numbers
+    for number in [3_u16, DW_AT_name.0] {
+        let same = entry.attr(number).map(|attr| attr.raw_value());
+        assert_eq!(same, Some(attr.raw_value()));
+    }
+    assert!(entry.attr(DW_AT_producer).is_none());
 }

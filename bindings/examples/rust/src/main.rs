@@ -1,379 +1,190 @@
 //! `function_at ELF ADDRESS`: prints the unit, the name and the ranges of the function at an
 //! address of a linked program: the one whose code is there, and not one that is inlined into it.
-//! The exit status is 1 where there is none, and 2 where something is refused. The sections are
-//! read by the crate `object`.
+//! The exit status is 1 where there is none, and 2 where something is refused.
 
 use gimli_proved::{
-    Abbreviations, Attribute, AttributeValue, Bases, DW_AT_GNU_dwo_name, DW_AT_MIPS_linkage_name,
-    DW_AT_abstract_origin, DW_AT_addr_base, DW_AT_dwo_name, DW_AT_high_pc, DW_AT_linkage_name, DW_AT_low_pc,
-    DW_AT_name, DW_AT_ranges, DW_AT_rnglists_base, DW_AT_specification, DW_AT_str_offsets_base, DW_TAG_subprogram,
-    DW_UT_skeleton, DwAt, Entry, Error, Place, Range, Sections, UnitHeader,
+    AttributeValue, DW_AT_GNU_dwo_name, DW_AT_MIPS_linkage_name, DW_AT_abstract_origin, DW_AT_dwo_name,
+    DW_AT_linkage_name, DW_AT_name, DW_AT_specification, DW_TAG_subprogram, DW_UT_skeleton, DwAt, Entry, Error, Range,
+    Refused, Sections, Unit,
 };
-use object::{Object, ObjectKind, ObjectSection};
-use std::{borrow::Cow, cell::Cell, io::Write, process::ExitCode, rc::Rc};
+use std::{io::Write, process::ExitCode};
 
 const MOST_STEPS: usize = 16;
-
-/// The sections that are read.
-const NAMES: [&str; 9] = [
-    ".debug_info",
-    ".debug_abbrev",
-    ".debug_addr",
-    ".debug_aranges",
-    ".debug_ranges",
-    ".debug_rnglists",
-    ".debug_str",
-    ".debug_line_str",
-    ".debug_str_offsets",
-];
 
 const USAGE: &str = "usage: function_at ELF ADDRESS (functions that are inlined there are passed over)";
 
 /// What the library refuses, with what stands there and where.
-#[derive(Clone, Copy)]
-struct Refused(Error, &'static str, u64);
+struct Stopped(Error, &'static str, u64);
 
-type Result<T> = std::result::Result<T, Refused>;
-
-/// The sections of a file, as bytes that live as long as it. Beside them what is met on the way, and
-/// told where no function is found: the first skeleton unit that has the address, with the name of
-/// its other file, and the first list of ranges that is refused.
-struct File<'a> {
-    dwarf: Sections<'a>,
-    texts: &'a [u8],
-    line_texts: &'a [u8],
-    text_offsets: &'a [u8],
-    skeleton: Cell<Option<(u64, &'a [u8])>>,
-    refused: Cell<Option<Refused>>,
-}
-
-/// A unit, its abbreviations, which are read once for all of its entries, and the attributes of its
-/// root that others are read by.
-struct Unit {
-    header: UnitHeader,
-    abbreviations: Option<Abbreviations>,
-    bases: Bases,
-    text_offsets: u64,
-}
-
-type Attrs<'a> = Vec<Attribute<'a>>;
-
-fn find<'a>(attrs: &[Attribute<'a>], name: DwAt) -> Option<Attribute<'a>> {
-    attrs.iter().find(|a| a.at_name() == name).copied()
-}
-
-/// The number of an attribute that is an offset; 0 where it is not there.
-fn number_of(attrs: &[Attribute<'_>], name: DwAt) -> u64 {
-    find(attrs, name).and_then(|a| a.number()).unwrap_or(0)
-}
-
-fn has_address(ranges: &[Range], address: u64) -> bool {
-    ranges.iter().any(|range| (range.begin..range.end).contains(&address))
-}
-
-fn attrs_of<'a>(entry: &Entry<'a, '_>) -> Attrs<'a> {
-    entry.attrs().collect()
-}
-
-impl<'a> File<'a> {
-    /// The number of so many bytes at an index of a table in a section.
-    fn number_at(&self, section: &[u8], table: u64, index: u64, size: u8) -> Option<u64> {
-        let start = index.checked_mul(size.into())?.checked_add(table)?;
-        let bytes = section.get(start as usize..)?.get(..size.into())?;
-        let fold = |all: u64, byte: &u8| all << 8 | u64::from(*byte);
-        match self.dwarf.endian {
-            gimli_proved::Endian::Big => Some(bytes.iter().fold(0, fold)),
-            gimli_proved::Endian::Little => Some(bytes.iter().rev().fold(0, fold)),
+impl From<Refused> for Stopped {
+    fn from(refused: Refused) -> Self {
+        let unit = refused.unit.unwrap_or(0);
+        match refused.entry.filter(|_| refused.attribute.is_none()) {
+            Some(entry) => Stopped(refused.error, "the entry at", unit + entry),
+            None => Stopped(refused.error, "the unit at", unit),
         }
     }
+}
 
-    /// The text of an attribute; a text of no bytes where it is none.
-    fn text_of(&self, unit: &Unit, attr: &Attribute<'a>) -> &'a [u8] {
-        let (section, offset) = match attr.raw_value() {
-            AttributeValue::String(text) => return text,
-            AttributeValue::DebugStrRef(offset) => (self.texts, Some(offset)),
-            AttributeValue::DebugLineStrRef(offset) => (self.line_texts, Some(offset)),
-            AttributeValue::DebugStrOffsetsIndex(index) => {
-                let size = unit.header.offset_size();
-                (self.texts, self.number_at(self.text_offsets, unit.text_offsets, index, size))
-            }
-            _ => return &[],
-        };
-        let from = offset.and_then(|offset| section.get(offset as usize..));
-        let length = from.and_then(|from| from.iter().position(|b| *b == 0));
-        from.zip(length).map_or(&[], |(from, length)| &from[..length])
-    }
+/// The search for the function of an address. Beside it what is met on the way, and said where no
+/// function is found: the first skeleton unit that has the address, with the name of its other file,
+/// and the first list of ranges that is refused.
+struct Search<'a> {
+    address: u64,
+    out: Vec<u8>,
+    skeleton: Option<(u64, &'a [u8])>,
+    refused: Option<Stopped>,
+}
 
-    /// The address that an attribute says.
-    fn address_of(&self, unit: &Unit, attr: &Attribute<'_>) -> Option<u64> {
-        match attr.raw_value() {
-            AttributeValue::Addr(address) => Some(address),
-            AttributeValue::DebugAddrIndex(index) => {
-                let size = unit.header.address_size();
-                self.number_at(self.dwarf.debug_addr, unit.bases.addresses, index, size)
-            }
-            _ => None,
-        }
-    }
+/// The first attribute of a name, or else of another.
+fn find<'a>(entry: &Entry<'a, '_>, names: [DwAt; 2]) -> Option<gimli_proved::Attribute<'a>> {
+    entry.attr(names[0]).or(entry.attr(names[1]))
+}
 
-    /// The end of a range from its beginning on: an address, or the number of its bytes.
-    fn end_of(&self, unit: &Unit, high: &Attribute<'_>, begin: u64) -> u64 {
-        use AttributeValue::{Data1, Data2, Data4, Data8, Sdata, Udata};
-        self.address_of(unit, high).unwrap_or(match high.raw_value() {
-            Sdata(number) => begin.wrapping_add_signed(number),
-            Data1(_) | Data2(_) | Data4(_) | Data8(_) | Udata(_) => begin.wrapping_add(high.udata_value().unwrap_or(0)),
-            _ => begin,
-        })
-    }
-
-    /// The ranges of a list; none where one is refused.
-    fn listed(&self, unit: &Unit, list: &Attribute<'_>) -> Vec<Range> {
-        match self.dwarf.ranges(&unit.header, list, &unit.bases) {
-            Ok(ranges) => return ranges,
-            Err(Error::NoList) => {}
-            Err(error) => {
-                let refused = Refused(error, "the ranges of the unit at", unit.header.offset());
-                self.refused.set(self.refused.get().or(Some(refused)));
-            }
-        }
-        vec![]
+impl<'a> Search<'a> {
+    fn has_address(&self, ranges: &[Range]) -> bool {
+        ranges.iter().any(|range| (range.begin..range.end).contains(&self.address))
     }
 
     /// The ranges of an entry, without those from 0 on, which the linker leaves of a function that
-    /// it discards.
-    fn ranges_of(&self, unit: &Unit, attrs: &[Attribute<'_>]) -> Vec<Range> {
-        let low = find(attrs, DW_AT_low_pc).and_then(|low| self.address_of(unit, &low));
-        let mut ranges = if let Some((begin, high)) = low.zip(find(attrs, DW_AT_high_pc)) {
-            let end = self.end_of(unit, &high, begin);
-            if begin < end { vec![Range { begin, end }] } else { vec![] }
-        } else if let Some(list) = find(attrs, DW_AT_ranges) {
-            self.listed(unit, &list)
-        } else {
+    /// it discards; none where they are refused.
+    fn ranges_of(&mut self, unit: &Unit<'a>, entry: &Entry<'a, '_>) -> Vec<Range> {
+        let mut ranges = unit.die_ranges(entry).unwrap_or_else(|refused| {
+            let stopped = Stopped(refused.error, "the ranges of the unit at", unit.header().offset());
+            self.refused.get_or_insert(stopped);
             vec![]
-        };
+        });
         ranges.retain(|range| range.begin != 0);
         ranges
     }
 
-    /// The attributes of the entry at an offset of a unit.
-    fn entry_at(&self, unit: &Unit, offset: u64) -> Result<Attrs<'a>> {
-        let place = Place { offset, depth: 0 };
-        let mut entries = self.dwarf.entries_from(&unit.header, place, 1, 16).by(&unit.abbreviations);
-        let refused = |error| Refused(error, "the entry at", unit.header.offset() + offset);
-        let entry = entries.next_entry().map_err(refused)?;
-        Ok(entry.map_or(vec![], |entry| attrs_of(&entry)))
-    }
-
-    /// The unit at an offset; none at the end.
-    fn unit_at(&self, offset: u64) -> Result<Option<Rc<Unit>>> {
-        let refused = |error| Refused(error, "the unit at", offset);
-        let Some(header) = self.dwarf.unit_at(false, offset).map_err(refused)? else { return Ok(None) };
-        let refused = |error| Refused(error, "the entry at", offset + header.header_size());
-        let abbreviations = self.dwarf.abbreviations(&header).map_err(refused)?;
-        let mut unit = Unit { header, abbreviations, bases: Bases::default(), text_offsets: 0 };
-        let root = self.entry_at(&unit, header.header_size())?;
-        unit.text_offsets = number_of(&root, DW_AT_str_offsets_base);
-        unit.bases.addresses = number_of(&root, DW_AT_addr_base);
-        unit.bases.rnglists = number_of(&root, DW_AT_rnglists_base);
-        let low = find(&root, DW_AT_low_pc).and_then(|low| self.address_of(&unit, &low));
-        unit.bases.address = low.unwrap_or(0);
-        Ok(Some(Rc::new(unit)))
-    }
-
-    /// The entry that an attribute names, and its unit.
-    fn followed(&self, unit: &Rc<Unit>, attr: &Attribute<'_>) -> Result<Option<(Rc<Unit>, Attrs<'a>)>> {
-        match attr.raw_value() {
-            AttributeValue::UnitRef(offset) => Ok(Some((Rc::clone(unit), self.entry_at(unit, offset)?))),
-            AttributeValue::DebugInfoRef(offset) => {
-                let mut at = 0;
-                while let Some(unit) = self.unit_at(at)? {
-                    let start = at;
-                    at += unit.header.length_including_self();
-                    if offset < at {
-                        let attrs = self.entry_at(&unit, offset - start)?;
-                        return Ok(Some((unit, attrs)));
-                    }
-                }
-                Ok(None)
-            }
-            _ => Ok(None),
-        }
-    }
-
-    /// The text of the first attribute of a name, or else of another, of an entry or of the entries
+    /// The line of the first attribute of a name, or else of another, of an entry or of the entries
     /// that it stands for.
     fn print_text(
-        &self,
-        out: &mut Vec<u8>,
+        &mut self,
         word: &str,
-        of: &Rc<Unit>,
-        attrs: &Attrs<'a>,
+        unit: &Unit<'a>,
+        entry: &Entry<'a, '_>,
         names: [DwAt; 2],
-    ) -> Result<()> {
-        let (mut unit, mut attrs) = (Rc::clone(of), attrs.clone());
-        for _ in 0..MOST_STEPS {
-            if let Some(attr) = find(&attrs, names[0]).or(find(&attrs, names[1])) {
-                let text = self.text_of(&unit, &attr);
-                out.extend([word.as_bytes(), b" ", text, b"\n"].concat());
-                return Ok(());
-            }
-            let Some(next) = find(&attrs, DW_AT_abstract_origin).or(find(&attrs, DW_AT_specification)) else { break };
-            match self.followed(&unit, &next)? {
-                Some(entry) => (unit, attrs) = entry,
-                None => break,
-            }
+        steps: usize,
+    ) -> Result<(), Stopped> {
+        if let Some(attr) = find(entry, names) {
+            let text = unit.text(&attr).unwrap_or(b"");
+            self.out.extend([word.as_bytes(), b" ", text, b"\n"].concat());
+            return Ok(());
         }
-        Ok(())
+        let origin = find(entry, [DW_AT_abstract_origin, DW_AT_specification]).map(|origin| origin.raw_value());
+        match origin.filter(|_| steps > 1) {
+            Some(AttributeValue::UnitRef(offset)) => {
+                self.print_text(word, unit, &unit.entry_at(offset)?.entry(), names, steps - 1)
+            }
+            Some(AttributeValue::DebugInfoRef(offset)) => {
+                let unit = unit.sections().unit_holding(offset)?;
+                let entry = unit.entry_at(offset - unit.header().offset())?;
+                self.print_text(word, &unit, &entry.entry(), names, steps - 1)
+            }
+            _ => Ok(()),
+        }
     }
 
-    /// Whether an entry is the function of an address; then it is printed.
-    fn is_function(&self, out: &mut Vec<u8>, unit: &Rc<Unit>, attrs: &Attrs<'a>, address: u64) -> Result<bool> {
-        let ranges = self.ranges_of(unit, attrs);
-        if !has_address(&ranges, address) {
+    /// Whether an entry is the function of the address; then it is printed.
+    fn is_function(&mut self, unit: &Unit<'a>, entry: &Entry<'a, '_>) -> Result<bool, Stopped> {
+        let ranges = self.ranges_of(unit, entry);
+        if !self.has_address(&ranges) {
             return Ok(false);
         }
-        out.extend(format!("unit {:#x}\n", unit.header.offset()).bytes());
-        let root = self.entry_at(unit, unit.header.header_size())?;
-        self.print_text(out, "unit name", unit, &root, [DW_AT_name; 2])?;
-        self.print_text(out, "function", unit, attrs, [DW_AT_name; 2])?;
-        self.print_text(out, "linkage name", unit, attrs, [DW_AT_linkage_name, DW_AT_MIPS_linkage_name])?;
+        self.out.extend(format!("unit {:#x}\n", unit.header().offset()).bytes());
+        self.print_text("unit name", unit, &unit.root()?.entry(), [DW_AT_name; 2], MOST_STEPS)?;
+        self.print_text("function", unit, entry, [DW_AT_name; 2], MOST_STEPS)?;
+        self.print_text("linkage name", unit, entry, [DW_AT_linkage_name, DW_AT_MIPS_linkage_name], MOST_STEPS)?;
         for range in ranges {
-            out.extend(format!("range {:#x} {:#x}\n", range.begin, range.end).bytes());
+            self.out.extend(format!("range {:#x} {:#x}\n", range.begin, range.end).bytes());
         }
         Ok(true)
     }
 
     /// Keeps in mind that the unit of a root has the address but is a skeleton, whose functions are
     /// in another file.
-    fn meet_root(&self, unit: &Unit, root: &Attrs<'a>, address: u64) {
-        let name = find(root, DW_AT_dwo_name).or(find(root, DW_AT_GNU_dwo_name));
-        if self.skeleton.get().is_some() || (name.is_none() && unit.header.ut_name() != DW_UT_skeleton) {
+    fn meet_root(&mut self, unit: &Unit<'a>, root: &Entry<'a, '_>) {
+        let name = find(root, [DW_AT_dwo_name, DW_AT_GNU_dwo_name]);
+        if self.skeleton.is_some() || (name.is_none() && unit.header().ut_name() != DW_UT_skeleton) {
             return;
         }
-        if has_address(&self.ranges_of(unit, root), address) {
-            let text = name.map_or(&[][..], |name| self.text_of(unit, &name));
-            self.skeleton.set(Some((unit.header.offset(), text)));
+        let ranges = self.ranges_of(unit, root);
+        if self.has_address(&ranges) {
+            let text = name.and_then(|name| unit.text(&name).ok());
+            self.skeleton = Some((unit.header().offset(), text.unwrap_or(b"")));
         }
     }
 
-    /// Looks for the function of an address in a unit.
-    fn function_in_unit(&self, out: &mut Vec<u8>, unit: &Rc<Unit>, address: u64) -> Result<bool> {
-        let mut entries = self.dwarf.entries(&unit.header).by(&unit.abbreviations);
-        loop {
-            match entries.next_entry() {
-                Ok(None) => return Ok(false),
-                Ok(Some(entry)) => {
-                    if entry.offset() == unit.header.header_size() {
-                        self.meet_root(unit, &attrs_of(&entry), address);
-                    }
-                    if entry.tag_name() == DW_TAG_subprogram
-                        && self.is_function(out, unit, &attrs_of(&entry), address)?
-                    {
-                        return Ok(true);
-                    }
-                }
-                Err(error) => {
-                    let offset = unit.header.offset() + entries.place().offset;
-                    return Err(Refused(error, "the entry at", offset));
-                }
+    /// Looks for the function in a unit.
+    fn is_in_unit(&mut self, unit: &Unit<'a>) -> Result<bool, Stopped> {
+        let mut entries = unit.entries();
+        while let Some(entry) = entries.next_entry()? {
+            if entry.offset() == unit.header().header_size() {
+                self.meet_root(unit, &entry);
             }
-        }
-    }
-
-    /// Tells why no function was found.
-    fn none(&self, out: &mut Vec<u8>, address: u64) -> Result<()> {
-        if let Some((unit, name)) = self.skeleton.get() {
-            let skeleton = format!("skeleton unit {unit:#x}: its functions are in ");
-            out.extend([skeleton.as_bytes(), name, b"\n"].concat());
-        } else if let Some(refused) = self.refused.get() {
-            return Err(refused);
-        } else {
-            out.extend(format!("no function at {address:#x}\n").bytes());
-        }
-        Ok(())
-    }
-
-    /// Prints the function of an address; false where there is none.
-    fn print_function(&self, out: &mut Vec<u8>, address: u64) -> Result<bool> {
-        if let Ok(Some(offset)) = self.dwarf.unit_of_address(address) {
-            return match self.unit_at(offset)? {
-                Some(unit) => self.function_in_unit(out, &unit, address),
-                None => Ok(false),
-            };
-        }
-        let mut offset = 0;
-        while let Some(unit) = self.unit_at(offset)? {
-            if self.function_in_unit(out, &unit, address)? {
+            if entry.tag_name() == DW_TAG_subprogram && self.is_function(unit, &entry)? {
                 return Ok(true);
             }
-            offset += unit.header.length_including_self();
         }
         Ok(false)
     }
+
+    /// Looks for the function in the unit that `.debug_aranges` names, or else in all.
+    fn is_found(&mut self, dwarf: &Sections<'a>) -> Result<bool, Stopped> {
+        if let Ok(Some(offset)) = dwarf.unit_of_address(self.address) {
+            return self.is_in_unit(&dwarf.unit(offset)?);
+        }
+        for unit in dwarf.all_units() {
+            if self.is_in_unit(&unit?)? {
+                return Ok(true);
+            }
+        }
+        Ok(false)
+    }
+
+    /// Looks for the function, and says why none was found. The exit status is 0 where there is
+    /// one, and 1 where there is none.
+    fn run(&mut self, dwarf: &Sections<'a>) -> Result<u8, Stopped> {
+        if self.is_found(dwarf)? {
+            return Ok(0);
+        }
+        if let Some((unit, name)) = self.skeleton {
+            let skeleton = format!("skeleton unit {unit:#x}: its functions are in ");
+            self.out.extend([skeleton.as_bytes(), name, b"\n"].concat());
+        } else if let Some(stopped) = self.refused.take() {
+            return Err(stopped);
+        } else {
+            self.out.extend(format!("no function at {:#x}\n", self.address).bytes());
+        }
+        Ok(1)
+    }
 }
 
-/// Prints the answer, whose exit status is 0 where there is a function, 1 where there is none and 2
-/// where something is refused; none where the file is no linked ELF file.
-fn answer(bytes: &[u8], address: u64) -> Option<u8> {
-    let elf = object::File::parse(bytes).ok()?;
-    if !matches!(elf.kind(), ObjectKind::Executable | ObjectKind::Dynamic) {
-        return None;
-    }
-    let held = NAMES.map(|name| {
-        let section = elf.section_by_name(name);
-        section.and_then(|section| section.uncompressed_data().ok()).unwrap_or(Cow::Borrowed(&[]))
-    });
-    let [
-        debug_info,
-        debug_abbrev,
-        debug_addr,
-        debug_aranges,
-        debug_ranges,
-        debug_rnglists,
-        texts,
-        line_texts,
-        text_offsets,
-    ] = held.each_ref().map(|section| &**section);
-    let endian = if elf.is_little_endian() { gimli_proved::Endian::Little } else { gimli_proved::Endian::Big };
-    let dwarf = Sections {
-        debug_info,
-        debug_abbrev,
-        debug_addr,
-        debug_aranges,
-        debug_ranges,
-        debug_rnglists,
-        endian,
-        ..Sections::default()
-    };
-    let mut out = vec![];
-    let file = File { dwarf, texts, line_texts, text_offsets, skeleton: Cell::new(None), refused: Cell::new(None) };
-    let status = match file.print_function(&mut out, address) {
-        Ok(true) => Ok(0),
-        Ok(false) => file.none(&mut out, address).map(|()| 1),
-        Err(refused) => Err(refused),
-    };
-    std::io::stdout().write_all(&out).ok()?;
-    Some(status.unwrap_or_else(|Refused(error, what, offset)| {
-        eprintln!("error {}: {what} {offset:#x}: {error}", error.number());
-        2
-    }))
+/// Prints the answer for an address of a program: the exit status, or a message.
+fn answer(file: &str, address: &str) -> Result<u8, String> {
+    let address = u64::from_str_radix(address.trim_start_matches("0x"), 16).map_err(|_| USAGE)?;
+    let dwarf = elf::open_linked(file).ok_or(format!("function_at: {file} is no linked ELF file"))?;
+    let mut search = Search { address, out: vec![], skeleton: None, refused: None };
+    let status = search
+        .run(&dwarf)
+        .map_err(|Stopped(error, what, offset)| format!("error {}: {what} {offset:#x}: {error}", error.number()));
+    std::io::stdout().write_all(&search.out).map_err(|error| error.to_string())?;
+    status
 }
 
 fn main() -> ExitCode {
     let words: Vec<String> = std::env::args().skip(1).collect();
-    let [file, address] = &words[..] else {
-        eprintln!("{USAGE}");
-        return ExitCode::from(2);
+    let status = match &words[..] {
+        [file, address] => answer(file, address),
+        _ => Err(USAGE.into()),
     };
-    let Ok(address) = u64::from_str_radix(address.trim_start_matches("0x"), 16) else {
-        eprintln!("{USAGE}");
-        return ExitCode::from(2);
-    };
-    match std::fs::read(file).ok().and_then(|bytes| answer(&bytes, address)) {
-        Some(status) => ExitCode::from(status),
-        None => {
-            eprintln!("function_at: {file} is no linked ELF file");
+    status.map_or_else(
+        |message| {
+            eprintln!("{message}");
             ExitCode::from(2)
-        }
-    }
+        },
+        ExitCode::from,
+    )
 }
