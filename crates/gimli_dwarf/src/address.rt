@@ -195,7 +195,8 @@ fn end_of(address: Option<u64>, length: Option<u64>) -> Option<End>
 }
 
 // Whether an address lies in the span from `low` up to `end`, which is no part of it; false where
-// one of both is missing.
+// one of both is missing. A length never wraps: one that reaches past the greatest address holds
+// every address from `low` on.
 fn span_holds(low: Option<u64>, end: Option<End>, address: u64) -> bool
     ensures { result ≡ span_holds low end address }
 {

@@ -96,7 +96,8 @@ impl<'abbrev, R: Reader, A: Allocator + Copy> EntriesTree<'abbrev, R, A> {
 }
 
 impl<'abbrev, R: Reader, A: Allocator> EntriesTree<'abbrev, R, A> {
-    /// How many entries were read since the root was asked for last, nulls and refused ones too.
+    /// How many entries were read since the root was asked for last, nulls, passed and refused ones
+    /// too; not those that a reference leads past.
     #[inline]
     pub fn reads(&self) -> usize
         ensures count { result ≡ self.now.cursor.reads }

@@ -97,7 +97,8 @@ impl<'abbrev, R: Reader, A: Allocator> EntriesTreeWalker<'abbrev, R, A> {
         self.lists.len()
     }
 
-    /// How many entries were read since the root was asked for last, nulls and refused ones too.
+    /// How many entries were read since the root was asked for last, nulls, passed and refused ones
+    /// too; not those that a reference leads past.
     pub fn reads(&self) -> usize
         ensures count { result ≡ self.now.tree.cursor.reads }
         ensures few { result ≤ length self.now.tree.start.rest.bytes }
