@@ -28,6 +28,7 @@ static void print_function(const entry_t *it) {
     if (!low && !count) return;
     bool has_end = low && high && gimli_attr_address(&sections, it->unit, high, it->bases, &end) == GIMLI_MORE;
     if (low && high) size = has_end ? end - begin : high->number;
+    if (begin + size < begin) return; /* the address stands for none: the linker has discarded the function */
     for (size_t i = 0; i < count; i++) {
         if (ranges[i].begin < begin) begin = ranges[i].begin;
         size += ranges[i].end - ranges[i].begin;
