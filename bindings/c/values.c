@@ -688,6 +688,38 @@ static void holds(struct written as) {
     units_that_hold(as);
 }
 
+/* Where a value leads, by its kind. */
+static void where(void) {
+    static const struct {
+        uint32_t kind;
+        uint16_t name, version;
+        uint32_t section;
+        uint64_t offset;
+    } wanted[] = {
+        {GIMLI_STRING, 3, 5, GIMLI_UNITS, 7}, {GIMLI_STR_REF, 3, 5, GIMLI_STR, 7}, {GIMLI_LINE_STR_REF, 3, 5, GIMLI_LINE_STR, 7},
+        {GIMLI_STR_REF_SUP, 3, 5, GIMLI_SUP_STR, 7}, {GIMLI_STR_OFFSETS_INDEX, 3, 5, GIMLI_STR_OFFSETS, 30 + 7 * 4},
+        {GIMLI_ADDR_INDEX, 0x11, 5, GIMLI_ADDRESSES, 10 + 7 * 8}, {GIMLI_RNG_LISTS_INDEX, 0x55, 5, GIMLI_RNGLISTS, 40 + 7 * 4},
+        {GIMLI_LOC_LISTS_INDEX, 2, 5, GIMLI_LOCLISTS, 50 + 7 * 4}, {GIMLI_SEC_OFFSET, 0x55, 5, GIMLI_RNGLISTS, 7},
+        {GIMLI_SEC_OFFSET, 0x55, 4, GIMLI_RANGES, 7 + 60}, {GIMLI_SEC_OFFSET, 2, 5, GIMLI_LOCLISTS, 7},
+        {GIMLI_SEC_OFFSET, 2, 4, GIMLI_LOC, 7}, {GIMLI_UDATA, 3, 5, GIMLI_UNITS, 1000},
+    };
+    gimli_bases_t bases = {0, 10, 40, 50, 30, 60, 1, 0, 0, 0, 0, 0, 0};
+    gimli_unit_t unit;
+    gimli_place_t place = {11, 0};
+    memset(&unit, 0, sizeof unit);
+    unit.offset = 1000, unit.offset_size = 4, unit.address_size = 8;
+    for (size_t i = 0; i < sizeof wanted / sizeof *wanted; i++) {
+        gimli_attr_t attribute = {7, 0, 0, 0, 0};
+        attribute.kind = wanted[i].kind, attribute.name = wanted[i].name, unit.version = wanted[i].version;
+        gimli_where_t found = gimli_where_value(&unit, &attribute, &bases);
+        same("the section of a value", found.section, wanted[i].section);
+        same("the offset of a value", found.offset, wanted[i].offset);
+    }
+    same("the offset of a row", gimli_where_row(&unit, &place).offset, 1011);
+    same("the name of a section", (uint64_t)strcmp(gimli_section_name(GIMLI_STR_OFFSETS), ".debug_str_offsets"), 0);
+    same("no section", (uint64_t)strcmp(gimli_section_name(GIMLI_SUP_STR + 1), "no section"), 0);
+}
+
 int main(void) {
     static const struct written ways[] = {{5, 0, 0}, {5, 1, 0}, {5, 0, 1}, {5, 1, 1}, {4, 0, 0}, {4, 1, 0}, {4, 0, 1}, {4, 1, 1}};
     for (size_t i = 0; i < sizeof ways / sizeof *ways; i++) {
@@ -701,6 +733,7 @@ int main(void) {
         refused(ways[i]);
         holds(ways[i]);
     }
+    where();
     if (!bad) puts("same");
     return bad;
 }

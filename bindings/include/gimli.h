@@ -121,7 +121,8 @@ static inline const char *gimli_text(uint32_t status) {
     return "The status is unknown.";
 }
 
-/* Where what was refused lies, to be named beside gimli_text:
+/* Where what was refused lies, to be named beside gimli_text. gimli_where_row and gimli_where_value give it as a
+   section and an offset, where one is wanted:
    gimli_unit, gimli_unit_bases    `units`, at the offset of the unit; of a table `abbrev`, at the unit's `abbreviations`
    gimli_table                     `abbrev`, at the offset
    gimli_rows and the like         ROW_REFUSED: `units`, at the unit's offset + place->offset, where the place is left;
@@ -520,6 +521,61 @@ uint32_t gimli_ranges(const gimli_sections_t *sections, const gimli_unit_t *unit
    list has the range from 0 to 2^64 - 1. */
 uint32_t gimli_locations(const gimli_sections_t *sections, const gimli_unit_t *unit, const gimli_attr_t *attribute,
                          const gimli_bases_t *bases, gimli_location_t *into, size_t room, size_t *count);
+
+/* Where something lies: the number of a section, and an offset in it. */
+typedef struct {
+    uint32_t section; /* GIMLI_UNITS .. */
+    uint64_t offset;
+} gimli_where_t;
+
+/* The name of a section, by its number. */
+static inline const char *gimli_section_name(uint32_t section) {
+    static const char *const names[] = {".debug_info", ".debug_abbrev", ".debug_addr", ".debug_aranges", ".debug_ranges",
+                                        ".debug_rnglists", ".debug_loc", ".debug_loclists", ".debug_str", ".debug_line_str",
+                                        ".debug_str_offsets", ".debug_str of the supplementary file"};
+    return section <= GIMLI_SUP_STR ? names[section] : "no section";
+}
+
+/* Where the row at a place of a unit lies, as that which is refused. */
+static inline gimli_where_t gimli_where_row(const gimli_unit_t *unit, const gimli_place_t *place) {
+    gimli_where_t where = {GIMLI_UNITS, 0};
+    where.offset = unit->offset + place->offset;
+    return where;
+}
+
+/* Where the calls over the value of an attribute begin to read, as of one that is refused: where the text or
+   the list begins that an offset names, or what stands at an index in a table of the unit. Of any other value
+   the unit. (Of an index that leads past 2^64 the offset is what is left of it.) */
+static inline gimli_where_t gimli_where_value(const gimli_unit_t *unit, const gimli_attr_t *attribute,
+                                              const gimli_bases_t *bases) {
+    gimli_where_t where = {GIMLI_UNITS, 0};
+    uint64_t number = attribute->number, size = unit->offset_size;
+    int is_new = unit->version >= 5, is_range = attribute->name == 0x55; /* DW_AT_ranges */
+    where.offset = unit->offset;
+    switch (attribute->kind) {
+    case GIMLI_STRING: case GIMLI_BLOCK: case GIMLI_EXPRLOC: where.offset = number; break;
+    case GIMLI_STR_REF: where.section = GIMLI_STR, where.offset = number; break;
+    case GIMLI_STR_REF_SUP: where.section = GIMLI_SUP_STR, where.offset = number; break;
+    case GIMLI_LINE_STR_REF: where.section = GIMLI_LINE_STR, where.offset = number; break;
+    case GIMLI_STR_OFFSETS_INDEX:
+        where.section = GIMLI_STR_OFFSETS, where.offset = bases->str_offsets + number * size;
+        break;
+    case GIMLI_ADDR_INDEX: case GIMLI_ADDR_INDEX_OFFSET:
+        where.section = GIMLI_ADDRESSES, where.offset = bases->addresses + number * unit->address_size;
+        break;
+    case GIMLI_RNG_LISTS_INDEX:
+        where.section = GIMLI_RNGLISTS, where.offset = bases->rnglists + number * size;
+        break;
+    case GIMLI_LOC_LISTS_INDEX:
+        where.section = GIMLI_LOCLISTS, where.offset = bases->loclists + number * size;
+        break;
+    case GIMLI_SEC_OFFSET:
+        where.section = is_range ? (is_new ? GIMLI_RNGLISTS : GIMLI_RANGES) : is_new ? GIMLI_LOCLISTS : GIMLI_LOC;
+        where.offset = number + (is_range && bases->dwo && !is_new ? bases->gnu_ranges : 0);
+        break;
+    }
+    return where;
+}
 
 /* The bytes of a text that gimli_attr_string found in these sections; no zero need end them. */
 static inline const char *gimli_string_bytes(const gimli_sections_t *sections, const gimli_string_t *string) {
