@@ -304,8 +304,8 @@ typedef struct {
    in the first header of its section: below 8 in .debug_addr and .debug_str_offsets and below 12 in
    .debug_rnglists and .debug_loclists (16 and 20 where offset_size is 8). So a unit of version 5 whose
    only base of addresses is GNU's (DW_AT_GNU_addr_base), below 8, is taken to have none. What counts
-   from one that is none is refused: so all zeros are the bases of a unit of version 4 or less whose root
-   has no DW_AT_low_pc, and no index of version 5 counts from them. */
+   from one that is none is refused. With all zeros an index of version 5 is refused, and what counts in a unit
+   of version 4 or less counts from 0. */
 typedef struct {
     uint64_t address;     /* DW_AT_low_pc, the address itself: from it lists count up to an entry that gives another */
     uint64_t addresses;   /* DW_AT_addr_base */
@@ -461,14 +461,14 @@ uint32_t gimli_unit_of_address(const gimli_sections_t *sections, uint64_t addres
 /* Whether the unit at an offset of `units`, whose bases these are, holds an address. Where sets of
    `aranges` are the unit's, their ranges say so: that section need not have each unit. Any other unit
    holds the addresses of its root: those of the list of DW_AT_ranges, or else those from DW_AT_low_pc up to
-   DW_AT_high_pc. `units` are read as .debug_info whatever `types` says; and `abbrev`, `addresses`, `aranges`,
+   DW_AT_high_pc. No set is one of a split unit, whose root has no address: who wants its addresses asks its
+   skeleton. `units` are read as .debug_info whatever `types` says; and `abbrev`, `addresses`, `aranges`,
    `ranges` and `rnglists`.
    MORE: it does. END: it does not. NO_BASE: an address of the root, or its list, counts from a base that the
    unit does not have. REFUSED: of the unit or of its abbreviations; of the header of a set, where no set of the
    unit before it holds the address; or, of a unit without sets, of its root, of the list, or of a range, where
-   none before it holds the address; or of memory. Of a unit that has sets `bases` are not used: where
-   gimli_unit_bases was refused, bases whose `no_..` are all set tell whether it has. Each call reads the
-   unit's table and all sets. */
+   none before it holds the address; or of memory. Where gimli_unit_bases was refused, what bases whose `no_..`
+   are all set answer but for NO_BASE depends on no base. Each call reads the unit's table and all sets. */
 uint32_t gimli_unit_holds(const gimli_sections_t *sections, uint64_t unit, const gimli_bases_t *bases, uint64_t address);
 
 /* The text that an attribute's value is (GIMLI_STRING, GIMLI_STR_REF, GIMLI_LINE_STR_REF,

@@ -430,7 +430,8 @@ pub extern "C" fn gimli_unit_bases(
 /// Says whether the unit at an offset of `units`, whose bases these are, holds an address. Where sets
 /// of `aranges` are the unit's, their ranges say so: the section need not have each unit. Any other
 /// unit holds the addresses of its root: those of the list of `DW_AT_ranges`, or else those from
-/// `DW_AT_low_pc` up to `DW_AT_high_pc`. `units` are read as `.debug_info`, and all sections but those
+/// `DW_AT_low_pc` up to `DW_AT_high_pc`. No set is one of a split unit, whose root has no address:
+/// who wants its addresses asks its skeleton. `units` are read as `.debug_info`, and all sections but those
 /// of locations and texts.
 ///
 /// Status 0: it does. Status 1: it does not. Status 5: an address of the root or its list counts from

@@ -2,12 +2,14 @@
 use Rattle.std.specs.Prelude.{ℕ, ◌-◌, ◌==◌, nat_le, nat_lt, ◌&&◌, if◌then◌else◌, Bool, true, false}
 use Rattle.std.specs.Prelude.{List, [], ◌∷◌, Option, Some, None, Result, Ok, Err}
 use Rattle.std.specs.Option.{option_map}
+use Rattle.gimli_base.specs.declared.common.DwarfFileType.{DwarfFileType}
+use Rattle.gimli_base.specs.declared.common.DwarfFileType.TheVariants.{Main, Dwo}
 use Rattle.gimli_base.specs.declared.error.Error.{Error}
 use Rattle.gimli_base.specs.Abbreviations.{Map}
 use Rattle.gimli_base.specs.View.{View}
 use Rattle.gimli_units.specs.Entry.{Attr, first_of}
 use Rattle.gimli_units.specs.NormalValue.{normal_value, udata_of}
-use Rattle.gimli_units.specs.Unit.{UnitView, unit_entry_at, header_size}
+use Rattle.gimli_units.specs.Unit.{UnitView, unit_entry_at, header_size, debug_info_offset}
 use Rattle.gimli_units.specs.Value.{Value}
 use Rattle.gimli_lists.specs.ArangeSets.{ArangeSet, set_holds, sets_of}
 use Rattle.gimli_lists.specs.Places.{ListSections, ListPlace}
@@ -105,11 +107,21 @@ sets_say unit address (Err e ∷ rest) = Err e
 abbrev pub sets_hold : ℕ → ℕ → ℕ → View → Result (Option Bool) Error
 sets_hold address limit unit aranges = sets_say unit address (sets_of limit aranges)
 
+-- the same of a unit that has an offset in `.debug_info`, and of one that has none
+abbrev pub sets_at : ℕ → ℕ → Option ℕ → View → Result (Option Bool) Error
+sets_at address limit None aranges = Ok None
+sets_at address limit (Some unit) aranges = sets_hold address limit unit aranges
+
+-- the same of a unit of a file of this kind: the sets name units of a program alone
+abbrev pub sets_of_unit : ℕ → ℕ → DwarfFileType → UnitView → View → Result (Option Bool) Error
+sets_of_unit address limit Main u aranges = sets_at address limit (debug_info_offset u) aranges
+sets_of_unit address limit Dwo u aranges = Ok None
+
 -- Whether a unit holds an address: by its sets of `.debug_aranges`, or by its root where it has none.
 abbrev pub unit_holds : ℕ → ℕ → Bases → View → ListSections → View → UnitView → Map
     → Result Bool DwarfError
 unit_holds address limit b addresses s aranges u declared =
-    and_then (or_refused (sets_hold address limit u.offset aranges)) (λ said. elim said [
+    and_then (or_refused (sets_of_unit address limit b.file_type u aranges)) (λ said. elim said [
       | Some holds ↦ Ok holds
       | None ↦ and_then (or_refused (unit_entry_at limit u declared (header_size u)))
           (λ root. root_holds address limit b addresses s root.attributes)

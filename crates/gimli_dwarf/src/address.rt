@@ -12,14 +12,14 @@ ghost use Rattle.gimli_units.specs.UnitHeld.{unit_view};
 ghost use Rattle.gimli_units.specs.Value.{map_value};
 ghost use Rattle.gimli_dwarf.specs.Addresses.{held_in, span_holds, end_of, end_in, address_in};
 ghost use Rattle.gimli_dwarf.specs.Addresses.{list_in, raw_value_named, value_named};
-ghost use Rattle.gimli_dwarf.specs.Addresses.{root_holds, sets_hold, unit_holds};
+ghost use Rattle.gimli_dwarf.specs.Addresses.{root_holds, sets_hold, sets_of_unit, unit_holds};
 ghost use Rattle.gimli_dwarf.specs.Bases.{bases_view, UnlessMemoryRead};
 
 use crate::values::address_at;
 use crate::{DwarfError, DwarfResult, DwarfSections, UnitBases};
 use gimli_base::{
-    Abbreviations, DW_AT_high_pc, DW_AT_low_pc, DW_AT_ranges, DebugAddr, DwAt, Reader,
-    ReaderOffset, Result,
+    Abbreviations, DW_AT_high_pc, DW_AT_low_pc, DW_AT_ranges, DebugAddr, DwAt, DwarfFileType,
+    Reader, ReaderOffset, Result,
 };
 use gimli_lists::{ArangeHeader, DebugAranges, HasArangeSet, HasLists, RangeLists, RngListIter};
 use gimli_units::{AttributeValue, DebugInfoOffset, DebuggingInformationEntry, UnitHeader};
@@ -40,7 +40,8 @@ impl<Offset: ReaderOffset> UnitBases<Offset> {
     /// Where sets of `.debug_aranges` are the unit's, their ranges alone say so: that section need
     /// not have each unit. Any other unit holds the addresses of its root: those of the list of its
     /// `DW_AT_ranges`, or else those from `DW_AT_low_pc` up to `DW_AT_high_pc`, which is no part of
-    /// them.
+    /// them. The sets name units of a program's `.debug_info` alone. Who wants the addresses of a
+    /// split unit asks its skeleton: its own root has none.
     ///
     /// Refusals: those of `ArangeHeaderIter::next`, where no set of the unit before that header
     /// holds the address. Of a unit without a set then those of `UnitHeader::entry`, of the root,
@@ -61,8 +62,7 @@ impl<Offset: ReaderOffset> UnitBases<Offset> {
             (addr_content R.view s.debug_addr) (⟦<RangeLists<R> as HasLists>⟧.lists s.ranges)
             (aranges_content R.view aranges.now) (unit_view unit.now) (codes_of abbreviations.now)) }
     {
-        let offset = DebugInfoOffset(unit.offset().0);
-        match sets_hold(aranges, offset, address)? {
+        match sets_of_unit(self.file_type, unit, aranges, address)? {
             Some(holds) => Ok(holds),
             None => {
                 let root = unit.entry(alloc, abbreviations, unit.root_offset())?;
@@ -219,6 +219,23 @@ fn held_in<R: Reader>(ranges: &mut RngListIter<R>, address: u64) -> DwarfResult<
         if range.begin <= address && address < range.end {
             return Ok(true);
         }
+    }
+}
+
+// Whether the sets of a unit have a range that holds an address, as `sets_hold`; none of a split
+// unit, and of one that does not lie in `.debug_info`, which no set names.
+fn sets_of_unit<R: Reader>(
+    file_type: DwarfFileType,
+    unit: &UnitHeader<R>,
+    aranges: &DebugAranges<R>,
+    address: u64,
+) -> Result<Option<bool>>
+    ensures { let section = aranges_content R.view aranges.now in
+        result ≡ sets_of_unit address R.Offset.limit file_type (unit_view unit.now) section }
+{
+    match (file_type, unit.debug_info_offset()) {
+        (DwarfFileType::Main, Some(offset)) => sets_hold(aranges, offset, address),
+        _ => Ok(None),
     }
 }
 
