@@ -508,8 +508,10 @@ static void ask_holds(uint64_t offset) {
             find_holds(offset, bases, addresses[i]);
             s.aranges = gimli_bytes(NULL, 0);
             ask_by_root(&unit, root, bases, addresses[i]);
+            uint32_t in_root = find_holds(offset, bases, addresses[i]);
             make_set(offset);
-            uint32_t in_set = addresses[i] / 16 == 1 ? GIMLI_MORE : GIMLI_END;
+            /* (no set is one of a split unit) */
+            uint32_t in_set = bases->dwo ? in_root : addresses[i] / 16 == 1 ? GIMLI_MORE : GIMLI_END;
             same("whether a set holds an address", find_holds(offset, bases, addresses[i]), is_opened ? in_set : root);
             s.aranges = kept.aranges;
         }

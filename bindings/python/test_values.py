@@ -101,7 +101,9 @@ def lists_row(unit, answer):
 def holds_row(unit, address, answer):
     held = answered(lambda: unit.holds_address(address), lambda held: "true" if held else "false")
     same(f"whether {unit} holds {address:#x}", held, without_place(answer))
-    # (it is the only one that the sets can name, but for split units)
+    if unit.bases.dwo:
+        return
+    # (it is the only one that the sets can name, and these take the units for those of a program)
     found = answered(lambda: unit.dwarf.units_of_address(address), lambda units: "true" if unit.offset in units else "false")
     same(f"whether the units of {address:#x} have it", found, held)
 
