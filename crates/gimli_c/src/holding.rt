@@ -4,6 +4,7 @@ ghost use Rattle.std.specs.Prelude.{◌≡◌, ◌^◌};
 ghost use Rattle.gimli_base.specs.Sections.{abbrev_content, addr_content};
 ghost use Rattle.gimli_lists.specs.Sections.{aranges_content};
 ghost use Rattle.gimli_headers.specs.Units.{header_at};
+ghost use Rattle.gimli_c.specs.Bases.{TakeNoMemory};
 ghost use Rattle.gimli_c.specs.Holding.{held_of_unit, held_outcome};
 ghost use Rattle.gimli_c.specs.Status.{memory_refused};
 ghost use Rattle.gimli_base.specs.declared.common.SectionId.TheVariants.{DebugInfo as InfoSection};
@@ -62,13 +63,21 @@ pub(crate) fn find_held<R: Reader<Offset = usize>, A: Allocator + Copy>(
     bases: &GimliBases,
     address: u64,
 ) -> u32
-    ensures { let s = sections.now in
+    ensures outcome { let s = sections.now in
         (result ≡ memory_refused → ⊥) →
         result
         ≡ held_outcome (held_of_unit (2 ^ 64) bases.now address
         (addr_content R.view s.values.debug_addr)
         (⟦<RangeLists<R> as HasLists>⟧.lists s.values.ranges) (aranges_content R.view s.aranges)
         (header_at (2 ^ 64) InfoSection unit (info_content R.view s.debug_info))
+        (abbrev_content R.view s.debug_abbrev)) }
+    ensures without_memory { let s = sections.now in
+        let u = header_at (2 ^ 64) InfoSection unit (info_content R.view s.debug_info) in
+        TakeNoMemory u (abbrev_content R.view s.debug_abbrev) →
+        result
+        ≡ held_outcome (held_of_unit (2 ^ 64) bases.now address
+        (addr_content R.view s.values.debug_addr)
+        (⟦<RangeLists<R> as HasLists>⟧.lists s.values.ranges) (aranges_content R.view s.aranges) u
         (abbrev_content R.view s.debug_abbrev)) }
 {
     match unit_holds(alloc, sections, unit, bases, address) {
@@ -87,12 +96,19 @@ fn unit_holds<R: Reader<Offset = usize>, A: Allocator + Copy>(
     bases: &GimliBases,
     address: u64,
 ) -> DwarfResult<bool>
-    ensures { let s = sections.now in
+    ensures value { let s = sections.now in
         UnlessMemoryRead result (result
         ≡ held_of_unit (2 ^ 64) bases.now address (addr_content R.view s.values.debug_addr)
         (⟦<RangeLists<R> as HasLists>⟧.lists s.values.ranges) (aranges_content R.view s.aranges)
         (header_at (2 ^ 64) InfoSection unit (info_content R.view s.debug_info))
         (abbrev_content R.view s.debug_abbrev)) }
+    ensures without_memory { let s = sections.now in
+        let u = header_at (2 ^ 64) InfoSection unit (info_content R.view s.debug_info) in
+        TakeNoMemory u (abbrev_content R.view s.debug_abbrev) →
+        result
+        ≡ held_of_unit (2 ^ 64) bases.now address (addr_content R.view s.values.debug_addr)
+        (⟦<RangeLists<R> as HasLists>⟧.lists s.values.ranges) (aranges_content R.view s.aranges) u
+        (abbrev_content R.view s.debug_abbrev) }
 {
     let header = sections
         .debug_info

@@ -25,6 +25,7 @@ ghost use Rattle.gimli_c.specs.Bases.{section_bases, TakeNoMemory};
 ghost use Rattle.gimli_c.specs.Values.{texts_in, text_at, address_at};
 ghost use Rattle.gimli_base.specs.declared.common.SectionId.TheVariants.{DebugInfo as InfoSection};
 ghost use Rattle.gimli_dwarf.specs.Holding.{unit_holding};
+ghost use Rattle.gimli_headers.specs.Units.{header_at};
 ghost use Rattle.gimli_c.specs.Holding.{section_held};
 ghost use Rattle.gimli_c.specs.Units.{found_outcome};
 ghost use Rattle.gimli_c.specs.Lists.{section_view, section_is_big, range_row, location_row, ranges_at};
@@ -447,8 +448,11 @@ pub extern "C" fn gimli_unit_holds(
     bases: &GimliBases,
     address: u64,
 ) -> u32
-    ensures { (result ≡ memory_refused → ⊥) →
+    ensures outcome { (result ≡ memory_refused → ⊥) →
         result ≡ section_held sections.now unit bases.now address }
+    ensures without_memory { let s = sections.now in
+        TakeNoMemory (header_at (2 ^ 64) InfoSection unit (units_view s)) (abbreviations_view s) →
+        result ≡ section_held s unit bases.now address }
 {
     let unit = unit as usize;
     in_order!(sections, endian => {

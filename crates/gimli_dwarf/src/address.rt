@@ -1,6 +1,6 @@
 //! Whether a unit holds an address.
 
-ghost use Rattle.std.specs.Prelude.{◌≡◌, ◌==◌};
+ghost use Rattle.std.specs.Prelude.{◌≡◌, ◌==◌, false};
 ghost use Rattle.std.specs.Option.{option_map};
 ghost use Rattle.gimli_base.specs.Offset.{answer_of};
 ghost use Rattle.gimli_base.specs.Sections.{addr_content};
@@ -8,6 +8,7 @@ ghost use Rattle.gimli_base.specs.Table.{codes_of};
 ghost use Rattle.gimli_lists.specs.Ranges.{ranges_ahead};
 ghost use Rattle.gimli_lists.specs.Sections.{aranges_content};
 ghost use Rattle.gimli_units.specs.Entry.{entry_of};
+ghost use Rattle.gimli_units.specs.Unit.{header_size, range_from, takes_memory_in};
 ghost use Rattle.gimli_units.specs.UnitHeld.{unit_view};
 ghost use Rattle.gimli_units.specs.Value.{map_value};
 ghost use Rattle.gimli_dwarf.specs.Addresses.{held_in, span_holds, end_of, end_in, address_in};
@@ -56,11 +57,18 @@ impl<Offset: ReaderOffset> UnitBases<Offset> {
         sections: &DwarfSections<R>,
         address: u64,
     ) -> DwarfResult<bool>
-        ensures { let s = sections.now in
+        ensures value { let s = sections.now in
             UnlessMemoryRead result (result
             ≡ unit_holds address Offset.limit (bases_view Offset.number self.now)
             (addr_content R.view s.debug_addr) (⟦<RangeLists<R> as HasLists>⟧.lists s.ranges)
             (aranges_content R.view aranges.now) (unit_view unit.now) (codes_of abbreviations.now)) }
+        ensures without_memory { let s = sections.now in
+            let u = unit_view unit.now in
+            takes_memory_in (codes_of abbreviations.now) (range_from u (header_size u)) ≡ false
+            → result
+            ≡ unit_holds address Offset.limit (bases_view Offset.number self.now)
+            (addr_content R.view s.debug_addr) (⟦<RangeLists<R> as HasLists>⟧.lists s.ranges)
+            (aranges_content R.view aranges.now) u (codes_of abbreviations.now) }
     {
         match sets_of_unit(self.file_type, unit, aranges, address)? {
             Some(holds) => Ok(holds),
